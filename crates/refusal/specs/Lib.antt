@@ -1,0 +1,3 @@
+-- 01's sizes and refusal numbers.
+pub mod Sizes
+pub mod Refusal

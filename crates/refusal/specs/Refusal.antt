@@ -1,0 +1,37 @@
+-- The paper's number of each fault, and which row a reason names. Definitions only; assumes nothing.
+use Prim.Native.Nat.{ℕ}
+use mathlib.Core.Bool.{Bool, true, false}
+use mathlib.Core.Option.{Option, none, some}
+use Rattle.refusal.specs.declared.Fault.{Fault}
+use Rattle.refusal.specs.declared.Fault.the-variants.{Size, Span, Token, Text, Score, Id, Room, Trie, Scratch, Ids, Pack}
+use Rattle.refusal.specs.declared.Reason.{Reason}
+use Rattle.refusal.specs.declared.Reason.the-variants.{Call, Row}
+
+-- 01's table of refusal numbers
+abbrev pub number : Fault → ℕ
+number Size = 1
+number Span = 2
+number Token = 3
+number Text = 4
+number Score = 5
+number Id = 6
+number Room = 7
+number Trie = 8
+number Scratch = 9
+number Ids = 10
+number Pack = 11
+
+-- "A refusal of a build says why,"
+abbrev pub numberOf : Reason → ℕ
+numberOf (Call f) = number f
+numberOf (Row f i) = number f
+
+-- "and for 2 to 6 which row (none for a prefix)"
+abbrev pub rowOf : Reason → Option ℕ
+rowOf (Call f) = none
+rowOf (Row f i) = some i
+
+-- `refuse test f later`: f where the test finds it, else what is found later. Faults written one below the other are tested in that order.
+unfoldable pub refuse {ℓ} : {A : Type ℓ} → Bool → A → Option A → Option A
+refuse true f later = some f
+refuse false f later = later

@@ -1,0 +1,3 @@
+-- RFC 3629, and the span check.
+pub mod Text
+pub mod Span
