@@ -16,6 +16,13 @@ pub data Double : Type 0 where
 abbrev pub one : ℕ
 one = 2 ^ 1074
 
+-- +0, the score that sums begin with
+abbrev pub plusZero : Double
+plusZero = finite false 0
+
+abbrev pub minusTen : Double
+minusTen = finite true (10 * one)
+
 -- ---- rounding: "rounded to nearest, ties to even"
 
 -- The distance between neighbouring doubles at n units. n has `size n` binary digits, and a double keeps the 53 leading ones.

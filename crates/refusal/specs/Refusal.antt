@@ -35,3 +35,8 @@ rowOf (Row f i) = some i
 unfoldable pub refuse {ℓ} : {A : Type ℓ} → Bool → A → Option A → Option A
 refuse true f later = some f
 refuse false f later = later
+
+-- the first of two answers that finds something
+unfoldable pub first {ℓ} : {A : Type ℓ} → Option A → Option A → Option A
+first none later = later
+first (some f) later = some f

@@ -26,3 +26,7 @@ maxPrefix = 64
 -- `above limit n`: n is more than the limit allows
 abbrev pub above : ℕ → ℕ → Bool
 above limit n = ltb limit n
+
+-- the mark for no id and no start: the largest u32, which no row's id may be
+abbrev pub noId : ℕ
+noId = 4_294_967_295

@@ -1,0 +1,5 @@
+-- Which trie a row list has, and what a build leaves in the memory lent to it.
+pub mod Names
+pub mod Parts
+pub mod Rules
+pub mod Memory

@@ -1,0 +1,68 @@
+-- The memory that a build is lent, when it is too little, and what it holds afterwards. Definitions only; assumes nothing.
+use Prim.Native.Nat.{ℕ, _-_, _*_}
+use mathlib.Core.Bool.{Bool, false, _||_, cond}
+use mathlib.Core.List.{List, [], _∷_}
+use mathlib.Core.Option.{Option, none, some}
+use lib.Dec.{ltb, eqb}
+use lib.ListN.{length}
+use Rattle.doubles.specs.Double.{Double, plusZero}
+use Rattle.refusal.specs.declared.Reason.{Reason}
+use Rattle.refusal.specs.Refusal.{numberOf}
+use Rattle.refusal.specs.Places.{zeroed, filled}
+use Rattle.trie.specs.Trie.{Trie}
+
+-- The lent node columns, edge columns and work places. Each may be longer than is needed, and of a length of its own.
+pub record Memory : Type 0 where
+  pub edgeAt : List ℕ
+  pub edgeN : List ℕ
+  pub id : List ℕ
+  pub byte : List ℕ
+  pub to : List ℕ
+  pub work : List ℕ
+
+-- one of the lent columns, by its length, has fewer than n places
+unfoldable pub anyBelow : ℕ → List ℕ → Bool
+anyBelow n [] = false
+anyBelow n (l ∷ ls) = ltb l n || anyBelow n ls
+
+-- 7: "with N nodes needed: fewer than N node, N-1 edge or 2N work places in any lent column"
+unfoldable pub noRoom : ℕ → Memory → Bool
+noRoom n m =
+    anyBelow n (length (m .edgeAt) ∷ length (m .edgeN) ∷ length (m .id) ∷ []) || anyBelow (n - 1) (length (m .byte) ∷ length (m .to) ∷ []) || ltb (length (m .work)) (2 * n)
+
+-- the same with a score column
+unfoldable pub noScoredRoom : ℕ → Memory → List Double → Bool
+noScoredRoom n m scores = noRoom n m || ltb (length scores) n
+
+-- every lent place zero
+unfoldable pub cleared : Memory → Memory
+cleared m =
+    record {
+      edgeAt = zeroed 0 (m .edgeAt);
+      edgeN = zeroed 0 (m .edgeN);
+      id = zeroed 0 (m .id);
+      byte = zeroed 0 (m .byte);
+      to = zeroed 0 (m .to);
+      work = zeroed 0 (m .work);
+    }
+
+-- the parts t: "After an accepted build the work places and all places past the counts are zero."
+unfoldable pub holding : Trie → Memory → Memory
+holding t m =
+    record {
+      edgeAt = filled 0 (t .edgeAt) (m .edgeAt);
+      edgeN = filled 0 (t .edgeN) (m .edgeN);
+      id = filled 0 (t .id) (m .id);
+      byte = filled 0 (t .byte) (m .byte);
+      to = filled 0 (t .to) (m .to);
+      work = zeroed 0 (m .work);
+    }
+
+abbrev pub zeroScores : List Double → List Double
+zeroScores = zeroed plusZero
+
+-- What a buffer holds after a build: on success; after a refusal, where "refusal 7 leaves every lent node, edge and work place zero" and
+-- "every other refusal writes nothing".
+unfoldable pub leaves : {A : Type 0} → Option Reason → A → A → A → A
+leaves none done zeros before = done
+leaves (some r) done zeros before = cond (eqb (numberOf r) 7) zeros before

@@ -1,0 +1,2 @@
+-- Laws of the pack.
+pub mod Determinacy

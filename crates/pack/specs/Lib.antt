@@ -1,0 +1,5 @@
+-- The pack file, what a build from it promises, and what the program prints.
+pub mod Pack
+pub mod Build
+pub mod Lines
+pub mod Output

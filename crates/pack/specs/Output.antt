@@ -1,0 +1,93 @@
+-- What the program `ids` prints: a function of the bytes of `vocab.pack` and of standard input. Definitions only; assumes nothing.
+use Prim.Native.Nat.{ℕ}
+use mathlib.Core.Bool.{true, false, cond}
+use mathlib.Core.List.{List, [], _∷_, _++_, flatMap}
+use mathlib.Core.Option.{Option, none, some}
+use lib.ListN.{length, replicate}
+use Rattle.doubles.specs.Double.{Double, plusZero}
+use Rattle.refusal.specs.declared.Fault.{Fault}
+use Rattle.refusal.specs.declared.Fault.the-variants as fault
+use Rattle.refusal.specs.declared.Reason.{Reason}
+use Rattle.refusal.specs.declared.Reason.the-variants.{Call, Row}
+use Rattle.refusal.specs.Sizes.{above}
+use Rattle.text.specs.Ascii.{ascii}
+use Rattle.rows.specs.declared.Kind.{Kind}
+use Rattle.rows.specs.declared.Kind.the-variants.{Unigram, WordPiece}
+use Rattle.build.specs.Rules.{scoresOf, unknownScore}
+use Rattle.build.specs.Memory.{Memory}
+use Rattle.unigram.specs.Pieces as unigram
+use Rattle.unigram.specs.Segment.{Scratch, segmentFault}
+use Rattle.wordpiece.specs.Pieces as wordpiece
+use Rattle.wordpiece.specs.Encode.{encodeFault}
+use Rattle.pack.specs.Pack.{headerOf, rowsOf, prefixOf}
+use Rattle.pack.specs.Build.{packFault, theKind, trieIn, scoresIn}
+use Rattle.pack.specs.Lines.{lines, printedIds, printedRefusal}
+
+-- "reads `vocab.pack` (at most 65,536 bytes)"
+abbrev pub maxPack : ℕ
+maxPack = 65_536
+
+-- "and lines from standard input (at most 32,768 bytes)"
+abbrev pub maxInput : ℕ
+maxInput = 32_768
+
+-- "It lends 4,096 node, edge, slot, path and id places and 8,192 work places." They are zero at first.
+abbrev pub places : List ℕ
+places = replicate 4_096 0
+
+abbrev pub scorePlaces : List Double
+scorePlaces = replicate 4_096 plusZero
+
+unfoldable pub lentMemory : Memory
+lentMemory = record { edgeAt = places; edgeN = places; id = places; byte = places; to = places; work = replicate 8_192 0 }
+
+unfoldable pub lentScratch : Scratch
+lentScratch = record { start = places; id = places; score = scorePlaces; path = places; ids = places }
+
+-- what a line prints, given its first fault and its ids
+unfoldable pub printed : Option Fault → List ℕ → List ℕ
+printed none ids = printedIds ids
+printed (some f) ids = printedRefusal [] f
+
+-- the model of a Unigram pack
+unfoldable pub modelOf : List ℕ → unigram.Model
+modelOf bytes =
+    record {
+      trie = trieIn Unigram bytes;
+      score = scoresIn Unigram bytes;
+      unknown = record { id = headerOf bytes .unknown; score = unknownScore (scoresOf (rowsOf Unigram bytes)) };
+    }
+
+-- what one line prints, for a pack of this kind that is not refused
+unfoldable pub printedLine : Kind → List ℕ → List ℕ → List ℕ
+printedLine Unigram bytes line =
+    let m = modelOf bytes in
+    printed (segmentFault m line lentScratch) (unigram.idsOf m line)
+printedLine WordPiece bytes line =
+    let h = headerOf bytes in
+    let t = trieIn WordPiece bytes in
+    printed (encodeFault t (prefixOf bytes) line places) (wordpiece.idsOf t (h .unknown) (h .maxChars) (prefixOf bytes) line)
+
+unfoldable pub faultOf : Reason → Fault
+faultOf (Call f) = f
+faultOf (Row f i) = f
+
+-- "too much input prints only `input refused 1`"
+unfoldable pub printedLines : List ℕ → List ℕ → List ℕ
+printedLines bytes input =
+    elim (above maxInput (length input)) [
+      | true ↦ printedRefusal (ascii "input ") fault.Size
+      | false ↦ flatMap (printedLine (theKind bytes) bytes) (lines input)
+    ]
+
+-- "A refused pack prints only `pack refused` and the number (1 if too large)". "The pack is judged first."
+unfoldable pub output : List ℕ → List ℕ → List ℕ
+output bytes input =
+    elim (above maxPack (length bytes)) [
+      | true ↦ printedRefusal (ascii "pack ") fault.Size
+      | false ↦
+          elim (packFault bytes lentMemory scorePlaces) [
+            | some r ↦ printedRefusal (ascii "pack ") (faultOf r)
+            | none ↦ printedLines bytes input
+          ]
+    ]

@@ -1,0 +1,2 @@
+-- Laws of tries that the layers above cite.
+pub mod Determinacy

@@ -1,0 +1,49 @@
+-- Which pieces a text has in a Unigram trie, and its ids. Definitions only; assumes nothing.
+use Prim.Native.Nat.{ℕ}
+use mathlib.Core.Bool.{Bool, true, false, _&&_, cond}
+use mathlib.Core.List.{List}
+use mathlib.Core.Option.{Option, none, some}
+use lib.Dec.{ltb, eqb}
+use lib.ListN.{length, getD}
+use Rattle.doubles.specs.Double.{Double, plusZero}
+use Rattle.text.specs.Text.{boundary, next, part}
+use Rattle.trie.specs.Trie.{Trie, walk, idAt, idOf}
+use Rattle.unigram.specs.Cuttings.{Piece, Step}
+use Rattle.unigram.specs.Records.{followed}
+use Rattle.unigram.specs.Runs.{merged}
+
+-- a Unigram trie's parts with its score column, and the unknown piece
+pub record Model : Type 0 where
+  pub trie : Trie
+  pub score : List Double
+  pub unknown : Piece
+
+-- the piece that node k ends: its id and its score, if it has an id
+unfoldable pub pieceAt : Model → ℕ → Option Piece
+pieceAt m k = elim (idAt (m .trie) k) [ none ↦ none | some i ↦ some (record { id = i; score = getD (m .score) k plusZero }) ]
+
+-- the piece that the string s is, if it has an id
+unfoldable pub known : Model → List ℕ → Option Piece
+known m s = elim (walk (m .trie) 0 s) [ none ↦ none | some k ↦ pieceAt m k ]
+
+-- "If none is exactly one character long, that one character is also a piece, with the unknown id and score."
+unfoldable pub pieceHere : Option Piece → Bool → Piece → Option Piece
+pieceHere (some p) one unknown = some p
+pieceHere none true unknown = some unknown
+pieceHere none false unknown = none
+
+-- "From each character boundary, a piece is any non-empty string with an id that matches there and ends on a boundary."
+unfoldable pub pieceOf : Model → List ℕ → ℕ → ℕ → Option Piece
+pieceOf m s i j =
+    elim (ltb i j && (boundary s i && boundary s j)) [
+      | true ↦ pieceHere (known m (part s i j)) (eqb j (next s i)) (m .unknown)
+      | false ↦ none
+    ]
+
+-- the pieces of the best cutting of s, in order
+unfoldable pub piecesOf : Model → List ℕ → List Step
+piecesOf m s = followed (pieceOf m s) (length s) (length s)
+
+-- the ids of s
+unfoldable pub idsOf : Model → List ℕ → List ℕ
+idsOf m s = merged (λ i j. idOf (m .trie) (part s i j)) (m .unknown .id) none 0 (piecesOf m s)

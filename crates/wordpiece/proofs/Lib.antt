@@ -1,0 +1,2 @@
+-- Laws of WordPiece that the layers above cite.
+pub mod Determinacy

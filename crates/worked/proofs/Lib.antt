@@ -1,0 +1,3 @@
+-- 01's examples, proved by computing.
+pub mod Opened
+pub mod Examples

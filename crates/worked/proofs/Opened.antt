@@ -1,0 +1,63 @@
+-- A definition is shut until a proof opens it, and to open one is to open what its own `unfolding` line names. So `opened` on such a line opens
+-- every definition that computing an example meets, layer by layer. It says nothing itself.
+use mathlib.Core.List.{flatMap, flatten}
+use lib.Ieee.{size}
+use Rattle.doubles.specs.Double as doubles
+use Rattle.refusal.specs.Refusal as refusal
+use Rattle.text.specs.Text as text
+use Rattle.text.specs.Span as span
+use Rattle.text.specs.Ascii as ascii
+use Rattle.trie.specs.Trie as trie
+use Rattle.trie.specs.Sound as sound
+use Rattle.rows.specs.Rows as rows
+use Rattle.build.specs.Names as names
+use Rattle.build.specs.Parts as parts
+use Rattle.build.specs.Rules as rules
+use Rattle.build.specs.Memory as memory
+use Rattle.unigram.specs.Records as records
+use Rattle.unigram.specs.Runs as runs
+use Rattle.unigram.specs.Pieces as unigram
+use Rattle.unigram.specs.Segment as segment
+use Rattle.wordpiece.specs.Pieces as wordpiece
+use Rattle.wordpiece.specs.Encode as encode
+use Rattle.pack.specs.Pack as pack
+use Rattle.pack.specs.Build as build
+use Rattle.pack.specs.Lines as lines
+use Rattle.pack.specs.Output as output
+use Rattle.worked.specs.Example as example
+
+unfoldable pub doubles-opened : Unit {0}
+unfolding size doubles.gap doubles.nearer doubles.nearestMultiple doubles.rounded doubles.round doubles.sumFinite doubles.sum doubles.less doubles.same doubles.isFinite doubles.ofFields doubles.ofPattern
+doubles-opened = tt
+
+unfoldable pub text-opened : Unit {0}
+unfolding flatMap flatten refusal.refuse refusal.first text.lengthOf text.secondLow text.secondHigh text.tails text.rest text.character text.validIn text.validUpTo text.wellFormed text.boundary text.characters span.spanFault ascii.ascii
+text-opened = tt
+
+unfoldable pub trie-opened : Unit {0}
+unfolding trie.seek trie.step trie.walk trie.idAt trie.idFrom trie.idOf sound.every sound.soundNode sound.sound sound.allFinite sound.soundScored
+trie-opened = tt
+
+unfoldable pub build-opened : Unit {0}
+unfolding rows.worthFault rows.rowFault rows.firstBad names.same names.later names.place names.prefixes names.add names.enter names.names parts.edge parts.edgesFrom parts.edgesOf parts.starts parts.lay parts.trieOf rules.firstRow rules.scoreOf rules.scoresOf rules.nodeScore rules.lower rules.lowest rules.unknownScore rules.tokensOf rules.unigramTrie rules.unigramScores rules.idOfWorth rules.lastOf rules.lastId rules.wordpieceTrie memory.anyBelow memory.noRoom memory.noScoredRoom
+build-opened = tt
+
+unfoldable pub unigram-opened : Unit {0}
+unfolding records.scoreOf records.offered records.candidate records.best records.shown records.recordsFrom records.followed runs.runId runs.merged unigram.pieceAt unigram.known unigram.pieceHere unigram.pieceOf unigram.piecesOf unigram.idsOf segment.shortScratch segment.segmentFault
+unigram-opened = tt
+
+unfoldable pub wordpiece-opened : Unit {0}
+unfolding wordpiece.pieceTo wordpiece.longestTo wordpiece.longest wordpiece.before wordpiece.piecesFrom wordpiece.piecesOf wordpiece.orUnknown wordpiece.idsOf encode.encodeFault
+wordpiece-opened = tt
+
+unfoldable pub pack-opened : Unit {0}
+unfolding pack.word pack.headerOf pack.laidOut pack.kindLaidOut pack.kindOf pack.worthAt pack.rowAt pack.rowsFrom pack.rowsOf pack.stringsOf pack.prefixOf build.nodesOf build.contentFault build.packFault build.theKind build.trieIn build.scoresIn lines.linesAfter lines.lines lines.digits lines.decimal lines.spaced lines.printedIds lines.printedRefusal output.lentMemory output.lentScratch output.printed output.modelOf output.printedLine output.faultOf output.printedLines output.output
+pack-opened = tt
+
+unfoldable pub example-opened : Unit {0}
+unfolding example.tableOf example.rowsAt example.isNone example.scoreIs example.allOf example.lent example.modelOf example.unigramHolds example.wordpieceHolds example.kindHolds example.holds
+example-opened = tt
+
+unfoldable pub opened : Unit {0}
+unfolding doubles-opened text-opened trie-opened build-opened unigram-opened wordpiece-opened pack-opened example-opened
+opened = tt
