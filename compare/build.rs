@@ -1,0 +1,49 @@
+//! Brings the Rust of tokie in, without changing a byte of it. `unigram.rs`, `wordpiece.rs` and, of `file.rs`, the one
+//! function `text` are copied to the build folder, and a line after each copy includes the code that reads out what is
+//! private there (src/beside_unigram.rs and so on). Nothing of the sources stays in the repository.
+//!
+//! The sources are looked for in the folder that TOKIE_SRC names, else in ../shared/docs/src beside the repository.
+
+use std::path::{Path, PathBuf};
+use std::{env, fs};
+
+const MODULES: [&str; 3] = ["unigram", "wordpiece", "file"];
+
+fn main() {
+    let here = PathBuf::from(env::var("CARGO_MANIFEST_DIR").unwrap());
+    let out = PathBuf::from(env::var("OUT_DIR").unwrap());
+    println!("cargo:rerun-if-env-changed=TOKIE_SRC");
+    let src = match env::var("TOKIE_SRC") {
+        Ok(dir) => PathBuf::from(dir),
+        Err(_) => here.join("../../shared/docs/src"),
+    };
+    let src = src.join("crates/tokie/src");
+
+    for module in MODULES {
+        let whole = read(&src.join(format!("{module}.rs")));
+        let taken = if module == "file" { function_text(&whole) } else { &whole };
+        let beside = here.join(format!("src/beside_{module}.rs"));
+        println!("cargo:rerun-if-changed={}", beside.display());
+        let copy = format!("{taken}\ninclude!({:?});\n", beside.display().to_string());
+        fs::write(out.join(format!("{module}.rs")), copy).unwrap();
+    }
+
+    let declare = |module: &str| {
+        let path = out.join(format!("{module}.rs"));
+        format!("#[allow(dead_code)]\n#[path = {:?}]\npub mod {module};\n", path.display().to_string())
+    };
+    fs::write(out.join("modules.rs"), MODULES.map(declare).concat()).unwrap();
+}
+
+/// The function `text` of `file.rs`, as it stands there.
+fn function_text(file: &str) -> &str {
+    let from = file.find("fn text(tab: &[u8], off: u32, len: u32)").expect("file.rs has the function `text`");
+    let till = file[from..].find("\n}\n").expect("the function ends") + 3;
+    &file[from..from + till]
+}
+
+fn read(path: &Path) -> String {
+    println!("cargo:rerun-if-changed={}", path.display());
+    let hint = "set TOKIE_SRC to the folder that holds crates/tokie/src";
+    fs::read_to_string(path).unwrap_or_else(|e| panic!("{}: {e} ({hint})", path.display()))
+}

@@ -1,0 +1,46 @@
+//! Compares the port and its definitions with the Rust of tokie, run unchanged.
+//!
+//!   compare examples                           01's examples on the Rust
+//!   compare definitions [SEED..] [--cases N]   small random cases, the definitions computed by the checker
+//!
+//! Run from anywhere; the repository is the folder above this package.
+
+mod definitions;
+mod examples;
+mod random;
+mod small;
+mod tokie;
+
+use std::path::Path;
+use std::process::ExitCode;
+
+fn main() -> ExitCode {
+    let root = Path::new(env!("CARGO_MANIFEST_DIR")).parent().expect("the package stands in the repository");
+    let args: Vec<String> = std::env::args().skip(1).collect();
+    let agrees = match args.first().map(String::as_str) {
+        Some("examples") => examples::run(),
+        Some("definitions") => definitions_command(root, &args[1..]),
+        _ => {
+            eprintln!("usage: compare examples | definitions [SEED..] [--cases N]");
+            return ExitCode::from(2);
+        }
+    };
+    if agrees { ExitCode::SUCCESS } else { ExitCode::FAILURE }
+}
+
+fn definitions_command(root: &Path, args: &[String]) -> bool {
+    let mut seeds: Vec<u64> = Vec::new();
+    let mut cases = 300;
+    let mut words = args.iter();
+    while let Some(word) = words.next() {
+        if word == "--cases" {
+            cases = words.next().and_then(|n| n.parse().ok()).expect("--cases takes a number");
+        } else {
+            seeds.push(word.parse().expect("a seed is a number"));
+        }
+    }
+    if seeds.is_empty() {
+        seeds.push(1);
+    }
+    seeds.iter().all(|&seed| definitions::try_seed(root, seed, cases))
+}

@@ -1,0 +1,108 @@
+//! The Rust of tokie, as build.rs brings it in, and its answers to cases.
+
+include!(concat!(env!("OUT_DIR"), "/modules.rs"));
+
+/// A slot of the Rust: start, id, score.
+pub type Slot = (u32, u32, f64);
+
+/// A Unigram vocabulary: its rows and the unknown id.
+#[derive(Clone, Debug)]
+pub struct Unigram {
+    pub rows: Vec<(String, f64)>,
+    pub unknown: u32,
+}
+
+/// The parts of a trie. WordPiece has no scores: they are 0 there.
+pub struct Parts {
+    pub edge_at: Vec<u32>,
+    pub edge_n: Vec<u16>,
+    pub id: Vec<u32>,
+    pub score: Vec<f64>,
+    pub byte: Vec<u8>,
+    pub to: Vec<u32>,
+    pub unknown_score: f64,
+}
+
+/// What `segment` leaves: the slot at each position that it filled, the pieces' ends before merging, the ids.
+pub struct Segmented {
+    pub slots: Vec<Option<Slot>>,
+    pub path: Vec<u32>,
+    pub ids: Vec<u32>,
+}
+
+pub struct Lattice(unigram::Lattice);
+
+impl Lattice {
+    pub fn build(v: &Unigram) -> Self {
+        Lattice(unigram::Lattice::build(v.rows.clone(), v.unknown))
+    }
+
+    pub fn parts(&self) -> Parts {
+        let nodes: Vec<_> = self.0.nodes().collect();
+        Parts {
+            edge_at: nodes.iter().map(|n| n.0).collect(),
+            edge_n: nodes.iter().map(|n| n.1).collect(),
+            id: nodes.iter().map(|n| n.2).collect(),
+            score: nodes.iter().map(|n| n.3).collect(),
+            byte: self.0.edges().map(|e| e.0).collect(),
+            to: self.0.edges().map(|e| e.1).collect(),
+            unknown_score: self.0.unk_score(),
+        }
+    }
+
+    pub fn segment(&self, text: &str) -> Segmented {
+        let mut ids = Vec::new();
+        self.0.segment(text.as_bytes(), &mut ids);
+        if text.is_empty() {
+            return Segmented { slots: vec![None], path: Vec::new(), ids };
+        }
+        Segmented { slots: unigram::slots_of_last(text.len()), path: unigram::path_of_last(), ids }
+    }
+}
+
+/// A WordPiece vocabulary, with what `encode` is given beside the word.
+#[derive(Clone, Debug)]
+pub struct Wordpiece {
+    pub rows: Vec<(String, u32)>,
+    pub unknown: u32,
+    pub prefix: String,
+}
+
+pub struct VocabTrie {
+    trie: wordpiece::VocabTrie,
+    unknown: u32,
+    prefix: String,
+}
+
+impl VocabTrie {
+    pub fn build(v: &Wordpiece) -> Self {
+        VocabTrie { trie: wordpiece::VocabTrie::from_rows(v.rows.clone()), unknown: v.unknown, prefix: v.prefix.clone() }
+    }
+
+    pub fn parts(&self) -> Parts {
+        let nodes = self.trie.node_parts();
+        let edges = self.trie.edge_parts();
+        Parts {
+            edge_at: nodes.iter().map(|n| n.0).collect(),
+            edge_n: nodes.iter().map(|n| n.1).collect(),
+            id: nodes.iter().map(|n| n.2).collect(),
+            score: vec![0.0; nodes.len()],
+            byte: edges.iter().map(|e| e.0).collect(),
+            to: edges.iter().map(|e| e.1).collect(),
+            unknown_score: 0.0,
+        }
+    }
+
+    /// The ids of a word. 01's one known difference: on an empty word with an absent prefix the Rust gives one unknown
+    /// id, and the port none.
+    pub fn encode(&self, word: &str, max_chars: u32) -> Vec<u32> {
+        let mut ids = Vec::new();
+        self.trie.encode(word, self.unknown, max_chars as usize, &self.prefix, &mut ids);
+        ids
+    }
+}
+
+/// What the span check answers: the part, or the number that 01 gives the fault.
+pub fn span(table: &[u8], off: u32, len: u32) -> Result<&str, u32> {
+    file::text_of(table, off, len).map_err(|said| if said.contains("not utf-8") { 4 } else { 2 })
+}
