@@ -1,0 +1,2 @@
+-- The laws of doubles, by subject, each file resting on those above it. Assumes nothing.
+pub mod Rounding
