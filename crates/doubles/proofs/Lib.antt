@@ -1,2 +1,4 @@
 -- The laws of doubles, by subject, each file resting on those above it. Assumes nothing.
 pub mod Rounding
+pub mod Order
+pub mod Sums
