@@ -2,3 +2,4 @@
 pub mod Rounding
 pub mod Order
 pub mod Sums
+pub mod Largest

@@ -2,10 +2,10 @@
 -- the sum. What comes out is a double, since rounding twice is rounding once. Assumes nothing.
 use mathlib.Core.Path.{_≡_, refl, sym, ap, _∙_, subst}
 use mathlib.Core.Logic.{_⊎_, inl, inr}
-use Prim.Native.Nat.{ℕ, zero, suc, _+_, _-_, _*_, _^_, _≤_, _<_}
-use native.Mathlib.Nat.{le-refl, le-trans, le-of-eq, le-of-suc-le-suc, lt-of-lt-of-le, lt-of-le-of-lt, lt-irrefl, add-comm}
+use Prim.Native.Nat.{ℕ, zero, suc, _+_, _-_, _*_, _^_, _≤_, _<_, zero-le, suc-le-suc}
+use native.Mathlib.Nat.{le-refl, le-trans, le-of-eq, le-of-suc-le-suc, lt-of-lt-of-le, lt-of-le-of-lt, lt-irrefl, add-comm, add-le-add}
 use native.Mathlib.Omega.{arith}
-use mathlib.Core.Bool.{Bool, true, false, not, Bool·beq, cond}
+use mathlib.Core.Bool.{Bool, true, false, not, Bool·beq, cond, true≢false}
 use lib.Dec.{T, ltb, eqb, leb, ltb→lt, lt→ltb, nltb→le, leb→le, nleb→lt, eqb→eq, lit<}
 use lib.Ieee.Fits.{eq→eqb, and-i, and-l, and-r}
 use Rattle.doubles.specs.Double.{Double, notANumber, infinite, finite, one, rounded, round, sumFinite, sum, atMost, isNumber, isFinite, isDouble}
@@ -15,7 +15,7 @@ use Rattle.doubles.proofs.Order.{upper, lower, at-most-finite, minus-pl
 -- ---- a rounded number with a sign
 
 -- from here on it is an infinity. The number stays shut: no proof computes with it.
-limit : ℕ
+unfoldable pub limit : ℕ
 limit = 2 ^ 1024 * one
 
 round-is : (s : Bool) (n : ℕ) → round s n ≡ cond (ltb (rounded n) limit) (finite s (rounded n)) (infinite s)
@@ -200,3 +200,84 @@ sum-is-double (infinite s) (finite t n) = tt
 sum-is-double (finite s m) notANumber = tt
 sum-is-double (finite s m) (infinite t) = tt
 sum-is-double (finite s m) (finite t n) = rounds-double (sum-rounds s m t n)
+
+-- ---- -0 is no sum but of -0
+
+one-kept : rounded 1 ≡ 1
+one-kept = short-kept 1 0 (lit< tt)
+
+-- what rounds to 0 is 0
+rounded-zero : (n : ℕ) → rounded n ≡ 0 → n ≡ 0
+rounded-zero zero e = refl
+rounded-zero (suc n) e = absurd (none (rounded 1) (rounded (suc n)) one-kept (rounded-mono (suc-le-suc zero-le)) e)
+  where
+    none : (x y : ℕ) → x ≡ 1 → x ≤ y → y ≡ 0 → ⊥
+    none x y a b c = omega arith
+
+zero-is-finite : {d : Double} → d ≡ finite true 0 → T (isFinite d)
+unfolding isFinite
+zero-is-finite e = subst (λ (x : Double). T (isFinite x)) (sym e) tt
+
+-- a rounding that is -0 has the minus sign and is that of 0
+round-minus-zero : (s : Bool) (n : ℕ) → round s n ≡ finite true 0 → (s ≡ true) × (n ≡ 0)
+unfolding isFinite
+round-minus-zero s n =
+    by-size (λ (d : Double). d ≡ finite true 0 → (s ≡ true) × (n ≡ 0)) s n
+    (λ _ e. (cc e, rounded-zero n (cc e)))
+    (λ _ e. absurd (zero-is-finite e))
+
+plus-not-minus-zero : (n : ℕ) → round false n ≡ finite true 0 → ⊥
+plus-not-minus-zero n e = true≢false (sym (round-minus-zero false n e .0))
+
+-- m - n is -0 for no m and n
+differ : (m n : ℕ) → cond (ltb m n) (round true (n - m)) (round false (m - n)) ≡ finite true 0 → ⊥
+differ m n = go (ltb m n) (ltb→lt m n)
+  where
+    apart : (m n : ℕ) → m < n → n - m ≡ 0 → ⊥
+    apart m n l z = omega arith
+
+    go : (b : Bool) → (T b → m < n) → cond b (round true (n - m)) (round false (m - n)) ≡ finite true 0 → ⊥
+    go true h e = apart m n (h tt) (round-minus-zero true (n - m) e .1)
+    go false h e = plus-not-minus-zero (m - n) e
+
+finite-not-minus-zero : (s : Bool) (m : ℕ) (t : Bool) (n : ℕ) → (finite s m ≡ finite true 0 → ⊥) → sumFinite s m t n ≡ finite true 0 → ⊥
+unfolding sumFinite
+finite-not-minus-zero false m false n h e = plus-not-minus-zero (m + n) e
+finite-not-minus-zero true m true n h e = h (ap (finite true) (left m n (round-minus-zero true (m + n) e .1)))
+  where
+    left : (m n : ℕ) → m + n ≡ 0 → m ≡ 0
+    left m n z = omega arith
+finite-not-minus-zero false m true n h e = differ m n e
+finite-not-minus-zero true m false n h e = differ n m e
+
+-- a sum is -0 only where its left number is, and so a left fold of sums from +0 is never -0
+pub never-minus-zero : (a s : Double) → (a ≡ finite true 0 → ⊥) → sum a s ≡ finite true 0 → ⊥
+unfolding sum isFinite
+never-minus-zero notANumber s h e = zero-is-finite e
+never-minus-zero (infinite u) notANumber h e = zero-is-finite e
+never-minus-zero (infinite true) (infinite true) h e = zero-is-finite e
+never-minus-zero (infinite true) (infinite false) h e = zero-is-finite e
+never-minus-zero (infinite false) (infinite true) h e = zero-is-finite e
+never-minus-zero (infinite false) (infinite false) h e = zero-is-finite e
+never-minus-zero (infinite u) (finite t n) h e = zero-is-finite e
+never-minus-zero (finite u m) notANumber h e = zero-is-finite e
+never-minus-zero (finite u m) (infinite t) h e = zero-is-finite e
+never-minus-zero (finite u m) (finite t n) h e = finite-not-minus-zero u m t n h e
+
+-- ---- where a sum stays finite
+
+rounds-finite : {d : Double} {p q : ℕ} (n : ℕ) → Rounds d p q → p ≤ n → q ≤ n → rounded n < limit → T (isFinite d)
+unfolding isFinite
+rounds-finite n (plus x a) h k l = by-size (λ (d : Double). T (isFinite d)) false x (λ _. tt) (λ g. absurd (clash g (rounded-mono (omega arith)) l))
+rounds-finite n (minus x a) h k l = by-size (λ (d : Double). T (isFinite d)) true x (λ _. tt) (λ g. absurd (clash g (rounded-mono (omega arith)) l))
+
+upper-le : (s : Bool) (m : ℕ) → upper s m ≤ m
+upper-le true m = zero-le
+upper-le false m = le-refl m
+
+lower-le : (s : Bool) (m : ℕ) → lower s m ≤ m
+lower-le true m = le-refl m
+lower-le false m = zero-le
+
+pub sum-below : (s : Bool) (m : ℕ) (t : Bool) (n : ℕ) → rounded (m + n) < limit → T (isFinite (sumFinite s m t n))
+sum-below s m t n h = rounds-finite (m + n) (sum-rounds s m t n) (add-le-add (upper-le s m) (upper-le t n)) (add-le-add (lower-le s m) (lower-le t n)) h
