@@ -3,3 +3,4 @@ pub mod Rounding
 pub mod Order
 pub mod Sums
 pub mod Largest
+pub mod Floats

@@ -13,7 +13,7 @@ use Rattle.doubles.specs.Double.{Double, notANumber, infinite, finite, l
 
 -- ---- tests
 
-same-test : (a b : Bool) → (T a → T b) → (T b → T a) → a ≡ b
+pub same-test : (a b : Bool) → (T a → T b) → (T b → T a) → a ≡ b
 same-test true true p q = refl
 same-test true false p q = absurd (p tt)
 same-test false true p q = absurd (q tt)

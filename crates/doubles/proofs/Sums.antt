@@ -18,7 +18,7 @@ use Rattle.doubles.proofs.Order.{upper, lower, at-most-finite, minus-pl
 unfoldable pub limit : ℕ
 limit = 2 ^ 1024 * one
 
-round-is : (s : Bool) (n : ℕ) → round s n ≡ cond (ltb (rounded n) limit) (finite s (rounded n)) (infinite s)
+pub round-is : (s : Bool) (n : ℕ) → round s n ≡ cond (ltb (rounded n) limit) (finite s (rounded n)) (infinite s)
 unfolding round limit
 round-is s n = refl
 
