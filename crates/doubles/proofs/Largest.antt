@@ -32,7 +32,7 @@ largest-below : largest < limit
 unfolding largest limit
 largest-below = lit< tt
 
-double-says : (s : Bool) (m : ℕ) → T (isDouble (finite s m)) → (rounded m ≡ m) × (m < limit)
+pub double-says : (s : Bool) (m : ℕ) → T (isDouble (finite s m)) → (rounded m ≡ m) × (m < limit)
 unfolding isDouble limit
 double-says s m t = (eqb→eq (rounded m) m (and-l (eqb (rounded m) m) (ltb m limit) t), ltb→lt m limit (and-r (eqb (rounded m) m) (ltb m limit) t))
 

@@ -4,3 +4,4 @@ pub mod Order
 pub mod Sums
 pub mod Largest
 pub mod Floats
+pub mod Patterns
