@@ -8,7 +8,7 @@ use mathlib.Core.Bool.{Bool, true, false, not, _&&_, _||_, Bool·beq, cond}
 use lib.IntN.{ℤ, pos, negsuc}
 use lib.Dec.{T, leb, ltb, eqb, leb→le, ltb→lt, lt→ltb, nltb→le, eqb→eq, lit<}
 use lib.Pow.{pow-add, pow-pos, pow-lt}
-use lib.Ieee.{Float, nan, inf, fin, binary64, up, down, size, odd, add, lt, eq, fits, isNan, toBits, ofBits}
+use lib.Ieee.{Float, nan, inf, fin, binary64, up, down, size, odd, add, lt, le, eq, fits, isNan, toBits, ofBits}
 use lib.Ieee as Kit
 use lib.Ieee.Fits.{core, down-pos, eq→eqb, and-i, and-l, and-r, round-fits, nan-fits, inf-fits}
 use lib.Ieee.Fits as KitFits
@@ -17,7 +17,7 @@ use lib.Ieee.Nearest.{closest, closest-same}
 use lib.Ieee.Bits.{ofBits-toBits}
 use lib.Ieee.Scale
 use borrow.Author.Tests.{lt-ltb}
-use Rattle.doubles.specs.Double.{Double, notANumber, infinite, finite, one, rounded, round, sumFinite, sum, less, same, isNumber, isFinite, isDouble}
+use Rattle.doubles.specs.Double.{Double, notANumber, infinite, finite, one, rounded, round, sumFinite, sum, less, same, atMost, isNumber, isFinite, isDouble}
 use Rattle.doubles.specs.Units.{units}
 use Rattle.doubles.proofs.Rounding.{drop, rounded-is, short-kept}
 use Rattle.doubles.proofs.Order.{same-test}
@@ -224,6 +224,10 @@ eq-is-same (fin s m e) (fin t n d) h k =
     let q = placed t n d k in
     level-alike s (cross m e d) t (cross n d e) (down e * down d) (p .0) (q .0) (denominator e d) (over m e d (p .0) (p .1)) (over-right n d e (q .0) (q .1))
     ∙ sym (ap₂ same (placed-units s m e p) (placed-units t n d q))
+
+pub le-is-at-most : (x y : Float) → T (fits binary64 x) → T (fits binary64 y) → le x y ≡ atMost (units x) (units y)
+unfolding le atMost
+le-is-at-most x y h k = ap₂ _||_ (lt-is-less x y h k) (eq-is-same x y h k)
 
 -- ---- the values that the format holds are the doubles, one for one
 

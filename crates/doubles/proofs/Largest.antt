@@ -5,10 +5,11 @@ use Prim.Native.Nat.{ℕ, suc, _+_, _-_, _*_, _^_, _≤_, _<_}
 use native.Mathlib.Nat.{le-trans, le-of-eq, lt-of-lt-of-le, lt-of-le-of-lt, lt-irrefl, add-le-add, le-refl}
 use native.Mathlib.Omega.{arith}
 use mathlib.Core.Bool.{Bool, true, false, not}
-use lib.Dec.{T, leb, ltb, eqb, leb→le, nleb→lt, ltb→lt, eqb→eq, lit<}
+use lib.Dec.{T, leb, ltb, eqb, leb→le, nleb→lt, ltb→lt, eqb→eq, lit<, T-not}
 use lib.Ieee.Fits.{and-l, and-r}
-use Rattle.doubles.specs.Double.{Double, notANumber, infinite, finite, one, rounded, sum, sumFinite, atMost, isFinite, isDouble}
+use Rattle.doubles.specs.Double.{Double, notANumber, infinite, finite, one, rounded, sum, sumFinite, less, atMost, isFinite, isDouble}
 use Rattle.doubles.proofs.Rounding.{rounded-mono}
+use Rattle.doubles.proofs.Order.{same-test, at-most-not-less, minus-plus, plus-plus, minus-minus}
 use Rattle.doubles.proofs.Sums.{limit, sum-below}
 
 -- 2 ^ 1024 - 2 ^ 971, in units
@@ -62,3 +63,25 @@ unfolding sum isFinite ten
 minus-ten-finite notANumber d f = absurd f
 minus-ten-finite (infinite s) d f = absurd f
 minus-ten-finite (finite s m) d f = minus-ten-below s m (at-most-largest s m d)
+
+-- ---- the finite doubles are those between the largest and its negative
+
+between : (d : Double) → T (isDouble d) → T (isFinite d) → T (atMost (finite true largest) d) × T (atMost d (finite false largest))
+unfolding isFinite
+between notANumber p f = absurd f
+between (infinite s) p f = absurd f
+between (finite true m) p f = (minus-minus (at-most-largest true m p), minus-plus m largest)
+between (finite false m) p f = (minus-plus largest m, plus-plus (at-most-largest false m p))
+
+pub too-low : (d : Double) → T (isDouble d) → T (less d (finite true largest)) → T (isFinite d) → ⊥
+too-low d p l f = T-not (less d (finite true largest)) (at-most-not-less (finite true largest) d (between d p f .0)) l
+
+not-high : (d : Double) → (T (less d (finite true largest)) → ⊥) → T (atMost d (finite false largest)) → T (isFinite d)
+unfolding less atMost isFinite
+not-high notANumber l h = absurd h
+not-high (infinite true) l h = l tt
+not-high (infinite false) l h = absurd h
+not-high (finite s m) l h = tt
+
+pub not-too-low : (d : Double) → T (isDouble d) → (T (less d (finite true largest)) → ⊥) → atMost d (finite false largest) ≡ isFinite d
+not-too-low d p l = same-test (atMost d (finite false largest)) (isFinite d) (not-high d l) (λ f. between d p f .1)

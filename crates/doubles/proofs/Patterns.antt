@@ -1,14 +1,15 @@
 -- Bit patterns. The logic reads a pattern's fields as a number of units with an odd significand; in units that is the number that the fields
 -- stand for. Whether a pattern is a NaN's, an infinity's or a finite double's is read off its fields. Assumes nothing.
-use mathlib.Core.Path.{_≡_, refl, ap, _∙_}
+use mathlib.Core.Path.{_≡_, refl, sym, ap, ap₂, _∙_, subst}
 use Prim.Native.Nat.{ℕ, zero, suc, _+_, _*_, _/_, _%_, _^_}
 use native.Mathlib.Nat.{mul-one}
-use mathlib.Core.Bool.{Bool, true, false, cond}
-use lib.Dec.{leb, eqb}
-use lib.Ieee.{Float, nan, inf, binary64, odd, ofBits}
+use mathlib.Core.Bool.{Bool, true, false, not, _&&_, cond}
+use lib.Dec.{T, leb, eqb}
+use lib.Ieee.{Float, nan, inf, binary64, odd, ofBits, nanBits}
 use lib.Ieee as Kit
 use lib.Ieee.Exact.{odd-sign}
-use Rattle.doubles.specs.Double.{Double, notANumber, infinite, finite, ofFields, ofPattern}
+use borrow.Author.Tests.{ne-eqb}
+use Rattle.doubles.specs.Double.{Double, notANumber, infinite, finite, isFinite, ofFields, ofPattern}
 use Rattle.doubles.specs.Units.{units}
 use Rattle.doubles.proofs.Floats.{value-units}
 
@@ -28,3 +29,37 @@ fields-alike s (suc x) t = go (eqb (suc x) 2047) (eqb t 0)
 pub pattern-is-double : (b : ℕ) → units (ofBits binary64 b) ≡ ofPattern b
 unfolding ofBits ofPattern
 pattern-is-double b = fields-alike (leb (2 ^ 63) b) (b % 2 ^ 63 / 2 ^ 52) (b % 2 ^ 52)
+
+-- ---- what a pattern stands for, by its exponent's field x and its digits t
+
+infinite-fields : (s : Bool) (x t : ℕ) → x ≡ 2047 → t ≡ 0 → ofFields s x t ≡ infinite s
+unfolding ofFields
+infinite-fields s x t p q = ap₂ (ofFields s) p q
+
+nan-fields : (s : Bool) (x t : ℕ) → x ≡ 2047 → (t ≡ 0 → ⊥) → ofFields s x t ≡ notANumber
+unfolding ofFields
+nan-fields s x t p q = ap (λ (y : ℕ). ofFields s y t) p ∙ ap (λ (b : Bool). cond b (infinite s) notANumber) (ne-eqb t 0 q)
+
+finite-fields : (s : Bool) (x t : ℕ) → (x ≡ 2047 → ⊥) → T (isFinite (ofFields s x t))
+unfolding ofFields isFinite
+finite-fields s zero t p = tt
+finite-fields s (suc x) t p =
+    subst (λ (b : Bool). T (isFinite (cond b (cond (eqb t 0) (infinite s) notANumber) (finite s ((2 ^ 52 + t) * 2 ^ x))))) (sym (ne-eqb (suc x) 2047 p)) tt
+
+module _ (n : ℕ) where
+  pub infinite-pattern : n % 2 ^ 63 / 2 ^ 52 ≡ 2047 → n % 2 ^ 52 ≡ 0 → ofPattern n ≡ infinite (leb (2 ^ 63) n)
+  unfolding ofPattern
+  infinite-pattern p q = infinite-fields (leb (2 ^ 63) n) (n % 2 ^ 63 / 2 ^ 52) (n % 2 ^ 52) p q
+
+  pub nan-pattern : n % 2 ^ 63 / 2 ^ 52 ≡ 2047 → (n % 2 ^ 52 ≡ 0 → ⊥) → ofPattern n ≡ notANumber
+  unfolding ofPattern
+  nan-pattern p q = nan-fields (leb (2 ^ 63) n) (n % 2 ^ 63 / 2 ^ 52) (n % 2 ^ 52) p q
+
+  pub finite-pattern : (n % 2 ^ 63 / 2 ^ 52 ≡ 2047 → ⊥) → T (isFinite (ofPattern n))
+  unfolding ofPattern
+  finite-pattern p = finite-fields (leb (2 ^ 63) n) (n % 2 ^ 63 / 2 ^ 52) (n % 2 ^ 52) p
+
+  -- what reading it as an f64 asks
+  pub finite-no-nan : (n % 2 ^ 63 / 2 ^ 52 ≡ 2047 → ⊥) → T (not (nanBits binary64 n))
+  unfolding nanBits
+  finite-no-nan p = subst (λ (b : Bool). T (not (b && not (eqb (n % 2 ^ 52) 0)))) (sym (ne-eqb (n % 2 ^ 63 / 2 ^ 52) 2047 p)) tt
