@@ -5,3 +5,4 @@ pub mod Sums
 pub mod Largest
 pub mod Floats
 pub mod Patterns
+mod Vectors
