@@ -1,17 +1,19 @@
 -- Bit patterns. The logic reads a pattern's fields as a number of units with an odd significand; in units that is the number that the fields
 -- stand for. Whether a pattern is a NaN's, an infinity's or a finite double's is read off its fields. Assumes nothing.
 use mathlib.Core.Path.{_≡_, refl, sym, ap, ap₂, _∙_, subst}
-use Prim.Native.Nat.{ℕ, zero, suc, _+_, _*_, _/_, _%_, _^_}
+use Prim.Native.Nat.{ℕ, zero, suc, _+_, _*_, _/_, _%_, _^_, _<_}
 use native.Mathlib.Nat.{mul-one}
 use mathlib.Core.Bool.{Bool, true, false, not, _&&_, cond}
-use lib.Dec.{T, leb, eqb}
-use lib.Ieee.{Float, nan, inf, binary64, odd, ofBits, nanBits}
+use lib.Dec.{T, leb, eqb, eqb-refl}
+use lib.Ieee.{Float, nan, inf, fin, binary64, up, down, odd, eq, fits, isNan, ofBits, toBits, nanBits}
 use lib.Ieee as Kit
+use lib.Ieee.Fits.{and-i}
 use lib.Ieee.Exact.{odd-sign}
+use lib.Ieee.Bits.{ofBits-toBits, toBits-ofBits, ofBits-fits}
 use borrow.Author.Tests.{ne-eqb}
-use Rattle.doubles.specs.Double.{Double, notANumber, infinite, finite, isFinite, ofFields, ofPattern}
+use Rattle.doubles.specs.Double.{Double, notANumber, infinite, finite, isNumber, isFinite, ofFields, ofPattern}
 use Rattle.doubles.specs.Units.{units}
-use Rattle.doubles.proofs.Floats.{value-units}
+use Rattle.doubles.proofs.Floats.{value-units, units-injective, nan-is-no-number}
 
 odd-units : (s : Bool) (q k : ℕ) → units (odd 53 s q k 1074) ≡ finite s (q * 2 ^ k)
 odd-units s q k = value-units (odd 53 s q k 1074) s (q * 2 ^ k) (odd-sign 53 s q k 1074)
@@ -29,6 +31,45 @@ fields-alike s (suc x) t = go (eqb (suc x) 2047) (eqb t 0)
 pub pattern-is-double : (b : ℕ) → units (ofBits binary64 b) ≡ ofPattern b
 unfolding ofBits ofPattern
 pattern-is-double b = fields-alike (leb (2 ^ 63) b) (b % 2 ^ 63 / 2 ^ 52) (b % 2 ^ 52)
+
+-- the pattern written for a value is read as its double
+pub bits-are-pattern : (x : Float) → T (fits binary64 x) → ofPattern (toBits binary64 x) ≡ units x
+bits-are-pattern x h = sym (pattern-is-double (toBits binary64 x)) ∙ ap units (ofBits-toBits binary64 x h)
+
+number-no-nan : (a : ℕ) → T (isNumber (ofPattern a)) → T (not (isNan (ofBits binary64 a)))
+number-no-nan a h =
+    subst (λ (b : Bool). T (not b)) (sym (nan-is-no-number (ofBits binary64 a)))
+    (not-not (isNumber (units (ofBits binary64 a))) (subst (λ (d : Double). T (isNumber d)) (sym (pattern-is-double a)) h))
+  where
+    not-not : (b : Bool) → T b → T (not (not b))
+    not-not true t = tt
+    not-not false t = absurd t
+
+-- a number has one pattern
+pub pattern-injective : (a b : ℕ) → a < 2 ^ 64 → b < 2 ^ 64 → T (isNumber (ofPattern a)) → ofPattern a ≡ ofPattern b → a ≡ b
+pattern-injective a b h k n e =
+    let same-units = pattern-is-double a ∙ e ∙ sym (pattern-is-double b) in
+    sym (toBits-ofBits binary64 a h (number-no-nan a n))
+    ∙ ap (toBits binary64) (units-injective (ofBits binary64 a) (ofBits binary64 b) (ofBits-fits binary64 a) (ofBits-fits binary64 b) same-units)
+    ∙ toBits-ofBits binary64 b k (number-no-nan b (subst (λ (d : Double). T (isNumber d)) e n))
+
+-- only a NaN differs from itself
+pub equal-no-nan : (x : Float) → eq x x ≡ true → T (not (isNan x))
+unfolding isNan eq
+equal-no-nan nan e = absurd (subst T (sym e) tt)
+equal-no-nan (inf s) e = tt
+equal-no-nan (fin s m k) e = tt
+
+pub unequal-nan : (x : Float) → eq x x ≡ false → units x ≡ notANumber
+unfolding eq units
+unequal-nan nan e = refl
+unequal-nan (inf true) e = absurd (subst T e tt)
+unequal-nan (inf false) e = absurd (subst T e tt)
+unequal-nan (fin s m k) e = absurd (subst T e (level-self s (m * up k * down k)))
+  where
+    level-self : (s : Bool) (a : ℕ) → T (Kit.level s a s a)
+    level-self true a = and-i (eqb a a) true (eqb-refl a) tt
+    level-self false a = and-i (eqb a a) true (eqb-refl a) tt
 
 -- ---- what a pattern stands for, by its exponent's field x and its digits t
 

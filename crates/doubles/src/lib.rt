@@ -4,7 +4,7 @@ ghost use mathlib.Core.Bool.{true};
 ghost use Prim.Native.Nat.{_*_};
 ghost use Rattle.doubles.specs.Double.{finite, one, sum, less, isFinite, lowerOf, ofPattern};
 ghost use Rattle.doubles.specs.Units.{units};
-ghost use Rattle.doubles.specs.Pattern.{Reads};
+ghost use Rattle.doubles.specs.Pattern.{Reads, Written};
 
 // The sum, rounded once. It may be an infinity.
 pub fn added(a: f64, s: f64) -> f64
@@ -73,4 +73,20 @@ pub fn from_bits(n: u64) -> Pattern
         return Pattern::NotANumber;
     }
     Pattern::Finite(f64::from_bits(n))
+}
+
+// A double's bit pattern. A NaN has many, so none is given.
+pub enum Bits {
+    Of(u64),
+    NotANumber,
+}
+
+// The pattern that `from_bits` reads as x. Only a NaN differs from itself.
+pub fn to_bits(x: f64) -> Bits
+    ensures { λ r. ⌜ Written r (units x) ⌝ }
+{
+    if x == x {
+        return Bits::Of(f64::to_bits(x));
+    }
+    Bits::NotANumber
 }
