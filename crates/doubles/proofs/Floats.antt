@@ -2,7 +2,7 @@
 -- fraction num / den is the whole number N where num * 2 ^ 1074 is N * den, and then the logic's rounding of it is ours of N. Assumes nothing.
 use mathlib.Core.Path.{_≡_, refl, sym, ap, ap₂, _∙_, subst}
 use Prim.Native.Nat.{ℕ, zero, suc, _+_, _-_, _*_, _/_, _%_, _^_, _≤_, _<_}
-use native.Mathlib.Nat.{le-of-eq, le-of-lt, le-antisymm, le-of-suc-le-suc, lt-of-lt-of-le, lt-of-le-of-lt, lt-of-not-le, lt-irrefl, zero-mul, one-mul, mul-one, mul-comm, mul-assoc, mul-right-comm, mul-pos, add-mul, mul-sub, mul-div-cancel, mul-lt-mul-of-pos-right, lt-of-mul-lt-mul-right, eq-of-mul-eq-mul-right}
+use native.Mathlib.Nat.{le-of-eq, le-of-suc-le-suc, lt-of-lt-of-le, lt-of-le-of-lt, lt-of-not-le, lt-irrefl, zero-mul, one-mul, mul-one, mul-comm, mul-assoc, mul-right-comm, mul-pos, add-mul, mul-sub, mul-div-cancel, mul-lt-mul-of-pos-right, lt-of-mul-lt-mul-right, eq-of-mul-eq-mul-right}
 use native.Mathlib.Omega.{arith}
 use mathlib.Core.Bool.{Bool, true, false, not, _&&_, _||_, Bool·beq, cond}
 use lib.IntN.{ℤ, pos, negsuc}
@@ -283,3 +283,9 @@ unfolding units isFinite
 finite-is-finite nan = refl
 finite-is-finite (inf s) = refl
 finite-is-finite (fin s m e) = refl
+
+pub infinity-is-infinite : (x : Float) (s : Bool) → units x ≡ infinite s → x ≡ inf s
+unfolding units isNumber isFinite
+infinity-is-infinite nan s e = absurd (subst (λ (d : Double). T (isNumber d)) (sym e) tt)
+infinity-is-infinite (inf t) s e = ap inf (cc)
+infinity-is-infinite (fin t m k) s e = absurd (subst (λ (d : Double). T (not (isFinite d))) (sym e) tt)

@@ -2,14 +2,13 @@
 -- and 0 or twice B for the infinities. Comparing doubles is comparing heights, and so every law of the order is one of numbers. Assumes nothing.
 use mathlib.Core.Path.{_≡_, refl, sym, ap, ap₂, _∙_, subst}
 use mathlib.Core.Logic.{_⊎_, inl, inr}
-use Prim.Native.Nat.{ℕ, zero, suc, _+_, _-_, _≤_, _<_}
-use native.Mathlib.Nat.{le-trans, le-of-eq, le-of-lt, lt-of-lt-of-le, lt-of-le-of-lt, lt-trans, lt-irrefl, le-antisymm, eq-or-lt-of-le, not-le-of-lt}
+use Prim.Native.Nat.{ℕ, suc, _+_, _-_, _≤_, _<_}
+use native.Mathlib.Nat.{le-trans, le-of-eq, le-of-lt, lt-of-lt-of-le, lt-of-le-of-lt, lt-irrefl, le-antisymm, eq-or-lt-of-le, not-le-of-lt}
 use native.Mathlib.Omega.{arith}
-use mathlib.Core.Bool.{Bool, true, false, not, _&&_, _||_, Bool·beq}
-use lib.Dec.{T, leb, ltb, eqb, leb→le, le→leb, nleb→lt, ltb→lt, lt→ltb, nltb→le, eqb→eq, eqb-refl, not-T, T-not}
-use lib.Arith.{le→nltb}
+use mathlib.Core.Bool.{Bool, true, false, not, _&&_, _||_, Bool·beq, cond}
+use lib.Dec.{T, leb, ltb, eqb, leb→le, le→leb, ltb→lt, lt→ltb, nltb→le, eqb→eq, not-T}
 use lib.Ieee.Fits.{eq→eqb, and-i, and-l, and-r}
-use Rattle.doubles.specs.Double.{Double, notANumber, infinite, finite, less, same, atMost, isNumber}
+use Rattle.doubles.specs.Double.{Double, notANumber, infinite, finite, less, same, atMost, lowerOf, isNumber}
 
 -- ---- tests
 
@@ -272,6 +271,24 @@ same-equal (finite s m) (finite u n) p q t =
     let w = same-says m n (Bool·beq s u) t in
     let e : finite u n ≡ finite u m = ap (finite u) (sym (w .0)) in
     equal-signs s u m p (λ z. q (e ∙ z)) (w .1) ∙ sym e
+
+-- ---- the lower of two
+
+pub lower-is-one : (a b : Double) → (lowerOf a b ≡ a) ⊎ (lowerOf a b ≡ b)
+unfolding lowerOf
+lower-is-one a b = go (less b a)
+  where
+    go : (t : Bool) → (cond t b a ≡ a) ⊎ (cond t b a ≡ b)
+    go true = inr refl
+    go false = inl refl
+
+pub lower-at-most : (a b : Double) → T (isNumber a) → T (isNumber b) → T (atMost (lowerOf a b) a) × T (atMost (lowerOf a b) b)
+unfolding lowerOf
+lower-at-most a b p q = go (less b a) (less-at-most b a) (not-less-at-most b a q p)
+  where
+    go : (t : Bool) → (T t → T (atMost b a)) → (T (not t) → T (atMost a b)) → T (atMost (cond t b a) a) × T (atMost (cond t b a) b)
+    go true f g = (f tt, at-most-refl b q)
+    go false f g = (at-most-refl a p, g tt)
 
 -- ---- what the order of finite doubles says of their magnitudes
 

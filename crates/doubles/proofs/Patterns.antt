@@ -32,6 +32,11 @@ pub pattern-is-double : (b : ℕ) → units (ofBits binary64 b) ≡ ofPattern b
 unfolding ofBits ofPattern
 pattern-is-double b = fields-alike (leb (2 ^ 63) b) (b % 2 ^ 63 / 2 ^ 52) (b % 2 ^ 52)
 
+-- the literal 0.0
+pub zero-units : units (ofBits binary64 0) ≡ finite false 0
+unfolding ofPattern
+zero-units = pattern-is-double 0
+
 -- the pattern written for a value is read as its double
 pub bits-are-pattern : (x : Float) → T (fits binary64 x) → ofPattern (toBits binary64 x) ≡ units x
 bits-are-pattern x h = sym (pattern-is-double (toBits binary64 x)) ∙ ap units (ofBits-toBits binary64 x h)

@@ -3,7 +3,7 @@
 use mathlib.Core.Path.{_≡_, refl, sym, ap, _∙_, subst}
 use mathlib.Core.Logic.{_⊎_, inl, inr}
 use Prim.Native.Nat.{ℕ, zero, suc, _+_, _-_, _*_, _/_, _%_, _^_, _≤_, _<_, zero-le, compare, Ordering, Ordering·lt, Ordering·eq, Ordering·gt}
-use native.Mathlib.Nat.{le-trans, le-of-eq, le-of-lt, le-antisymm, lt-of-lt-of-le, lt-of-le-of-lt, eq-or-lt-of-le, add-zero, suc-mul, mod-lt, mul-assoc, mul-one, one-mul, mul-comm, mul-le-mul-right, div-one, mod-one, div-mul-le-self, div-add-mod', le-div-iff-mul-le, pow-succ'}
+use native.Mathlib.Nat.{le-trans, le-of-eq, le-of-lt, lt-of-le-of-lt, eq-or-lt-of-le, add-zero, suc-mul, mod-lt, mul-assoc, mul-one, mul-le-mul-right, div-one, mod-one, div-add-mod', le-div-iff-mul-le, pow-succ'}
 use native.Mathlib.Numerals.{add-one}
 use native.Mathlib.Omega.{arith}
 use mathlib.Core.Bool.{Bool, true, false, not}

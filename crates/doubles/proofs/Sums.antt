@@ -1,13 +1,12 @@
 -- Sums of doubles. The sum of two finite doubles is the rounding of a whole number with a sign, `Rounds`; rounding keeps the order, and so does
 -- the sum. What comes out is a double, since rounding twice is rounding once. Assumes nothing.
 use mathlib.Core.Path.{_≡_, refl, sym, ap, _∙_, subst}
-use mathlib.Core.Logic.{_⊎_, inl, inr}
 use Prim.Native.Nat.{ℕ, zero, suc, _+_, _-_, _*_, _^_, _≤_, _<_, zero-le, suc-le-suc}
-use native.Mathlib.Nat.{le-refl, le-trans, le-of-eq, le-of-suc-le-suc, lt-of-lt-of-le, lt-of-le-of-lt, lt-irrefl, add-comm, add-le-add}
+use native.Mathlib.Nat.{le-refl, add-comm, add-le-add}
 use native.Mathlib.Omega.{arith}
 use mathlib.Core.Bool.{Bool, true, false, not, Bool·beq, cond, true≢false}
-use lib.Dec.{T, ltb, eqb, leb, ltb→lt, lt→ltb, nltb→le, leb→le, nleb→lt, eqb→eq, lit<}
-use lib.Ieee.Fits.{eq→eqb, and-i, and-l, and-r}
+use lib.Dec.{T, ltb, eqb, ltb→lt, lt→ltb, nltb→le, lit<}
+use lib.Ieee.Fits.{eq→eqb, and-i}
 use Rattle.doubles.specs.Double.{Double, notANumber, infinite, finite, one, rounded, round, sumFinite, sum, atMost, isNumber, isFinite, isDouble}
 use Rattle.doubles.proofs.Rounding.{rounded-mono, rounded-idem, short-kept}
 use Rattle.doubles.proofs.Order.{upper, lower, at-most-finite, minus-plus, plus-plus, minus-minus, zeros-level}
@@ -113,6 +112,12 @@ rounds-number (minus x a) = by-size (λ (d : Double). T (isNumber d)) true x (λ
 
 sum-finite-number : (s : Bool) (m : ℕ) (t : Bool) (n : ℕ) → T (isNumber (sumFinite s m t n))
 sum-finite-number s m t n = rounds-number (sum-rounds s m t n)
+
+pub finite-is-number : (a : Double) → T (isFinite a) → T (isNumber a)
+unfolding isFinite isNumber
+finite-is-number notANumber h = absurd h
+finite-is-number (infinite s) h = absurd h
+finite-is-number (finite s n) h = tt
 
 -- a number plus a finite is a number
 pub sum-number : (a s : Double) → T (isNumber a) → T (isFinite s) → T (isNumber (sum a s))

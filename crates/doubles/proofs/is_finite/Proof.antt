@@ -1,13 +1,13 @@
 -- `doubles::is_finite` meets its contract: a double is finite exactly where it is between the largest and its negative.
 -- Assumes nothing.
-use mathlib.Core.Path.{_≡_, refl, sym, ap, ap₂, _∙_, subst}
-use mathlib.Core.Bool.{Bool, true, false, not, _||_}
+use mathlib.Core.Path.{_≡_, refl, sym, ap, _∙_, subst}
+use mathlib.Core.Bool.{true, false}
 use lib.Dec.{T, not-T}
 use lib.Ieee.{Float, binary64, neg, lt, le, fits, ofBits}
 use lib.Ieee.Fits.{neg-fits}
 use lib.Ieee.Bits.{ofBits-fits, is-false}
 use borrow.Author.Needs.{needs}
-use Rattle.doubles.specs.Double.{Double, finite, less, atMost, isFinite}
+use Rattle.doubles.specs.Double.{finite, less, atMost, isFinite}
 use Rattle.doubles.specs.Units.{units}
 use Rattle.doubles.proofs.Largest.{largest, too-low, not-too-low}
 use Rattle.doubles.proofs.Floats.{lt-is-less, le-is-at-most, units-is-double}

@@ -4,7 +4,7 @@ use mathlib.Core.Path.{_≡_, refl, ap, _∙_}
 use mathlib.Core.Bool.{true}
 use Prim.Native.Nat.{_*_}
 use lib.Dec.{T}
-use lib.Ieee.{Float, binary64, add, sub, neg, fits, ofBits}
+use lib.Ieee.{Float, binary64, sub, neg, fits, ofBits}
 use lib.Ieee.Fits.{neg-fits}
 use lib.Ieee.Bits.{ofBits-fits}
 use borrow.Author.Needs.{needs}
