@@ -7,6 +7,7 @@ use native.Mathlib.Nat.{le-trans, le-of-eq, le-of-lt, lt-of-lt-of-le, lt-of-le-o
 use native.Mathlib.Omega.{arith}
 use mathlib.Core.Bool.{Bool, true, false, not, _&&_, _||_, Bool·beq, cond}
 use lib.Dec.{T, leb, ltb, eqb, leb→le, le→leb, ltb→lt, lt→ltb, nltb→le, eqb→eq, not-T}
+use borrow.Author.Tests.{lt-ltb, le-ltb, eq-eqb, ne-eqb}
 use lib.Ieee.Fits.{eq→eqb, and-i, and-l, and-r}
 use Rattle.doubles.specs.Double.{Double, notANumber, infinite, finite, less, same, atMost, lowerOf, isNumber}
 
@@ -58,20 +59,20 @@ unfolding less isNumber
 less-height B notANumber b h k = absurd (h .0)
 less-height B (infinite s) notANumber h k = absurd (k .0)
 less-height B (infinite true) (infinite true) h k = refl
-less-height B (infinite true) (infinite false) h k = lt-test true 0 (B + B) (λ _. omega arith) (λ _. tt)
-less-height B (infinite false) (infinite true) h k = lt-test false (B + B) 0 (λ t. absurd t) (λ l. omega arith)
-less-height B (infinite false) (infinite false) h k = lt-test false (B + B) (B + B) (λ t. absurd t) (λ l. omega arith)
-less-height B (infinite true) (finite true n) h k = lt-test true 0 (B - n) (λ _. omega arith) (λ _. tt)
-less-height B (infinite true) (finite false n) h k = lt-test true 0 (B + n) (λ _. omega arith) (λ _. tt)
-less-height B (infinite false) (finite true n) h k = lt-test false (B + B) (B - n) (λ t. absurd t) (λ l. omega arith)
-less-height B (infinite false) (finite false n) h k = lt-test false (B + B) (B + n) (λ t. absurd t) (λ l. omega arith)
+less-height B (infinite true) (infinite false) h k = sym (lt-ltb 0 (B + B) (omega arith))
+less-height B (infinite false) (infinite true) h k = sym (le-ltb (B + B) 0 (omega arith))
+less-height B (infinite false) (infinite false) h k = sym (le-ltb (B + B) (B + B) (omega arith))
+less-height B (infinite true) (finite true n) h k = sym (lt-ltb 0 (B - n) (omega arith))
+less-height B (infinite true) (finite false n) h k = sym (lt-ltb 0 (B + n) (omega arith))
+less-height B (infinite false) (finite true n) h k = sym (le-ltb (B + B) (B - n) (omega arith))
+less-height B (infinite false) (finite false n) h k = sym (le-ltb (B + B) (B + n) (omega arith))
 less-height B (finite s m) notANumber h k = absurd (k .0)
-less-height B (finite true m) (infinite true) h k = lt-test false (B - m) 0 (λ t. absurd t) (λ l. omega arith)
-less-height B (finite true m) (infinite false) h k = lt-test true (B - m) (B + B) (λ _. omega arith) (λ _. tt)
-less-height B (finite false m) (infinite true) h k = lt-test false (B + m) 0 (λ t. absurd t) (λ l. omega arith)
-less-height B (finite false m) (infinite false) h k = lt-test true (B + m) (B + B) (λ _. omega arith) (λ _. tt)
+less-height B (finite true m) (infinite true) h k = sym (le-ltb (B - m) 0 (omega arith))
+less-height B (finite true m) (infinite false) h k = sym (lt-ltb (B - m) (B + B) (omega arith))
+less-height B (finite false m) (infinite true) h k = sym (le-ltb (B + m) 0 (omega arith))
+less-height B (finite false m) (infinite false) h k = sym (lt-ltb (B + m) (B + B) (omega arith))
 less-height B (finite false m) (finite false n) h k = lt-test (ltb m n) (B + m) (B + n) (λ t. omega (arith, ltb→lt m n t)) (λ l. lt→ltb m n (omega arith))
-less-height B (finite false m) (finite true n) h k = lt-test false (B + m) (B - n) (λ t. absurd t) (λ l. omega arith)
+less-height B (finite false m) (finite true n) h k = sym (le-ltb (B + m) (B - n) (omega arith))
 less-height B (finite true m) (finite false n) h k = lt-test (ltb 0 (m + n)) (B - m) (B + n) (λ t. omega (arith, ltb→lt 0 (m + n) t)) (λ l. lt→ltb 0 (m + n) (omega arith))
 less-height B (finite true m) (finite true n) h k = lt-test (ltb n m) (B - m) (B - n) (λ t. omega (arith, ltb→lt n m t)) (λ l. lt→ltb n m (omega arith))
 
@@ -96,18 +97,18 @@ unfolding same isNumber
 same-height B notANumber b h k = absurd (h .0)
 same-height B (infinite s) notANumber h k = absurd (k .0)
 same-height B (infinite true) (infinite true) h k = refl
-same-height B (infinite true) (infinite false) h k = eq-test false 0 (B + B) (λ t. absurd t) (λ e. omega arith)
-same-height B (infinite false) (infinite true) h k = eq-test false (B + B) 0 (λ t. absurd t) (λ e. omega arith)
-same-height B (infinite false) (infinite false) h k = eq-test true (B + B) (B + B) (λ _. refl) (λ _. tt)
-same-height B (infinite true) (finite true n) h k = eq-test false 0 (B - n) (λ t. absurd t) (λ e. omega arith)
-same-height B (infinite true) (finite false n) h k = eq-test false 0 (B + n) (λ t. absurd t) (λ e. omega arith)
-same-height B (infinite false) (finite true n) h k = eq-test false (B + B) (B - n) (λ t. absurd t) (λ e. omega arith)
-same-height B (infinite false) (finite false n) h k = eq-test false (B + B) (B + n) (λ t. absurd t) (λ e. omega arith)
+same-height B (infinite true) (infinite false) h k = sym (ne-eqb 0 (B + B) (λ e. omega arith))
+same-height B (infinite false) (infinite true) h k = sym (ne-eqb (B + B) 0 (λ e. omega arith))
+same-height B (infinite false) (infinite false) h k = sym (eq-eqb (B + B) (B + B) refl)
+same-height B (infinite true) (finite true n) h k = sym (ne-eqb 0 (B - n) (λ e. omega arith))
+same-height B (infinite true) (finite false n) h k = sym (ne-eqb 0 (B + n) (λ e. omega arith))
+same-height B (infinite false) (finite true n) h k = sym (ne-eqb (B + B) (B - n) (λ e. omega arith))
+same-height B (infinite false) (finite false n) h k = sym (ne-eqb (B + B) (B + n) (λ e. omega arith))
 same-height B (finite s m) notANumber h k = absurd (k .0)
-same-height B (finite true m) (infinite true) h k = eq-test false (B - m) 0 (λ t. absurd t) (λ e. omega arith)
-same-height B (finite true m) (infinite false) h k = eq-test false (B - m) (B + B) (λ t. absurd t) (λ e. omega arith)
-same-height B (finite false m) (infinite true) h k = eq-test false (B + m) 0 (λ t. absurd t) (λ e. omega arith)
-same-height B (finite false m) (infinite false) h k = eq-test false (B + m) (B + B) (λ t. absurd t) (λ e. omega arith)
+same-height B (finite true m) (infinite true) h k = sym (ne-eqb (B - m) 0 (λ e. omega arith))
+same-height B (finite true m) (infinite false) h k = sym (ne-eqb (B - m) (B + B) (λ e. omega arith))
+same-height B (finite false m) (infinite true) h k = sym (ne-eqb (B + m) 0 (λ e. omega arith))
+same-height B (finite false m) (infinite false) h k = sym (ne-eqb (B + m) (B + B) (λ e. omega arith))
 same-height B (finite false m) (finite false n) h k =
     eq-test (eqb m n && true) (B + m) (B + n) (λ t. ap (λ (x : ℕ). B + x) (eqb→eq m n (and-l (eqb m n) true t))) (λ e. and-i (eqb m n) true (eq→eqb {a = m} {b = n} (omega arith)) tt)
 same-height B (finite false m) (finite true n) h k =

@@ -92,7 +92,6 @@ atMost x y = less x y || same x y
 
 -- the lower of two: the second only where it is strictly less
 unfoldable pub lowerOf : Double → Double → Double
-unfolding less
 lowerOf x y = cond (less y x) y x
 
 unfoldable pub isNumber : Double → Bool
