@@ -97,6 +97,10 @@ unfoldable pub atMost : Double → Double → Bool
 unfolding less same
 atMost x y = less x y || same x y
 
+-- the lower of two: the second only where it is strictly less
+unfoldable pub lowerOf : Double → Double → Double
+lowerOf x y = cond (less y x) y x
+
 unfoldable pub isNumber : Double → Bool
 isNumber notANumber = false
 isNumber (infinite s) = true

@@ -27,7 +27,7 @@ use Rattle.pack.specs.Output as output
 use Rattle.worked.specs.Example as example
 
 unfoldable pub doubles-opened : Unit {0}
-unfolding size doubles.gap doubles.nearer doubles.nearestMultiple doubles.rounded doubles.round doubles.sumFinite doubles.sum doubles.less doubles.same doubles.isFinite doubles.ofFields doubles.ofPattern
+unfolding size doubles.gap doubles.nearer doubles.nearestMultiple doubles.rounded doubles.round doubles.sumFinite doubles.sum doubles.less doubles.same doubles.lowerOf doubles.isFinite doubles.ofFields doubles.ofPattern
 doubles-opened = tt
 
 unfoldable pub text-opened : Unit {0}
@@ -39,7 +39,7 @@ unfolding trie.seek trie.step trie.walk trie.idAt trie.idFrom trie.idOf sound.ev
 trie-opened = tt
 
 unfoldable pub build-opened : Unit {0}
-unfolding rows.worthFault rows.rowFault rows.firstBad names.same names.later names.place names.prefixes names.add names.enter names.names parts.edge parts.edgesFrom parts.edgesOf parts.starts parts.lay parts.trieOf rules.firstRow rules.scoreOf rules.scoresOf rules.nodeScore rules.lower rules.lowest rules.unknownScore rules.tokensOf rules.unigramTrie rules.unigramScores rules.idOfWorth rules.lastOf rules.lastId rules.wordpieceTrie memory.anyBelow memory.noRoom memory.noScoredRoom
+unfolding rows.worthFault rows.rowFault rows.firstBad names.same names.later names.place names.prefixes names.add names.enter names.names parts.edge parts.edgesFrom parts.edgesOf parts.starts parts.lay parts.trieOf rules.firstRow rules.scoreOf rules.scoresOf rules.nodeScore rules.lowest rules.unknownScore rules.tokensOf rules.unigramTrie rules.unigramScores rules.idOfWorth rules.lastOf rules.lastId rules.wordpieceTrie memory.anyBelow memory.noRoom memory.noScoredRoom
 build-opened = tt
 
 unfoldable pub unigram-opened : Unit {0}

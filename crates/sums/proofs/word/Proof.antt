@@ -1,0 +1,42 @@
+-- `sums::word` is safe and ends: sixteen digits from `at` on lie in the line. The invariant bounds the turns, and the measure is those left.
+-- Assumes nothing.
+use Prim.Native.Nat.{_≤_, _-_}
+use native.Mathlib.Omega.{arith}
+use borrow.Author.Needs.{needs}
+use Rattle.sums.proofs.word.Statement.{statement}
+use Rattle.sums.proofs.word.Tie as tie
+
+abbrev Inv-loop : tie.InvT-loop
+Inv-loop line at n₀ i₀ n i = i ≤ 16
+
+abbrev μ-loop : tie.MeasureT-loop
+μ-loop line at n₀ i₀ n i = 16 - i
+
+loop-holds : tie.Need-loop-holds Inv-loop μ-loop
+loop-holds c = omega arith
+
+add-digit : tie.Need-add-digit Inv-loop μ-loop
+add-digit c = omega arith
+
+element-copy-out-digit : tie.Need-element-copy-out-digit Inv-loop μ-loop
+element-copy-out-digit c = search needs
+
+digit-requires : tie.Need-digit-requires Inv-loop μ-loop
+digit-requires c κs = search needs
+
+add-i : tie.Need-add-i Inv-loop μ-loop
+add-i c = omega arith
+
+loop-less : tie.Need-loop-less Inv-loop μ-loop
+loop-less c = omega arith
+
+loop-again : tie.Need-loop-again Inv-loop μ-loop
+loop-again c = omega arith
+
+returns : tie.Need-returns Inv-loop μ-loop
+returns c = search needs
+
+pub word-spec : {M : Type 1} → statement M
+word-spec =
+    tie.close
+    (tie.spec Inv-loop μ-loop loop-holds add-digit element-copy-out-digit digit-requires add-i loop-less loop-again returns)
