@@ -1,3 +1,4 @@
--- RFC 3629, and the span check.
+-- RFC 3629, the number that an entry of its table is, and the span check.
 pub mod Text
+pub mod Lead
 pub mod Span

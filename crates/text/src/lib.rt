@@ -1,6 +1,8 @@
 // RFC 3629 text: where it is well-formed, where its characters begin, and the span check over a lent string table.
 use refusal::Fault;
 
+mod lead;
+
 // What the call beside `text` answers: an empty part may be an accepted span.
 pub enum SpanAnswer {
     Accepted,

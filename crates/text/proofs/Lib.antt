@@ -1,0 +1,3 @@
+-- The laws of text that the layers above cite, and those that the functions' proofs share.
+pub mod Table
+pub mod Entries
