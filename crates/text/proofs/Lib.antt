@@ -1,3 +1,4 @@
 -- The laws of text that the layers above cite, and those that the functions' proofs share.
 pub mod Table
 pub mod Entries
+pub mod Characters
