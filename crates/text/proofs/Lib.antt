@@ -2,3 +2,4 @@
 pub mod Table
 pub mod Entries
 pub mod Characters
+pub mod Valid
