@@ -1,5 +1,5 @@
 -- An entry of the lead table taken apart again: both ends of the range fit a byte, so the entry's digits are its parts. Assumes nothing.
-use mathlib.Core.Path.{_≡_}
+use mathlib.Core.Path.{_≡_, refl}
 use mathlib.Core.Bool.{Bool, true, false, cond}
 use Prim.Native.Nat.{ℕ, _+_, _*_, _/_, _%_, _≤_, _<_}
 use native.Mathlib.Omega.{arith}
@@ -30,7 +30,7 @@ length-le-four b =
 module _ (b : ℕ) where
   sum : entryOf b ≡ lengthOf b * 0x1_00_00 + secondLow b * 0x1_00 + secondHigh b
   unfolding entryOf
-  sum = mathlib.Core.Path.refl
+  sum = refl
 
   pub entry-length : entryOf b / 0x1_00_00 ≡ lengthOf b
   entry-length = omega (arith, sum, low-fits b, high-fits b)
@@ -40,3 +40,7 @@ module _ (b : ℕ) where
 
   pub entry-high : entryOf b % 0x1_00 ≡ secondHigh b
   entry-high = omega (arith, sum, low-fits b, high-fits b)
+
+  -- the range that the entry has is the lead byte's
+  pub entry-second : (entry x : ℕ) → entry ≡ entryOf b → within (entry / 0x1_00 % 0x1_00) (entry % 0x1_00) x ≡ within (secondLow b) (secondHigh b) x
+  entry-second entry x e = rw (e, entry-low, entry-high)

@@ -3,3 +3,4 @@ pub mod Table
 pub mod Entries
 pub mod Characters
 pub mod Valid
+pub mod Reading

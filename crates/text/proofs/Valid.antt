@@ -7,10 +7,10 @@ use Prim.Native.Nat.{ℕ, zero, suc, _+_, _-_, _≤_, _<_}
 use native.Mathlib.Omega.{arith}
 use borrow.Author.Tests.{eq-eqb, eqb-true}
 use lib.Dec.{eqb, eqb·suc-zero}
-use lib.ListN.{length, getD, take, drop, length-append, length-take, length-drop, take-append-drop}
+use lib.ListN.{length, getD, take, drop, length-append, length-take, length-drop, take-append-drop, drop-of-length-le}
 use lib.Seq.{take-add, take-length, take-all, drop-at, take-at, drop-append-le, drop-drop, length-take-le, drop-length}
 use Rattle.text.specs.Text.{lengthOf, character, validIn, validUpTo, wellFormed, boundary}
-use Rattle.text.proofs.Characters.{Front, one, Found, none, here, found, front-character, front-positive, front-inside, front-append, front-take}
+use Rattle.text.proofs.Characters.{Front, one, Found, none, here, found, character-front, front-character, front-positive, front-inside, front-append, front-take}
 use Rattle.text.proofs.Characters.{ascii-length}
 
 -- ---- the recursion with a bound
@@ -61,6 +61,24 @@ step-at s (suc k) f =
 
 pub valid-step : {s : List ℕ} {k : ℕ} → Front s k → validUpTo s ≡ k + validUpTo (drop k s)
 valid-step {s} {k} f = step-at s k f
+
+-- ---- the turns of a loop that is at i
+
+pub valid-past : (s : List ℕ) (i : ℕ) → length s ≤ i → validUpTo (drop i s) ≡ 0
+unfolding validUpTo validIn
+valid-past s i h = rw (drop-of-length-le s h)
+
+at-place : (s : List ℕ) (i n : ℕ) → character (drop i s) ≡ n → 0 < n → Front (drop i s) n
+at-place s i zero e p = absurd (omega arith)
+at-place s i (suc n) e p = character-front (drop i s) n e
+
+pub valid-turn : (s : List ℕ) (i n : ℕ) → character (drop i s) ≡ n → 0 < n → i + validUpTo (drop i s) ≡ i + n + validUpTo (drop (i + n) s)
+valid-turn s i n e p =
+    omega (arith, valid-step (at-place s i n e p), ap validUpTo (drop-drop n i s))
+
+-- the character at i ends inside
+pub turn-inside : (s : List ℕ) (i n : ℕ) → character (drop i s) ≡ n → 0 < n → i + n ≤ length s
+turn-inside s i n e p = omega (arith, front-inside (at-place s i n e p), length-drop i s, front-positive (at-place s i n e p))
 
 -- ---- characters, end to end
 

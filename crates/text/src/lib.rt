@@ -2,6 +2,7 @@
 use refusal::Fault;
 
 mod lead;
+mod utf8;
 
 // What the call beside `text` answers: an empty part may be an accepted span.
 pub enum SpanAnswer {

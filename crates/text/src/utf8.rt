@@ -1,0 +1,111 @@
+// Which bytes are text by RFC 3629, and where its characters begin.
+use crate::lead;
+ghost use mathlib.Core.Path.{_≡_};
+ghost use mathlib.Core.Bool.{cond};
+ghost use Prim.Native.Nat.{_+_, _/_, _%_, _≤_, _<_};
+ghost use lib.ListN.{length, drop};
+ghost use Rattle.text.specs.Text.{within, tail, tails, character, validUpTo, boundary, characters};
+
+// 80-BF: the byte continues a character.
+fn is_tail(b: u8) -> bool
+    ensures { λ r. ⌜ r ≡ tail b ⌝ }
+{
+    b / 64 == 2
+}
+
+// The byte is in the range of the second byte that this entry of the lead table has.
+fn is_second(entry: u32, x: u8) -> bool
+    ensures { λ r. ⌜ r ≡ within (entry / 0x1_00 % 0x1_00) (entry % 0x1_00) x ⌝ }
+{
+    let y = x as u32;
+    entry / 0x1_00 % 0x1_00 <= y && y <= entry % 0x1_00
+}
+
+// The n bytes at i, two at most, continue a character.
+fn are_tails(s: &[u8], i: usize, n: usize) -> bool
+    requires { ⌜ (n ≤ 2) × (i + n ≤ length (now s)) ⌝ }
+    ensures { λ r. ⌜ r ≡ tails n (drop i (now (s .entry))) ⌝ }
+{
+    if n == 0 {
+        return true;
+    }
+    if !is_tail(s[i]) {
+        return false;
+    }
+    if n == 1 {
+        return true;
+    }
+    is_tail(s[i + 1])
+}
+
+// How many bytes the well-formed character at i takes; 0 where there is none.
+fn character_at(s: &[u8], i: usize) -> usize
+    ensures { λ r. ⌜ r ≡ character (drop i (now (s .entry))) ⌝ }
+{
+    if s.len() <= i {
+        return 0;
+    }
+    let entry = lead::entry(s[i]);
+    let n = (entry / 0x1_00_00) as usize;
+    if n < 2 {
+        return n;
+    }
+    if s.len() - i < n {
+        return 0;
+    }
+    if !is_second(entry, s[i + 1]) {
+        return 0;
+    }
+    if !are_tails(s, i + 2, n - 2) {
+        return 0;
+    }
+    n
+}
+
+// The length of the longest prefix made of whole well-formed characters.
+pub fn valid_up_to(s: &[u8]) -> usize
+    ensures { λ r. ⌜ r ≡ validUpTo (now (s .entry)) ⌝ }
+{
+    let mut i = 0;
+    while i < s.len() {
+        let n = character_at(s, i);
+        if n == 0 {
+            return i;
+        }
+        i += n;
+    }
+    i
+}
+
+// A character begins at i, or the text ends there.
+pub fn is_boundary(s: &[u8], i: usize) -> bool
+    ensures { λ r. ⌜ r ≡ boundary (now (s .entry)) i ⌝ }
+{
+    if i < s.len() {
+        return !is_tail(s[i]);
+    }
+    i == s.len()
+}
+
+// 1 where the byte begins a character, 0 where it continues one.
+fn begins(b: u8) -> usize
+    ensures { λ r. ⌜ r ≡ cond (tail b) 0 1 ⌝ }
+{
+    if is_tail(b) {
+        return 0;
+    }
+    1
+}
+
+// How many characters a well-formed text has: the bytes that begin one.
+pub fn characters(s: &[u8]) -> usize
+    ensures { λ r. ⌜ r ≡ characters (now (s .entry)) ⌝ }
+{
+    let mut n: usize = 0;
+    let mut i = 0;
+    while i < s.len() {
+        n += begins(s[i]);
+        i += 1;
+    }
+    n
+}
