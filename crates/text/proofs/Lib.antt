@@ -4,3 +4,4 @@ pub mod Entries
 pub mod Characters
 pub mod Valid
 pub mod Reading
+pub mod Spans
