@@ -102,7 +102,7 @@ front-character (two {b = b} e w) = rw (e, w)
 front-character (three e w y) = rw (e, w, y)
 front-character (four e w y z) = rw (e, w, y, z)
 
-false-true : {A : Type 0} → false ≡ true → A
+pub false-true : {A : Type 0} → false ≡ true → A
 false-true e = let z : _≡_ {A = ℕ} 0 1 = cc in absurd (omega arith)
 
 rest-front : (b n : ℕ) (s : List ℕ) → lengthOf b ≡ n → n ≤ 4 → rest b n s ≡ true → Front (b ∷ s) n

@@ -3,5 +3,6 @@ pub mod Table
 pub mod Entries
 pub mod Characters
 pub mod Valid
+pub mod Boundaries
 pub mod Reading
 pub mod Spans

@@ -84,7 +84,7 @@ turn-inside s i n e p = omega (arith, front-inside (at-place s i n e p), length-
 
 pub data Chars : List ℕ → Type 0 where
   end : Chars []
-  next : {s : List ℕ} {k : ℕ} → Front s k → Chars (drop k s) → Chars s
+  more : {s : List ℕ} {k : ℕ} → Front s k → Chars (drop k s) → Chars s
 
 -- by the length: a recursion on what is left after the first character
 pub chars-by-length : (P : List ℕ → Type 0) → ((s : List ℕ) → character s ≡ 0 → P s) → ((s : List ℕ) (k : ℕ) → Front s k → P (drop k s) → P s)
@@ -99,7 +99,7 @@ chars-by-length P stop step s = go (length s) s (found s) (omega arith)
         step s (suc k) f (go n (drop (suc k) s) (found (drop (suc k) s)) (simp length-drop (omega (arith, front-inside f))))
 
 -- what is left of a longer prefix after k bytes
-drop-of-take : (k m : ℕ) (s : List ℕ) → k ≤ length s → drop k (take (k + m) s) ≡ take m (drop k s)
+pub drop-of-take : (k m : ℕ) (s : List ℕ) → k ≤ length s → drop k (take (k + m) s) ≡ take m (drop k s)
 drop-of-take k m s h = rw take-add (drop-at (take k s) (take m (drop k s)) k (length-take-le k s h))
 
 -- the prefix that `validUpTo` finds is characters
@@ -112,7 +112,7 @@ valid-prefix = chars-by-length (λ s. Chars (take (validUpTo s) s)) stop step
     step : (s : List ℕ) (k : ℕ) → Front s k → Chars (take (validUpTo (drop k s)) (drop k s)) → Chars (take (validUpTo s) s)
     step s k f c =
         rw (valid-step f)
-        (next (front-take f (k + validUpTo (drop k s)) (omega arith)) (rw (drop-of-take k (validUpTo (drop k s)) s (front-inside f)) c))
+        (more (front-take f (k + validUpTo (drop k s)) (omega arith)) (rw (drop-of-take k (validUpTo (drop k s)) s (front-inside f)) c))
 
 -- and it is no longer than s
 pub valid-le : (s : List ℕ) → validUpTo s ≤ length s
@@ -127,7 +127,7 @@ valid-le = chars-by-length (λ s. validUpTo s ≤ length s) stop step
 -- characters in front pass through
 pub valid-over : {s : List ℕ} → Chars s → (t : List ℕ) → validUpTo (s ++ t) ≡ length s + validUpTo t
 valid-over end t = omega arith
-valid-over (next {s = s} {k = k} f c) t =
+valid-over (more {s = s} {k = k} f c) t =
     valid-step (front-append f t)
     ∙ ap (λ (u : List ℕ). k + validUpTo u) (drop-append-le k s t (front-inside f))
     ∙ ap (λ (n : ℕ). k + n) (valid-over c t)
@@ -152,11 +152,17 @@ well-chars s e = rw (well-valid s e, take-length) at (valid-prefix s)
 
 -- ---- the laws
 
+pub well-nil : wellFormed [] ≡ true
+well-nil = chars-well end
+
 -- a concatenation of well-formed texts is well-formed
 pub chars-append : {s t : List ℕ} → Chars s → Chars t → Chars (s ++ t)
 chars-append end d = d
-chars-append {t = t} (next {s = s} {k = k} f c) d =
-    next (front-append f t) (rw (drop-append-le k s t (front-inside f)) (chars-append c d))
+chars-append {t = t} (more {s = s} {k = k} f c) d =
+    more (front-append f t) (rw (drop-append-le k s t (front-inside f)) (chars-append c d))
+
+pub well-append : (s t : List ℕ) → wellFormed s ≡ true → wellFormed t ≡ true → wellFormed (s ++ t) ≡ true
+well-append s t p q = chars-well (chars-append (well-chars s p) (well-chars t q))
 
 -- well-formed text taken off the front of a well-formed one leaves one
 pub chars-rest : {s : List ℕ} → Chars s → (t : List ℕ) → Chars (s ++ t) → Chars t
@@ -164,3 +170,19 @@ chars-rest {s} c t d =
     let e : length s + validUpTo t ≡ length s + length t = sym (valid-over c t) ∙ chars-valid d ∙ length-append s t in
     let whole : validUpTo t ≡ length t = omega arith in
     rw (whole, take-length) at (valid-prefix t)
+
+pub well-rest : (s t : List ℕ) → wellFormed s ≡ true → wellFormed (s ++ t) ≡ true → wellFormed t ≡ true
+well-rest s t p q = chars-well (chars-rest (well-chars s p) t (well-chars (s ++ t) q))
+
+-- the prefix that `validUpTo` measures is well-formed, and no longer one is
+pub valid-prefix-well : (s : List ℕ) → wellFormed (take (validUpTo s) s) ≡ true
+valid-prefix-well s = chars-well (valid-prefix s)
+
+pub valid-longest : (s : List ℕ) (n : ℕ) → n ≤ length s → wellFormed (take n s) ≡ true → n ≤ validUpTo s
+valid-longest s n h p =
+    omega (
+      arith,
+      ap validUpTo (take-append-drop n s),
+      valid-over (well-chars (take n s) p) (drop n s),
+      length-take-le n s h,
+    )
