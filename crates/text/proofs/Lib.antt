@@ -5,4 +5,5 @@ pub mod Characters
 pub mod Valid
 pub mod Boundaries
 pub mod Reading
+pub mod Passing
 pub mod Spans

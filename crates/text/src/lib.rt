@@ -1,8 +1,8 @@
 // RFC 3629 text: where it is well-formed, where its characters begin, and the span check over a lent string table.
 use refusal::Fault;
 
-mod lead;
-mod utf8;
+pub mod lead;
+pub mod utf8;
 
 ghost use Rattle.text.specs.Span.{TextAnswered, TextGiven};
 

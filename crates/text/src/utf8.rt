@@ -4,6 +4,7 @@ ghost use mathlib.Core.Path.{_≡_};
 ghost use mathlib.Core.Bool.{cond};
 ghost use Prim.Native.Nat.{_+_, _/_, _%_, _≤_, _<_};
 ghost use lib.ListN.{length, drop};
+ghost use Rattle.text.specs.Passing.{Ascii, Passed, Stepped};
 ghost use Rattle.text.specs.Text.{within, tail, tails, character, validUpTo, boundary, characters};
 
 // 80-BF: the byte continues a character.
@@ -62,17 +63,75 @@ fn character_at(s: &[u8], i: usize) -> usize
     n
 }
 
+// How many bytes of a run of ASCII are looked at together, without a branch between them.
+const BLOCK: usize = 32;
+
+// How many of the BLOCK bytes at i are not ASCII.
+fn high_bytes(s: &[u8], i: usize) -> u8
+    requires { ⌜ i + 32 ≤ length (now s) ⌝ }
+    ensures { λ r. ⌜ (r ≡ 0 → Ascii (now (s .entry)) i (i + 32)) ⌝ }
+{
+    let mut n: u8 = 0;
+    let mut k: usize = 0;
+    while k < BLOCK {
+        n += s[i + k] / 128;
+        k += 1;
+    }
+    n
+}
+
+// The end of the blocks of ASCII at i.
+fn past_blocks(s: &[u8], i: usize) -> usize
+    requires { ⌜ i ≤ length (now s) ⌝ }
+    ensures { λ r. ⌜ Passed (now (s .entry)) i r ⌝ }
+{
+    let mut at = i;
+    while BLOCK <= s.len() - at {
+        if high_bytes(s, at) != 0 {
+            return at;
+        }
+        at += BLOCK;
+    }
+    at
+}
+
+// The end of the run of ASCII at i.
+fn past_ascii(s: &[u8], i: usize) -> usize
+    requires { ⌜ i ≤ length (now s) ⌝ }
+    ensures { λ r. ⌜ Passed (now (s .entry)) i r ⌝ }
+{
+    let mut at = past_blocks(s, i);
+    while at < s.len() {
+        if 128 <= s[at] {
+            return at;
+        }
+        at += 1;
+    }
+    at
+}
+
+// The end of the run of ASCII or of the one longer character at i; i itself where none begins there.
+fn step(s: &[u8], i: usize) -> usize
+    requires { ⌜ i < length (now s) ⌝ }
+    ensures { λ r. ⌜ Stepped (now (s .entry)) i r ⌝ }
+{
+    if s[i] < 128 {
+        return past_ascii(s, i + 1);
+    }
+    i + character_at(s, i)
+}
+
 // The length of the longest prefix made of whole well-formed characters.
 pub fn valid_up_to(s: &[u8]) -> usize
     ensures { λ r. ⌜ r ≡ validUpTo (now (s .entry)) ⌝ }
 {
     let mut i = 0;
     while i < s.len() {
-        let n = character_at(s, i);
-        if n == 0 {
+        let j = step(s, i);
+        if j == i {
             return i;
         }
-        i += n;
+        i = j;
     }
     i
 }
