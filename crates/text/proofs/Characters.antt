@@ -10,7 +10,7 @@ use borrow.Author.Tests.{leb-true, leb-false, le-leb, lt-leb}
 use lib.Dec.{leb, eqb, lit≤}
 use lib.ListN.{length, getD, take, drop}
 use Rattle.text.specs.Text.{within, tail, tails, lengthOf, secondLow, secondHigh, rest, character, boundary}
-use Rattle.text.proofs.Entries.{length-le-four}
+use Rattle.text.proofs.Entries.{length-le-four, length-low}
 
 -- ---- tests of a byte
 
@@ -65,11 +65,7 @@ second-tail b x e =
     (omega (arith, high-below b, within-high (secondLow b) (secondHigh b) x e))
 
 tail-leads-none : (b : ℕ) → tail b ≡ true → lengthOf b ≡ 0
-unfolding lengthOf
-tail-leads-none b e =
-    let p : 0x80 ≤ b = within-low 0x80 0xBF b e in
-    let q : b ≤ 0xBF = within-high 0x80 0xBF b e in
-    simp (lt-leb b 0x7F (omega arith), lt-leb 0xC2 b (omega arith), lt-leb 0xE0 b (omega arith), lt-leb 0xF0 b (omega arith))
+tail-leads-none b e = length-low b (within-low 0x80 0xBF b e) (omega (arith, within-high 0x80 0xBF b e))
 
 -- a byte that begins a character is no tail
 pub lead-no-tail : (b n : ℕ) → lengthOf b ≡ suc n → tail b ≡ false
@@ -78,11 +74,6 @@ lead-no-tail b n e = go (tail b) refl
     go : (t : Bool) → tail b ≡ t → t ≡ false
     go true p = absurd (omega (arith, tail-leads-none b p))
     go false p = refl
-
--- an ASCII byte is a character
-pub ascii-length : (b : ℕ) → b < 0x80 → lengthOf b ≡ 1
-unfolding lengthOf
-ascii-length b h = simp (le-leb b 0x7F (omega arith))
 
 -- ---- the character at the front
 

@@ -4,6 +4,7 @@ use mathlib.Core.Bool.{Bool, true, false, cond}
 use Prim.Native.Nat.{ℕ, _+_, _*_, _/_, _%_, _≤_, _<_}
 use native.Mathlib.Omega.{arith}
 use lib.Dec.{eqb, leb, lit≤}
+use borrow.Author.Tests.{le-leb, lt-leb}
 use Rattle.text.specs.Text.{lengthOf, secondLow, secondHigh, within}
 use Rattle.text.specs.Lead.{entryOf}
 
@@ -26,6 +27,57 @@ length-le-four b =
     cond-le (leb b 0x7F) 1 _ 4 (lit≤ tt)
     (cond-le (within 0xC2 0xDF b) 2 _ 4 (lit≤ tt)
     (cond-le (within 0xE0 0xEF b) 3 _ 4 (lit≤ tt) (cond-le (within 0xF0 0xF4 b) 4 0 4 (lit≤ tt) (lit≤ tt))))
+
+-- where the lengths change
+module _ (b : ℕ) where
+  pub length-ascii : b < 0x80 → lengthOf b ≡ 1
+  unfolding lengthOf
+  length-ascii h = simp (le-leb b 0x7F (omega arith))
+
+  pub length-low : 0x80 ≤ b → b < 0xC2 → lengthOf b ≡ 0
+  unfolding lengthOf
+  length-low l h = simp (lt-leb b 0x7F (omega arith), lt-leb 0xC2 b (omega arith), lt-leb 0xE0 b (omega arith), lt-leb 0xF0 b (omega arith))
+
+  pub length-two : 0xC2 ≤ b → b < 0xE0 → lengthOf b ≡ 2
+  unfolding lengthOf
+  length-two l h = simp (lt-leb b 0x7F (omega arith), le-leb 0xC2 b (omega arith), le-leb b 0xDF (omega arith))
+
+  pub length-three : 0xE0 ≤ b → b < 0xF0 → lengthOf b ≡ 3
+  unfolding lengthOf
+  length-three l h =
+      simp (
+        lt-leb b 0x7F (omega arith),
+        le-leb 0xC2 b (omega arith),
+        lt-leb b 0xDF (omega arith),
+        le-leb 0xE0 b (omega arith),
+        le-leb b 0xEF (omega arith),
+      )
+
+  pub length-four : 0xF0 ≤ b → b < 0xF5 → lengthOf b ≡ 4
+  unfolding lengthOf
+  length-four l h =
+      simp (
+        lt-leb b 0x7F (omega arith),
+        le-leb 0xC2 b (omega arith),
+        lt-leb b 0xDF (omega arith),
+        le-leb 0xE0 b (omega arith),
+        lt-leb b 0xEF (omega arith),
+        le-leb 0xF0 b (omega arith),
+        le-leb b 0xF4 (omega arith),
+      )
+
+  pub length-high : 0xF5 ≤ b → lengthOf b ≡ 0
+  unfolding lengthOf
+  length-high l =
+      simp (
+        lt-leb b 0x7F (omega arith),
+        le-leb 0xC2 b (omega arith),
+        lt-leb b 0xDF (omega arith),
+        le-leb 0xE0 b (omega arith),
+        lt-leb b 0xEF (omega arith),
+        le-leb 0xF0 b (omega arith),
+        lt-leb b 0xF4 (omega arith),
+      )
 
 module _ (b : ℕ) where
   sum : entryOf b ≡ lengthOf b * 0x1_00_00 + secondLow b * 0x1_00 + secondHigh b

@@ -1,17 +1,17 @@
 -- The turns of `valid_up_to`: whole characters are passed one by one, and a run of ASCII is passed at once, each of its bytes a character.
 -- `Passed` composes, so that each function only says what it passes itself. Assumes nothing.
 use mathlib.Core.Path.{_≡_, refl, sym, ap, _∙_}
-use mathlib.Core.Bool.{Bool, true, false}
+use mathlib.Core.Bool.{Bool, true, false, cond}
 use mathlib.Core.List.{List}
 use Prim.Native.Nat.{ℕ, zero, suc, _+_, _-_, _≤_, _<_}
 use native.Mathlib.Omega.{arith}
 use borrow.Author.Tests.{ltb-true, ltb-false}
 use lib.Dec.{ltb}
 use lib.ListN.{length, getD, drop}
-use Rattle.text.specs.Text.{lengthOf, character, validUpTo}
-use Rattle.text.specs.Passing.{Ascii, Passed}
-use Rattle.text.proofs.Characters.{ascii-length}
-use Rattle.text.proofs.Reading.{character-short}
+use Rattle.text.specs.Text.{tail, lengthOf, character, validUpTo, characters}
+use Rattle.text.specs.Passing.{Ascii, Passed, Counted}
+use Rattle.text.proofs.Entries.{length-ascii}
+use Rattle.text.proofs.Reading.{character-short, characters-one, at-most-one}
 use Rattle.text.proofs.Valid.{valid-turn, turn-inside}
 
 -- ---- a run of ASCII
@@ -46,7 +46,7 @@ passed-found s i (suc n) h e = passed-character s i (suc n) e (omega arith)
 
 pub passed-byte : (s : List ℕ) (i : ℕ) → i < length s → getD s i 0 < 0x80 → Passed s i (i + 1)
 passed-byte s i h b =
-    let one : lengthOf (getD s i 0) ≡ 1 = ascii-length (getD s i 0) b in
+    let one : lengthOf (getD s i 0) ≡ 1 = length-ascii (getD s i 0) b in
     passed-character s i 1 (character-short s i h (omega arith) ∙ one) (omega arith)
 
 pub passed-ascii : (n : ℕ) (s : List ℕ) (i : ℕ) → i + n ≤ length s → Ascii s i (i + n) → Passed s i (i + n)
@@ -56,3 +56,22 @@ passed-ascii (suc n) s i h run =
     let first : Passed s i (i + 1) = passed-byte s i (omega arith) (run i (omega arith) (omega arith)) in
     let later : Passed s (i + 1) (i + 1 + n) = passed-ascii n s (i + 1) (omega arith) (λ k p q. run k (omega arith) (omega arith)) in
     rw e at (passed-on s i (i + 1) (i + 1 + n) first later)
+
+-- ---- what is counted
+
+pub counted-none : (s : List ℕ) (i : ℕ) → Counted s i i 0
+counted-none s i = record { few = omega arith; counted = omega arith }
+
+pub counted-on : (s : List ℕ) (i j k m n : ℕ) → Counted s i j m → Counted s j k n → Counted s i k (m + n)
+counted-on s i j k m n p q = record { few = omega arith; counted = omega arith }
+
+pub counted-one : (s : List ℕ) (i n : ℕ) → i < length s → n ≡ cond (tail (getD s i 0)) 0 1 → Counted s i (i + 1) n
+counted-one s i n h e =
+    record { few = omega (arith, at-most-one (tail (getD s i 0))); counted = omega (arith, characters-one s i h) }
+
+-- one byte more
+pub counted-byte :
+    (s : List ℕ) (i k m n : ℕ) → Counted s i (i + k) m → i + k < length s → n ≡ cond (tail (getD s (i + k) 0)) 0 1 → Counted s i (i + (k + 1)) (m + n)
+counted-byte s i k m n p h e =
+    let next : i + k + 1 ≡ i + (k + 1) = omega arith in
+    rw next at (counted-on s i (i + k) (i + k + 1) m n p (counted-one s (i + k) n h e))

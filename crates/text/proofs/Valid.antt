@@ -11,7 +11,6 @@ use lib.ListN.{length, getD, take, drop, length-append, length-take, length-drop
 use lib.Seq.{take-add, take-length, take-all, drop-at, take-at, drop-append-le, drop-drop, length-take-le, drop-length}
 use Rattle.text.specs.Text.{lengthOf, character, validIn, validUpTo, wellFormed, boundary}
 use Rattle.text.proofs.Characters.{Front, one, Found, none, here, found, character-front, front-character, front-positive, front-inside, front-append, front-take}
-use Rattle.text.proofs.Characters.{ascii-length}
 
 -- ---- the recursion with a bound
 

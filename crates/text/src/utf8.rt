@@ -4,7 +4,8 @@ ghost use mathlib.Core.Path.{_≡_};
 ghost use mathlib.Core.Bool.{cond};
 ghost use Prim.Native.Nat.{_+_, _/_, _%_, _≤_, _<_};
 ghost use lib.ListN.{length, drop};
-ghost use Rattle.text.specs.Passing.{Ascii, Passed, Stepped};
+ghost use Rattle.text.specs.Lead.{IsLead};
+ghost use Rattle.text.specs.Passing.{Ascii, Passed, Stepped, Counted};
 ghost use Rattle.text.specs.Text.{within, tail, tails, character, validUpTo, boundary, characters};
 
 // 80-BF: the byte continues a character.
@@ -40,13 +41,14 @@ fn are_tails(s: &[u8], i: usize, n: usize) -> bool
 }
 
 // How many bytes the well-formed character at i takes; 0 where there is none.
-fn character_at(s: &[u8], i: usize) -> usize
+fn character_at(table: &[u32; 256], s: &[u8], i: usize) -> usize
+    requires { ⌜ IsLead (now table) ⌝ }
     ensures { λ r. ⌜ r ≡ character (drop i (now (s .entry))) ⌝ }
 {
     if s.len() <= i {
         return 0;
     }
-    let entry = lead::entry(s[i]);
+    let entry = lead::entry(table, s[i]);
     let n = (entry / 0x1_00_00) as usize;
     if n < 2 {
         return n;
@@ -63,13 +65,13 @@ fn character_at(s: &[u8], i: usize) -> usize
     n
 }
 
-// How many bytes of a run of ASCII are looked at together, without a branch between them.
-const BLOCK: usize = 32;
+// How many bytes are looked at together, without a branch between them.
+const BLOCK: usize = 64;
 
 // How many of the BLOCK bytes at i are not ASCII.
 fn high_bytes(s: &[u8], i: usize) -> u8
-    requires { ⌜ i + 32 ≤ length (now s) ⌝ }
-    ensures { λ r. ⌜ (r ≡ 0 → Ascii (now (s .entry)) i (i + 32)) ⌝ }
+    requires { ⌜ i + 64 ≤ length (now s) ⌝ }
+    ensures { λ r. ⌜ (r ≡ 0 → Ascii (now (s .entry)) i (i + 64)) ⌝ }
 {
     let mut n: u8 = 0;
     let mut k: usize = 0;
@@ -111,29 +113,49 @@ fn past_ascii(s: &[u8], i: usize) -> usize
 }
 
 // The end of the run of ASCII or of the one longer character at i; i itself where none begins there.
-fn step(s: &[u8], i: usize) -> usize
-    requires { ⌜ i < length (now s) ⌝ }
+fn step(table: &[u32; 256], s: &[u8], i: usize) -> usize
+    requires { ⌜ IsLead (now table) × (i < length (now s)) ⌝ }
     ensures { λ r. ⌜ Stepped (now (s .entry)) i r ⌝ }
 {
     if s[i] < 128 {
         return past_ascii(s, i + 1);
     }
-    i + character_at(s, i)
+    i + character_at(table, s, i)
 }
 
-// The length of the longest prefix made of whole well-formed characters.
+// Where the whole well-formed characters from i on end.
+fn valid_by(table: &[u32; 256], s: &[u8], i: usize) -> usize
+    requires { ⌜ IsLead (now table) × (i ≤ length (now s)) ⌝ }
+    ensures { λ r. ⌜ r ≡ i + validUpTo (drop i (now (s .entry))) ⌝ }
+{
+    let mut at = i;
+    while at < s.len() {
+        let next = step(table, s, at);
+        if next == at {
+            return at;
+        }
+        at = next;
+    }
+    at
+}
+
+// The same with the lead table, which is laid out once for the text.
+fn valid_from(s: &[u8], i: usize) -> usize
+    requires { ⌜ i ≤ length (now s) ⌝ }
+    ensures { λ r. ⌜ r ≡ i + validUpTo (drop i (now (s .entry))) ⌝ }
+{
+    valid_by(&lead::LEAD, s, i)
+}
+
+// The length of the longest prefix made of whole well-formed characters. A text of ASCII alone needs no table.
 pub fn valid_up_to(s: &[u8]) -> usize
     ensures { λ r. ⌜ r ≡ validUpTo (now (s .entry)) ⌝ }
 {
-    let mut i = 0;
-    while i < s.len() {
-        let j = step(s, i);
-        if j == i {
-            return i;
-        }
-        i = j;
+    let i = past_ascii(s, 0);
+    if i == s.len() {
+        return i;
     }
-    i
+    valid_from(s, i)
 }
 
 // A character begins at i, or the text ends there.
@@ -147,7 +169,7 @@ pub fn is_boundary(s: &[u8], i: usize) -> bool
 }
 
 // 1 where the byte begins a character, 0 where it continues one.
-fn begins(b: u8) -> usize
+fn begins(b: u8) -> u8
     ensures { λ r. ⌜ r ≡ cond (tail b) 0 1 ⌝ }
 {
     if is_tail(b) {
@@ -156,15 +178,43 @@ fn begins(b: u8) -> usize
     1
 }
 
+// How many of the BLOCK bytes at i begin a character.
+fn begun(s: &[u8], i: usize) -> u8
+    requires { ⌜ i + 64 ≤ length (now s) ⌝ }
+    ensures { λ r. ⌜ Counted (now (s .entry)) i (i + 64) r ⌝ }
+{
+    let mut n: u8 = 0;
+    let mut k: usize = 0;
+    while k < BLOCK {
+        n += begins(s[i + k]);
+        k += 1;
+    }
+    n
+}
+
+// How many bytes from i on begin a character, one by one.
+fn begun_from(s: &[u8], i: usize) -> usize
+    requires { ⌜ i ≤ length (now s) ⌝ }
+    ensures { λ r. ⌜ Counted (now (s .entry)) i (length (now (s .entry))) r ⌝ }
+{
+    let mut n: usize = 0;
+    let mut at = i;
+    while at < s.len() {
+        n += begins(s[at]) as usize;
+        at += 1;
+    }
+    n
+}
+
 // How many characters a well-formed text has: the bytes that begin one.
 pub fn characters(s: &[u8]) -> usize
     ensures { λ r. ⌜ r ≡ characters (now (s .entry)) ⌝ }
 {
     let mut n: usize = 0;
     let mut i = 0;
-    while i < s.len() {
-        n += begins(s[i]);
-        i += 1;
+    while BLOCK <= s.len() - i {
+        n += begun(s, i) as usize;
+        i += BLOCK;
     }
-    n
+    n + begun_from(s, i)
 }

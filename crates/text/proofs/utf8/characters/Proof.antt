@@ -1,45 +1,43 @@
--- `text::utf8::characters` meets its contract. The loop's invariant: what was counted and what is left to count are the whole. Assumes nothing.
-use mathlib.Core.Path.{_≡_, _∙_}
+-- `text::utf8::characters` meets its contract. The loop's invariant: the characters of the blocks so far are counted. Assumes nothing.
+use mathlib.Core.Path.{_≡_}
 use mathlib.Core.List.{List}
 use Prim.Native.Nat.{ℕ, _+_, _-_, _≤_}
 use native.Mathlib.Omega.{arith}
 use borrow.Author.Needs.{needs}
-use lib.ListN.{length, getD, drop}
-use Rattle.text.specs.Text.{tail, characters}
-use Rattle.text.proofs.Reading.{at-most-one, characters-one, characters-past}
+use lib.ListN.{length}
+use Rattle.text.specs.Passing.{Counted}
+use Rattle.text.proofs.Passing.{counted-none, counted-on}
+use Rattle.text.proofs.Reading.{characters-past}
 use Rattle.text.proofs.utf8.characters.Statement.{statement}
 use Rattle.text.proofs.utf8.characters.Tie as tie
 
 abbrev Inv-loop : tie.InvT-loop
-Inv-loop s n₀ i₀ n i = (i ≤ length s) × (n ≤ i) × (characters s ≡ n + characters (drop i s))
+Inv-loop s n₀ i₀ n i = (i ≤ length s) × Counted s 0 i n
 
 abbrev μ-loop : tie.MeasureT-loop
 μ-loop s n₀ i₀ n i = length s - i
 
--- the text and the position at the loop's head, and the way back to it from after the call
+-- the text and the position at the loop's head
 abbrev text : tie.At-loop Inv-loop μ-loop → List ℕ
 text c = c .before .before .args .s .now
 
 abbrev place : tie.At-loop Inv-loop μ-loop → ℕ
 place c = c .loop .i
 
-abbrev head : tie.After-begins Inv-loop μ-loop → tie.At-loop Inv-loop μ-loop
-head c = c .before .before .before
-
-small : (c : tie.After-begins Inv-loop μ-loop) → c .begins .result ≤ 1
-small c = omega (arith, c .begins .ensures, at-most-one (tail (getD (text (head c)) (place (head c)) 0)))
-
 loop-holds : tie.Need-loop-holds Inv-loop μ-loop
-loop-holds c = omega arith
+loop-holds c = (omega arith, counted-none (c .before .args .s .now) 0)
 
-shared-slice-read-begins : tie.Need-shared-slice-read-begins Inv-loop μ-loop
-shared-slice-read-begins c = search needs
+sub-loop : tie.Need-sub-loop Inv-loop μ-loop
+sub-loop c = omega arith
 
-begins-requires : tie.Need-begins-requires Inv-loop μ-loop
-begins-requires c κs = search needs
+begun-requires : tie.Need-begun-requires Inv-loop μ-loop
+begun-requires c κs = omega arith
+
+cast-n : tie.Need-cast-n Inv-loop μ-loop
+cast-n c = search needs
 
 add-n : tie.Need-add-n Inv-loop μ-loop
-add-n c = omega (arith, small c)
+add-n c = omega arith
 
 add-i : tie.Need-add-i Inv-loop μ-loop
 add-i c = omega arith
@@ -48,10 +46,20 @@ loop-less : tie.Need-loop-less Inv-loop μ-loop
 loop-less c = omega arith
 
 loop-again : tie.Need-loop-again Inv-loop μ-loop
-loop-again c = omega (arith, small c, characters-one (text (head c)) (place (head c)) (omega arith))
+loop-again c =
+    let h = c .before .before in
+    (omega arith, counted-on (text h) 0 (place h) (place h + 64) (h .loop .n) (c .begun .result) (h .loop .inv .1) (c .begun .ensures))
+
+begun-from-requires : tie.Need-begun-from-requires Inv-loop μ-loop
+begun-from-requires c κs = omega arith
+
+add-result : tie.Need-add-result Inv-loop μ-loop
+add-result c = omega arith
 
 returns : tie.Need-returns Inv-loop μ-loop
-returns c = omega (arith, characters-past (text (c .before)) (place (c .before)) (omega arith))
+returns c =
+    let s = text (c .before .before) in
+    omega (arith, c .begun-from .ensures .counted, characters-past s (length s) (omega arith))
 
 pub characters-spec : {M : Type 1} → statement M
 characters-spec =
@@ -60,10 +68,13 @@ characters-spec =
     Inv-loop
     μ-loop
     loop-holds
-    shared-slice-read-begins
-    begins-requires
+    sub-loop
+    begun-requires
+    cast-n
     add-n
     add-i
     loop-less
     loop-again
+    begun-from-requires
+    add-result
     returns)

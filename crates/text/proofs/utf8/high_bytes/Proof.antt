@@ -11,10 +11,10 @@ use Rattle.text.proofs.utf8.high_bytes.Statement.{statement}
 use Rattle.text.proofs.utf8.high_bytes.Tie as tie
 
 abbrev Inv-loop : tie.InvT-loop
-Inv-loop s i n₀ k₀ n k = (k ≤ 32) × (n ≤ k) × (n ≡ 0 → Ascii s i (i + k))
+Inv-loop s i n₀ k₀ n k = (k ≤ 64) × (n ≤ k) × (n ≡ 0 → Ascii s i (i + k))
 
 abbrev μ-loop : tie.MeasureT-loop
-μ-loop s i n₀ k₀ n k = 32 - k
+μ-loop s i n₀ k₀ n k = 64 - k
 
 loop-holds : tie.Need-loop-holds Inv-loop μ-loop
 loop-holds c = (omega arith, omega arith, λ e. ascii-none (c .args .s .now) (c .args .i))

@@ -37,8 +37,8 @@ loop-again c =
     let h = c .before .before .before in
     let a = h .before .before .args in
     let at = h .loop .at in
-    passed-on (a .s .now) (a .i) at (at + 32) (h .loop .inv)
-    (passed-ascii 32 (a .s .now) at (omega arith) (c .before .high-bytes .ensures (omega arith)))
+    passed-on (a .s .now) (a .i) at (at + 64) (h .loop .inv)
+    (passed-ascii 64 (a .s .now) at (omega arith) (c .before .high-bytes .ensures (omega arith)))
 
 returns-2 : tie.Need-returns-2 Inv-loop μ-loop
 returns-2 c = c .before .loop .inv

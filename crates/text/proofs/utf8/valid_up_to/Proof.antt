@@ -1,51 +1,24 @@
--- `text::utf8::valid_up_to` meets its contract. The loop's invariant: whole characters were passed so far. What is left of the length
--- falls; a step that stays ends the loop, for nothing more is valid. Assumes nothing.
+-- `text::utf8::valid_up_to` meets its contract: what is valid is the run of ASCII in front and what is valid after it. Assumes nothing.
 use mathlib.Core.Path.{_≡_}
-use mathlib.Core.List.{List}
-use Prim.Native.Nat.{ℕ, _-_}
 use native.Mathlib.Omega.{arith}
 use borrow.Author.Needs.{needs}
-use lib.ListN.{length}
-use Rattle.text.specs.Passing.{Passed}
-use Rattle.text.proofs.Passing.{passed-none, passed-on}
 use Rattle.text.proofs.Valid.{valid-past}
 use Rattle.text.proofs.utf8.valid_up_to.Statement.{statement}
 use Rattle.text.proofs.utf8.valid_up_to.Tie as tie
 
-abbrev Inv-loop : tie.InvT-loop
-Inv-loop s i₀ i = Passed s 0 i
+past-ascii-requires : tie.Need-past-ascii-requires
+past-ascii-requires c κs = search needs
 
-abbrev μ-loop : tie.MeasureT-loop
-μ-loop s i₀ i = length s - i
-
--- the text at the loop's head
-abbrev text : tie.At-loop Inv-loop μ-loop → List ℕ
-text c = c .before .before .args .s .now
-
-loop-holds : tie.Need-loop-holds Inv-loop μ-loop
-loop-holds c = passed-none (c .before .args .s .now) 0 (omega arith)
-
-step-requires : tie.Need-step-requires Inv-loop μ-loop
-step-requires c κs = search needs
-
-returns : tie.Need-returns Inv-loop μ-loop
+returns : tie.Need-returns
 returns c =
-    let h = c .before .before .before in
-    omega (arith, h .loop .inv .same, c .before .step .ensures .stuck (c .if1 .taken))
+    let run = c .before in
+    omega (arith, run .past-ascii .ensures .same, valid-past (run .before .before .args .s .now) (run .past-ascii .result) (omega arith))
 
-loop-less : tie.Need-loop-less Inv-loop μ-loop
-loop-less c = omega (arith, c .before .step .ensures .passed)
+valid-from-requires : tie.Need-valid-from-requires
+valid-from-requires c κs = search needs
 
-loop-again : tie.Need-loop-again Inv-loop μ-loop
-loop-again c =
-    let h = c .before .before .before in
-    passed-on (text h) 0 (h .loop .i) (c .before .step .result) (h .loop .inv) (c .before .step .ensures .passed)
-
-returns-2 : tie.Need-returns-2 Inv-loop μ-loop
-returns-2 c =
-    let h = c .before in
-    omega (arith, h .loop .inv .same, valid-past (text h) (h .loop .i) (omega arith))
+returns-2 : tie.Need-returns-2
+returns-2 c = search needs
 
 pub valid-up-to-spec : {M : Type 1} → statement M
-valid-up-to-spec =
-    tie.close (tie.spec Inv-loop μ-loop loop-holds step-requires returns loop-less loop-again returns-2)
+valid-up-to-spec = tie.close (tie.spec past-ascii-requires returns valid-from-requires returns-2)
