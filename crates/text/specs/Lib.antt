@@ -1,4 +1,6 @@
--- RFC 3629, and the span check.
+-- RFC 3629, the number that an entry of its table is, and the span check.
 pub mod Text
+pub mod Lead
+pub mod Passing
 pub mod Span
 pub mod Ascii

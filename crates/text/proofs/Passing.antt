@@ -1,0 +1,77 @@
+-- The turns of `valid_up_to`: whole characters are passed one by one, and a run of ASCII is passed at once, each of its bytes a character.
+-- `Passed` composes, so that each function only says what it passes itself. Assumes nothing.
+use mathlib.Core.Path.{_≡_, refl, sym, ap, _∙_}
+use mathlib.Core.Bool.{Bool, true, false, cond}
+use mathlib.Core.List.{List}
+use Prim.Native.Nat.{ℕ, zero, suc, _+_, _-_, _≤_, _<_}
+use native.Mathlib.Omega.{arith}
+use borrow.Author.Tests.{ltb-true, ltb-false}
+use lib.Dec.{ltb}
+use lib.ListN.{length, getD, drop}
+use Rattle.text.specs.Text.{tail, lengthOf, character, validUpTo, characters}
+use Rattle.text.specs.Passing.{Ascii, Passed, Counted}
+use Rattle.text.proofs.Entries.{length-ascii}
+use Rattle.text.proofs.Reading.{character-short, characters-one, at-most-one}
+use Rattle.text.proofs.Valid.{valid-turn, turn-inside}
+
+-- ---- a run of ASCII
+
+pub ascii-none : (s : List ℕ) (i : ℕ) → Ascii s i (i + 0)
+ascii-none s i k p q = absurd (omega arith)
+
+pub ascii-more : (s : List ℕ) (i n : ℕ) → Ascii s i (i + n) → getD s (i + n) 0 < 0x80 → Ascii s i (i + (n + 1))
+ascii-more s i n run last k p q = go (ltb k (i + n)) refl
+  where
+    go : (t : Bool) → ltb k (i + n) ≡ t → getD s k 0 < 0x80
+    go true e = run k p (ltb-true k (i + n) e)
+    go false e =
+        let here : k ≡ i + n = omega (arith, ltb-false k (i + n) e) in
+        rw here last
+
+-- ---- what is passed
+
+pub passed-none : (s : List ℕ) (i : ℕ) → i ≤ length s → Passed s i i
+passed-none s i h = record { above = omega arith; inside = h; same = refl }
+
+pub passed-on : (s : List ℕ) (i j k : ℕ) → Passed s i j → Passed s j k → Passed s i k
+passed-on s i j k p q = record { above = omega arith; inside = q .inside; same = p .same ∙ q .same }
+
+pub passed-character : (s : List ℕ) (i n : ℕ) → character (drop i s) ≡ n → 0 < n → Passed s i (i + n)
+passed-character s i n e p = record { above = omega arith; inside = turn-inside s i n e p; same = valid-turn s i n e p }
+
+-- also where there is none
+pub passed-found : (s : List ℕ) (i n : ℕ) → i ≤ length s → character (drop i s) ≡ n → Passed s i (i + n)
+passed-found s i zero h e = let still : i + 0 ≡ i = omega arith in rw still (passed-none s i h)
+passed-found s i (suc n) h e = passed-character s i (suc n) e (omega arith)
+
+pub passed-byte : (s : List ℕ) (i : ℕ) → i < length s → getD s i 0 < 0x80 → Passed s i (i + 1)
+passed-byte s i h b =
+    let one : lengthOf (getD s i 0) ≡ 1 = length-ascii (getD s i 0) b in
+    passed-character s i 1 (character-short s i h (omega arith) ∙ one) (omega arith)
+
+pub passed-ascii : (n : ℕ) (s : List ℕ) (i : ℕ) → i + n ≤ length s → Ascii s i (i + n) → Passed s i (i + n)
+passed-ascii zero s i h run = let e : i + 0 ≡ i = omega arith in rw e (passed-none s i (omega arith))
+passed-ascii (suc n) s i h run =
+    let e : i + 1 + n ≡ i + suc n = omega arith in
+    let first : Passed s i (i + 1) = passed-byte s i (omega arith) (run i (omega arith) (omega arith)) in
+    let later : Passed s (i + 1) (i + 1 + n) = passed-ascii n s (i + 1) (omega arith) (λ k p q. run k (omega arith) (omega arith)) in
+    rw e at (passed-on s i (i + 1) (i + 1 + n) first later)
+
+-- ---- what is counted
+
+pub counted-none : (s : List ℕ) (i : ℕ) → Counted s i i 0
+counted-none s i = record { few = omega arith; counted = omega arith }
+
+pub counted-on : (s : List ℕ) (i j k m n : ℕ) → Counted s i j m → Counted s j k n → Counted s i k (m + n)
+counted-on s i j k m n p q = record { few = omega arith; counted = omega arith }
+
+pub counted-one : (s : List ℕ) (i n : ℕ) → i < length s → n ≡ cond (tail (getD s i 0)) 0 1 → Counted s i (i + 1) n
+counted-one s i n h e =
+    record { few = omega (arith, at-most-one (tail (getD s i 0))); counted = omega (arith, characters-one s i h) }
+
+-- one byte more
+pub counted-byte :
+    (s : List ℕ) (i k m n : ℕ) → Counted s i (i + k) m → i + k < length s → n ≡ cond (tail (getD s (i + k) 0)) 0 1 → Counted s i (i + (k + 1)) (m + n)
+counted-byte s i k m n p h e =
+    let next : i + k + 1 ≡ i + (k + 1) = omega arith in
+    rw next at (counted-on s i (i + k) (i + k + 1) m n p (counted-one s (i + k) n h e))

@@ -1,0 +1,65 @@
+-- `text::utf8::are_tails` meets its contract: `tails` takes a step for each byte that is read. Assumes nothing.
+use mathlib.Core.Path.{_≡_, sym, _∙_}
+use mathlib.Core.Bool.{true, false}
+use Prim.Native.Nat.{ℕ, _+_}
+use lib.ListN.{getD}
+use native.Mathlib.Omega.{arith}
+use borrow.Author.Needs.{needs}
+use borrow.Author.Tests.{not-true, not-false}
+use Rattle.text.specs.Text.{tail}
+use Rattle.text.proofs.Reading.{tails-none, tails-first, tails-only, tails-two}
+use Rattle.text.proofs.utf8.are_tails.Statement.{statement}
+use Rattle.text.proofs.utf8.are_tails.Tie as tie
+
+returns : tie.Need-returns
+returns c = let a = c .before .before .args in sym (tails-none (a .s .now) (a .i) (a .n) (c .if1 .taken))
+
+shared-slice-read-is-tail : tie.Need-shared-slice-read-is-tail
+shared-slice-read-is-tail c = search needs
+
+is-tail-requires : tie.Need-is-tail-requires
+is-tail-requires c κs = search needs
+
+returns-2 : tie.Need-returns-2
+returns-2 c =
+    let a = c .before .before .before .before .before .args in
+    sym (tails-first (a .s .now) (a .i) (a .n) (omega arith) (omega arith) (sym (c .before .is-tail .ensures) ∙ not-true _ (c .if2 .taken)))
+
+returns-3 : tie.Need-returns-3
+returns-3 c =
+    let a = c .before .before .before .before .before .before .args in
+    sym
+    (tails-only (a .s .now) (a .i) (a .n) (omega arith) (omega arith)
+    (sym (c .before .before .is-tail .ensures) ∙ not-false _ (c .before .if2 .left)))
+
+add-is-tail : tie.Need-add-is-tail
+add-is-tail c = search needs
+
+shared-slice-read-is-tail-2 : tie.Need-shared-slice-read-is-tail-2
+shared-slice-read-is-tail-2 c = search needs
+
+is-tail-requires-2 : tie.Need-is-tail-requires-2
+is-tail-requires-2 c κs = search needs
+
+returns-4 : tie.Need-returns-4
+returns-4 c =
+    let a = c .before .before .before .before .before .before .before .before .args in
+    let first = c .before .before .before .before in
+    c .is-tail2 .ensures
+    ∙ sym
+    (tails-two (a .s .now) (a .i) (a .n) (omega arith) (omega arith)
+    (sym (first .is-tail .ensures) ∙ not-false _ (c .before .before .before .if2 .left)))
+
+pub are-tails-spec : {M : Type 1} → statement M
+are-tails-spec =
+    tie.close
+    (tie.spec
+    returns
+    shared-slice-read-is-tail
+    is-tail-requires
+    returns-2
+    returns-3
+    add-is-tail
+    shared-slice-read-is-tail-2
+    is-tail-requires-2
+    returns-4)

@@ -1,0 +1,63 @@
+-- `text::utf8::high_bytes` meets its contract. The loop's invariant: while nothing was counted, all bytes so far are ASCII; a byte adds 0
+-- exactly where it is below 128. Assumes nothing.
+use mathlib.Core.Path.{_≡_}
+use mathlib.Core.List.{List}
+use Prim.Native.Nat.{ℕ, _+_, _-_, _≤_}
+use native.Mathlib.Omega.{arith}
+use lib.ListN.{getD}
+use Rattle.text.specs.Passing.{Ascii}
+use Rattle.text.proofs.Passing.{ascii-none, ascii-more}
+use Rattle.text.proofs.utf8.high_bytes.Statement.{statement}
+use Rattle.text.proofs.utf8.high_bytes.Tie as tie
+
+abbrev Inv-loop : tie.InvT-loop
+Inv-loop s i n₀ k₀ n k = (k ≤ 64) × (n ≤ k) × (n ≡ 0 → Ascii s i (i + k))
+
+abbrev μ-loop : tie.MeasureT-loop
+μ-loop s i n₀ k₀ n k = 64 - k
+
+loop-holds : tie.Need-loop-holds Inv-loop μ-loop
+loop-holds c = (omega arith, omega arith, λ e. ascii-none (c .args .s .now) (c .args .i))
+
+add-n : tie.Need-add-n Inv-loop μ-loop
+add-n c = omega arith
+
+shared-slice-read-n : tie.Need-shared-slice-read-n Inv-loop μ-loop
+shared-slice-read-n c = omega arith
+
+-- the byte that was read is one
+byte : (c : tie.After-shared-slice-known Inv-loop μ-loop) → getD (c .before .before .before .args .s .now) (c .before .before .before .args .i + c .before .before .loop .k) 0 ≤ 255
+byte c = omega (arith, c .shared-slice-known .given (c .before .before .before .args .i + c .before .before .loop .k))
+
+add-n-2 : tie.Need-add-n-2 Inv-loop μ-loop
+add-n-2 c = omega (arith, byte c)
+
+add-k : tie.Need-add-k Inv-loop μ-loop
+add-k c = omega arith
+
+loop-less : tie.Need-loop-less Inv-loop μ-loop
+loop-less c = omega arith
+
+loop-again : tie.Need-loop-again Inv-loop μ-loop
+loop-again c =
+    let h = c .before .before in
+    let a = h .before .args in
+    (omega arith, omega (arith, byte c), λ e. ascii-more (a .s .now) (a .i) (h .loop .k) (h .loop .inv .2 (omega arith)) (omega arith))
+
+returns : tie.Need-returns Inv-loop μ-loop
+returns c e k p q = c .before .loop .inv .2 e k p (omega arith)
+
+pub high-bytes-spec : {M : Type 1} → statement M
+high-bytes-spec =
+    tie.close
+    (tie.spec
+    Inv-loop
+    μ-loop
+    loop-holds
+    add-n
+    shared-slice-read-n
+    add-n-2
+    add-k
+    loop-less
+    loop-again
+    returns)

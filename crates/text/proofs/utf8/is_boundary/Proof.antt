@@ -1,0 +1,26 @@
+-- `text::utf8::is_boundary` meets its contract: inside the text the byte decides, at and past its end the position. Assumes nothing.
+use mathlib.Core.Path.{_≡_, sym, ap, _∙_}
+use mathlib.Core.Bool.{not}
+use borrow.Author.Needs.{needs}
+use Rattle.text.proofs.Reading.{boundary-inside, boundary-outside}
+use Rattle.text.proofs.utf8.is_boundary.Statement.{statement}
+use Rattle.text.proofs.utf8.is_boundary.Tie as tie
+
+shared-slice-read-is-tail : tie.Need-shared-slice-read-is-tail
+shared-slice-read-is-tail c = search needs
+
+is-tail-requires : tie.Need-is-tail-requires
+is-tail-requires c κs = search needs
+
+returns : tie.Need-returns
+returns c =
+    let a = c .before .before .before .before .args in
+    ap not (c .is-tail .ensures) ∙ sym (boundary-inside (a .s .now) (a .i) (c .before .before .if1 .taken))
+
+returns-2 : tie.Need-returns-2
+returns-2 c =
+    let a = c .before .before .args in
+    sym (boundary-outside (a .s .now) (a .i) (c .if1 .left))
+
+pub is-boundary-spec : {M : Type 1} → statement M
+is-boundary-spec = tie.close (tie.spec shared-slice-read-is-tail is-tail-requires returns returns-2)

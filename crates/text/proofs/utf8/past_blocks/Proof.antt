@@ -1,0 +1,59 @@
+-- `text::utf8::past_blocks` meets its contract. The loop's invariant is the contract's, of what was passed so far. Assumes nothing.
+use Prim.Native.Nat.{ℕ, _+_, _-_}
+use native.Mathlib.Omega.{arith}
+use borrow.Author.Needs.{needs}
+use lib.ListN.{length}
+use Rattle.text.specs.Passing.{Passed}
+use Rattle.text.proofs.Passing.{passed-none, passed-on, passed-ascii}
+use Rattle.text.proofs.utf8.past_blocks.Statement.{statement}
+use Rattle.text.proofs.utf8.past_blocks.Tie as tie
+
+abbrev Inv-loop : tie.InvT-loop
+Inv-loop s i at₀ at = Passed s i at
+
+abbrev μ-loop : tie.MeasureT-loop
+μ-loop s i at₀ at = length s - at
+
+loop-holds : tie.Need-loop-holds Inv-loop μ-loop
+loop-holds c = passed-none (c .before .args .s .now) (c .before .args .i) (omega arith)
+
+sub-loop : tie.Need-sub-loop Inv-loop μ-loop
+sub-loop c = omega arith
+
+high-bytes-requires : tie.Need-high-bytes-requires Inv-loop μ-loop
+high-bytes-requires c κs = omega arith
+
+returns : tie.Need-returns Inv-loop μ-loop
+returns c = c .before .before .before .loop .inv
+
+add-at : tie.Need-add-at Inv-loop μ-loop
+add-at c = omega arith
+
+loop-less : tie.Need-loop-less Inv-loop μ-loop
+loop-less c = omega arith
+
+loop-again : tie.Need-loop-again Inv-loop μ-loop
+loop-again c =
+    let h = c .before .before .before in
+    let a = h .before .before .args in
+    let at = h .loop .at in
+    passed-on (a .s .now) (a .i) at (at + 64) (h .loop .inv)
+    (passed-ascii 64 (a .s .now) at (omega arith) (c .before .high-bytes .ensures (omega arith)))
+
+returns-2 : tie.Need-returns-2 Inv-loop μ-loop
+returns-2 c = c .before .loop .inv
+
+pub past-blocks-spec : {M : Type 1} → statement M
+past-blocks-spec =
+    tie.close
+    (tie.spec
+    Inv-loop
+    μ-loop
+    loop-holds
+    sub-loop
+    high-bytes-requires
+    returns
+    add-at
+    loop-less
+    loop-again
+    returns-2)

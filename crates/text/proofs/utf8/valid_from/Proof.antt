@@ -1,0 +1,18 @@
+-- `text::utf8::valid_from` meets its contract: RFC 3629's rule is one test, which antt computes over the whole table, and `entry-is`
+-- carries it to each entry. Assumes nothing.
+use Prim.Native.Nat.{_<_}
+use borrow.Author.Needs.{needs}
+use Rattle.text.specs.Lead.{entryOf}
+use Rattle.text.proofs.Table.{entry-is}
+use Rattle.text.proofs.utf8.valid_from.Statement.{statement}
+use Rattle.text.proofs.utf8.valid_from.Tie as tie
+
+valid-by-requires : tie.Need-valid-by-requires
+unfolding entryOf
+valid-by-requires c κs = (record { entry = λ b below. rw (entry-is entryOf) }, c .before .before .pre)
+
+returns : tie.Need-returns
+returns c = search needs
+
+pub valid-from-spec : {M : Type 1} → statement M
+valid-from-spec = tie.close (tie.spec valid-by-requires returns)

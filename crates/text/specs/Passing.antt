@@ -1,0 +1,26 @@
+-- What the parts of `valid_up_to` and `characters` promise one another. Definitions only; assumes nothing.
+use mathlib.Core.Path.{_≡_}
+use Prim.Native.Nat.{ℕ, _+_, _≤_, _<_}
+use mathlib.Core.List.{List}
+use lib.ListN.{length, getD, drop}
+use Rattle.text.specs.Text.{validUpTo, characters}
+
+-- the bytes from i up to j are ASCII, each a character by itself
+abbrev pub Ascii : List ℕ → ℕ → ℕ → Type 0
+Ascii s i j = (k : ℕ) → i ≤ k → k < j → getD s k 0 < 0x80
+
+-- from i up to j stand whole characters: what is valid from i on is what is valid from j on, and the bytes between
+pub record Passed (s : List ℕ) (i j : ℕ) : Type 0 where
+  pub above : i ≤ j
+  pub inside : j ≤ length s
+  pub same : i + validUpTo (drop i s) ≡ j + validUpTo (drop j s)
+
+-- a step from i came to j; it stays at i only where nothing from there on is valid
+pub record Stepped (s : List ℕ) (i j : ℕ) : Type 0 where
+  pub passed : Passed s i j
+  pub stuck : j ≡ i → validUpTo (drop i s) ≡ 0
+
+-- n of the bytes from i up to j begin a character
+pub record Counted (s : List ℕ) (i j n : ℕ) : Type 0 where
+  pub few : n + i ≤ j
+  pub counted : characters (drop i s) ≡ n + characters (drop j s)
