@@ -23,7 +23,8 @@ use Rattle.worked.proofs.Opened.{opened}
 use Rattle.trial.proofs.Trial.{UnigramTrial, WordpieceTrial, SpanTrial, slot, identical, allIdentical, sameTrie, sameSlot, sameSlots, saidAgrees, unigramAgrees, wordpieceAgrees, spanAgrees}
 ";
 
-const OPENED: &str = "opened identical allIdentical sameTrie sameSlot sameSlots saidAgrees unigramAgrees wordpieceAgrees spanAgrees";
+const OPENED: &str =
+    "opened identical allIdentical sameTrie sameSlot sameSlots saidAgrees unigramAgrees wordpieceAgrees spanAgrees";
 
 fn list<T>(xs: impl IntoIterator<Item = T>, show: impl Fn(T) -> String) -> String {
     let mut out = String::from("(");
@@ -66,7 +67,8 @@ fn write_unigram(w: &mut Written, r: &mut Random, k: usize) {
     let v = small::unigram(r);
     let lattice = Lattice::build(&v);
     let parts = lattice.parts();
-    let texts: Vec<String> = (0..4).map(|_| small::text(r)).collect();
+    let tokens: Vec<&str> = v.rows.iter().map(|row| row.0.as_str()).collect();
+    let texts: Vec<String> = (0..4).map(|_| small::text(r, &tokens)).collect();
     let said = list(&texts, |s| {
         let a = lattice.segment(s);
         let slots = list(&a.slots, |slot| match slot {
@@ -93,9 +95,10 @@ fn write_unigram(w: &mut Written, r: &mut Random, k: usize) {
 fn write_wordpiece(w: &mut Written, r: &mut Random, k: usize) {
     let v = small::wordpiece(r);
     let built = VocabTrie::build(&v);
+    let tokens: Vec<&str> = v.rows.iter().map(|row| row.0.as_str()).collect();
     let mut words = Vec::new();
     for _ in 0..4 {
-        let (word, max_chars) = (small::text(r), if r.one_in(3) { r.below(8) as u32 } else { 100 });
+        let (word, max_chars) = (small::text(r, &tokens), if r.one_in(3) { r.below(8) as u32 } else { 100 });
         let ids = built.encode(&word, max_chars);
         if word.is_empty() && !ids.is_empty() {
             // 01's one known difference: an absent prefix and an empty word
@@ -156,7 +159,8 @@ fn write_cases(seed: u64, count: usize) -> Written {
 /// A folder with the repository's crates, what is proved of them, and the crate `trial`.
 fn lay_out(root: &Path, folder: &Path, cases: &str) {
     let crates = fs::read_to_string(root.join("crates.txt")).expect("the repository has crates.txt");
-    let names: Vec<&str> = crates.lines().filter_map(|l| l.split('#').next()?.split_once(':')).map(|l| l.0.trim()).collect();
+    let names: Vec<&str> =
+        crates.lines().filter_map(|l| l.split('#').next()?.split_once(':')).map(|l| l.0.trim()).collect();
     fs::create_dir_all(folder.join("crates/trial/src")).unwrap();
     fs::create_dir_all(folder.join("crates/trial/proofs")).unwrap();
     fs::create_dir_all(folder.join("target")).unwrap();
@@ -164,7 +168,8 @@ fn lay_out(root: &Path, folder: &Path, cases: &str) {
         std::os::unix::fs::symlink(root.join("crates").join(name), folder.join("crates").join(name)).unwrap();
     }
     for part in ["rlib", "stamp"] {
-        let copied = Command::new("cp").arg("-r").arg(root.join("target").join(part)).arg(folder.join("target")).status();
+        let copied =
+            Command::new("cp").arg("-r").arg(root.join("target").join(part)).arg(folder.join("target")).status();
         assert!(copied.is_ok_and(|s| s.success()), "target/{part} is there once the crates are proved");
     }
     let below = "refusal text doubles trie rows build unigram wordpiece pack worked";
@@ -187,7 +192,9 @@ pub fn try_seed(root: &Path, seed: u64, count: usize) -> bool {
     let agrees = run.status.success() && said.contains("trial proved");
     let verdict = if agrees { "0 differences" } else { "DIFFERENT" };
     let (cases, theorems, apart, seconds) = (w.cases, w.about.len(), w.known_difference, began.elapsed().as_secs());
-    println!("definitions, seed {seed}: {cases} cases in {theorems} theorems, {verdict} ({apart} of the known difference left out; {seconds} s)");
+    println!(
+        "definitions, seed {seed}: {cases} cases in {theorems} theorems, {verdict} ({apart} of the known difference left out; {seconds} s)"
+    );
     if !agrees {
         let mut named = 0;
         for (name, about) in &w.about {

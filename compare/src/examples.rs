@@ -37,7 +37,10 @@ pub fn run() -> bool {
         ("10", w(&case, "##able", 100) == [2]),
         ("11", w(&[("a", 1), ("a", 2)], "a", 100) == [2]),
         ("12", w(&[("éé", 5)], "éé", 2) == [5] && w(&[("éé", 5)], "éé", 1) == [0]),
-        ("the pack case", w(&case, "unable", 100) == [1, 2] && w(&case, "", 100).is_empty() && w(&case, "unx", 100) == [0]),
+        (
+            "the pack case",
+            w(&case, "unable", 100) == [1, 2] && w(&case, "", 100).is_empty() && w(&case, "unx", 100) == [0],
+        ),
     ];
     let wrong: Vec<&str> = gives.iter().filter(|g| !g.1).map(|g| g.0).collect();
     println!("01's examples on the Rust: {} tried, {} different {wrong:?}", gives.len(), wrong.len());

@@ -1,6 +1,7 @@
 //! Compares the port and its definitions with the Rust of tokie, run unchanged.
 //!
 //!   compare examples                           01's examples on the Rust
+//!   compare sums [--print]                     the stored sums are the Rust's; or prints them
 //!   compare definitions [SEED..] [--cases N]   small random cases, the definitions computed by the checker
 //!
 //! Run from anywhere; the repository is the folder above this package.
@@ -9,6 +10,7 @@ mod definitions;
 mod examples;
 mod random;
 mod small;
+mod sums;
 mod tokie;
 
 use std::path::Path;
@@ -19,9 +21,14 @@ fn main() -> ExitCode {
     let args: Vec<String> = std::env::args().skip(1).collect();
     let agrees = match args.first().map(String::as_str) {
         Some("examples") => examples::run(),
+        Some("sums") if args.get(1).is_some_and(|w| w == "--print") => {
+            print!("{}", sums::lines());
+            true
+        }
+        Some("sums") => sums::stored(root),
         Some("definitions") => definitions_command(root, &args[1..]),
         _ => {
-            eprintln!("usage: compare examples | definitions [SEED..] [--cases N]");
+            eprintln!("usage: compare examples | sums [--print] | definitions [SEED..] [--cases N]");
             return ExitCode::from(2);
         }
     };

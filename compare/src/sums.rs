@@ -1,7 +1,10 @@
-// Makes crates/sums/stdin: stored sums and comparisons of Rust's own f64.
-//   rustc -O compare-sums.rs -o target/compare-sums && target/compare-sums > crates/sums/stdin
-// A line has the bits of a, of b and of a + b in 16 hexadecimal digits each, and 1 where a < b, else 0. a and b are finite.
+//! Sums and comparisons of Rust's own f64, which the program `sums` replays: crates/sums/stdin.
+//! A line has the bits of a, of b and of a + b in 16 hexadecimal digits each, and 1 where a < b, else 0. a and b are
+//! finite.
+
 use std::fmt::Write;
+use std::fs;
+use std::path::Path;
 
 struct Source(u64);
 
@@ -78,7 +81,8 @@ fn pair(kind: u64, s: &mut Source) -> (f64, f64) {
     }
 }
 
-fn main() {
+/// The lines, the same in every run.
+pub fn lines() -> String {
     let edges = [
         0.0,
         1.0,
@@ -112,5 +116,12 @@ fn main() {
         let sum = a + b;
         writeln!(out, "{:016x} {:016x} {:016x} {}", a.to_bits(), b.to_bits(), sum.to_bits(), u8::from(a < b)).unwrap();
     }
-    print!("{out}");
+    out
+}
+
+/// The stored lines are these.
+pub fn stored(root: &Path) -> bool {
+    let same = fs::read_to_string(root.join("crates/sums/stdin")).is_ok_and(|stored| stored == lines());
+    println!("the stored sums are {}the Rust's", if same { "" } else { "NOT " });
+    same
 }

@@ -76,7 +76,11 @@ pub struct VocabTrie {
 
 impl VocabTrie {
     pub fn build(v: &Wordpiece) -> Self {
-        VocabTrie { trie: wordpiece::VocabTrie::from_rows(v.rows.clone()), unknown: v.unknown, prefix: v.prefix.clone() }
+        VocabTrie {
+            trie: wordpiece::VocabTrie::from_rows(v.rows.clone()),
+            unknown: v.unknown,
+            prefix: v.prefix.clone(),
+        }
     }
 
     pub fn parts(&self) -> Parts {
