@@ -2,6 +2,9 @@
 //! function `text` are copied to the build folder, and a line after each copy includes the code that reads out what is
 //! private there (src/beside_unigram.rs and so on). Nothing of the sources stays in the repository.
 //!
+//! With the feature `port` the compiled port is linked too: target/staticlib/libexports.a, which `rt staticlib exports`
+//! writes.
+//!
 //! The sources are looked for in the folder that TOKIE_SRC names, else in ../shared/docs/src beside the repository.
 
 use std::path::{Path, PathBuf};
@@ -26,6 +29,13 @@ fn main() {
         println!("cargo:rerun-if-changed={}", beside.display());
         let copy = format!("{taken}\ninclude!({:?});\n", beside.display().to_string());
         fs::write(out.join(format!("{module}.rs")), copy).unwrap();
+    }
+
+    if env::var("CARGO_FEATURE_PORT").is_ok() {
+        let folder = here.join("../target/staticlib");
+        println!("cargo:rerun-if-changed={}", folder.join("libexports.a").display());
+        println!("cargo:rustc-link-search=native={}", folder.display());
+        println!("cargo:rustc-link-lib=static=exports");
     }
 
     let declare = |module: &str| {

@@ -4,13 +4,24 @@
 //!   compare sums [--print]                     the stored sums are the Rust's; or prints them
 //!   compare definitions [SEED..] [--cases N]   small random cases, the definitions computed by the checker
 //!
+//! Built with the feature `port`, which links the compiled port:
+//!
+//!   compare text [SEED] [--quick]              RFC 3629 against Rust's library, spans against tokie's
+//!   compare bench-text                         times
+//!
 //! Run from anywhere; the repository is the folder above this package.
 
+#[cfg(feature = "port")]
+mod bench;
 mod definitions;
 mod examples;
+#[cfg(feature = "port")]
+mod port;
 mod random;
 mod small;
 mod sums;
+#[cfg(feature = "port")]
+mod text;
 mod tokie;
 
 use std::path::Path;
@@ -27,8 +38,20 @@ fn main() -> ExitCode {
         }
         Some("sums") => sums::stored(root),
         Some("definitions") => definitions_command(root, &args[1..]),
+        #[cfg(feature = "port")]
+        Some("text") => {
+            let seed = args.get(1).and_then(|w| w.parse().ok()).unwrap_or(1);
+            text::run(seed, args.iter().any(|w| w == "--quick"))
+        }
+        #[cfg(feature = "port")]
+        Some("bench-text") => {
+            bench::texts();
+            true
+        }
         _ => {
-            eprintln!("usage: compare examples | sums [--print] | definitions [SEED..] [--cases N]");
+            eprintln!(
+                "usage: compare examples | sums [--print] | definitions [SEED..] [--cases N] | text [SEED] [--quick] | bench-text"
+            );
             return ExitCode::from(2);
         }
     };

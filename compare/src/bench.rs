@@ -1,0 +1,48 @@
+//! Times of the compiled port beside the Rust's, on the same inputs in the same process.
+
+use std::hint::black_box;
+use std::time::Instant;
+
+use crate::random::Random;
+use crate::{port, text};
+
+/// Nanoseconds a call: the least of some runs of many calls, so that other work on the machine counts little.
+pub fn nanoseconds<R>(mut call: impl FnMut() -> R) -> f64 {
+    let began = Instant::now();
+    let mut calls = 1u32;
+    // as many calls as take some 2 milliseconds
+    loop {
+        let start = Instant::now();
+        (0..calls).for_each(|_| _ = black_box(call()));
+        if start.elapsed().as_micros() > 2000 || began.elapsed().as_millis() > 200 {
+            break;
+        }
+        calls *= 2;
+    }
+    let run = |_| {
+        let start = Instant::now();
+        (0..calls).for_each(|_| _ = black_box(call()));
+        start.elapsed().as_nanos() as f64 / f64::from(calls)
+    };
+    (0..15).map(run).fold(f64::INFINITY, f64::min)
+}
+
+/// How far bytes are text, and how many characters they have.
+pub fn texts() {
+    println!(
+        "| text | bytes | from_utf8, ns | valid_up_to, ns | ratio | chars().count(), ns | characters, ns | ratio |"
+    );
+    println!("|---|---|---|---|---|---|---|---|");
+    let mut r = Random::new(1);
+    for (name, kind) in &text::KINDS[..4] {
+        for bytes in [16, 64, 256, 1024, 4096, 65536] {
+            let s = text::made_of(&mut r, kind, bytes);
+            let t = std::str::from_utf8(&s).unwrap();
+            let a = nanoseconds(|| std::str::from_utf8(black_box(&s)));
+            let b = nanoseconds(|| port::valid_up_to(black_box(&s)));
+            let c = nanoseconds(|| black_box(t).chars().count());
+            let d = nanoseconds(|| port::characters(black_box(&s)));
+            println!("| {name} | {} | {a:.1} | {b:.1} | {:.2} | {c:.1} | {d:.1} | {:.2} |", s.len(), b / a, d / c);
+        }
+    }
+}

@@ -1,0 +1,10 @@
+-- Answers as numbers, for callers in other languages. Definitions only; assumes nothing.
+use Prim.Native.Nat.{ℕ}
+use mathlib.Core.Option.{Option, none, some}
+use Rattle.refusal.specs.declared.Fault.{Fault}
+use Rattle.refusal.specs.Refusal.{number}
+
+-- 0 where there is no fault, else the paper's number
+abbrev pub status : Option Fault → ℕ
+status none = 0
+status (some f) = number f

@@ -1,0 +1,2 @@
+-- How answers are flattened to numbers.
+pub mod Flat
