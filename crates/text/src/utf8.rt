@@ -68,15 +68,15 @@ fn character_at(table: &[u32; 256], s: &[u8], i: usize) -> usize
 // How many bytes are looked at together, without a branch between them.
 const BLOCK: usize = 64;
 
-// How many of the BLOCK bytes at i are not ASCII.
-fn high_bytes(s: &[u8], i: usize) -> u8
+// How many of the BLOCK bytes at i are ASCII.
+fn low_bytes(s: &[u8], i: usize) -> u8
     requires { ⌜ i + 64 ≤ length (now s) ⌝ }
-    ensures { λ r. ⌜ (r ≡ 0 → Ascii (now (s .entry)) i (i + 64)) ⌝ }
+    ensures { λ r. ⌜ (r ≡ 64 → Ascii (now (s .entry)) i (i + 64)) ⌝ }
 {
     let mut n: u8 = 0;
     let mut k: usize = 0;
     while k < BLOCK {
-        n += s[i + k] / 128;
+        n += 1 - s[i + k] / 128;
         k += 1;
     }
     n
@@ -89,7 +89,7 @@ fn past_blocks(s: &[u8], i: usize) -> usize
 {
     let mut at = i;
     while BLOCK <= s.len() - at {
-        if high_bytes(s, at) != 0 {
+        if low_bytes(s, at) != 64 {
             return at;
         }
         at += BLOCK;

@@ -20,8 +20,8 @@ loop-holds c = passed-none (c .before .args .s .now) (c .before .args .i) (omega
 sub-loop : tie.Need-sub-loop Inv-loop μ-loop
 sub-loop c = omega arith
 
-high-bytes-requires : tie.Need-high-bytes-requires Inv-loop μ-loop
-high-bytes-requires c κs = omega arith
+low-bytes-requires : tie.Need-low-bytes-requires Inv-loop μ-loop
+low-bytes-requires c κs = omega arith
 
 returns : tie.Need-returns Inv-loop μ-loop
 returns c = c .before .before .before .loop .inv
@@ -38,7 +38,7 @@ loop-again c =
     let a = h .before .before .args in
     let at = h .loop .at in
     passed-on (a .s .now) (a .i) at (at + 64) (h .loop .inv)
-    (passed-ascii 64 (a .s .now) at (omega arith) (c .before .high-bytes .ensures (omega arith)))
+    (passed-ascii 64 (a .s .now) at (omega arith) (c .before .low-bytes .ensures (omega arith)))
 
 returns-2 : tie.Need-returns-2 Inv-loop μ-loop
 returns-2 c = c .before .loop .inv
@@ -51,7 +51,7 @@ past-blocks-spec =
     μ-loop
     loop-holds
     sub-loop
-    high-bytes-requires
+    low-bytes-requires
     returns
     add-at
     loop-less

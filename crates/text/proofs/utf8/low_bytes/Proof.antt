@@ -1,4 +1,4 @@
--- `text::utf8::high_bytes` meets its contract. The loop's invariant: while nothing was counted, all bytes so far are ASCII; a byte adds 0
+-- `text::utf8::low_bytes` meets its contract. The loop's invariant: where every byte so far was counted, all are ASCII; a byte is counted
 -- exactly where it is below 128. Assumes nothing.
 use mathlib.Core.Path.{_≡_}
 use mathlib.Core.List.{List}
@@ -7,11 +7,11 @@ use native.Mathlib.Omega.{arith}
 use lib.ListN.{getD}
 use Rattle.text.specs.Passing.{Ascii}
 use Rattle.text.proofs.Passing.{ascii-none, ascii-more}
-use Rattle.text.proofs.utf8.high_bytes.Statement.{statement}
-use Rattle.text.proofs.utf8.high_bytes.Tie as tie
+use Rattle.text.proofs.utf8.low_bytes.Statement.{statement}
+use Rattle.text.proofs.utf8.low_bytes.Tie as tie
 
 abbrev Inv-loop : tie.InvT-loop
-Inv-loop s i n₀ k₀ n k = (k ≤ 64) × (n ≤ k) × (n ≡ 0 → Ascii s i (i + k))
+Inv-loop s i n₀ k₀ n k = (k ≤ 64) × (n ≤ k) × (n ≡ k → Ascii s i (i + k))
 
 abbrev μ-loop : tie.MeasureT-loop
 μ-loop s i n₀ k₀ n k = 64 - k
@@ -29,6 +29,9 @@ shared-slice-read-n c = omega arith
 byte : (c : tie.After-shared-slice-known Inv-loop μ-loop) → getD (c .before .before .before .args .s .now) (c .before .before .before .args .i + c .before .before .loop .k) 0 ≤ 255
 byte c = omega (arith, c .shared-slice-known .given (c .before .before .before .args .i + c .before .before .loop .k))
 
+sub-n : tie.Need-sub-n Inv-loop μ-loop
+sub-n c = omega (arith, byte c)
+
 add-n-2 : tie.Need-add-n-2 Inv-loop μ-loop
 add-n-2 c = omega (arith, byte c)
 
@@ -45,10 +48,10 @@ loop-again c =
     (omega arith, omega (arith, byte c), λ e. ascii-more (a .s .now) (a .i) (h .loop .k) (h .loop .inv .2 (omega arith)) (omega arith))
 
 returns : tie.Need-returns Inv-loop μ-loop
-returns c e k p q = c .before .loop .inv .2 e k p (omega arith)
+returns c e k p q = c .before .loop .inv .2 (omega arith) k p (omega arith)
 
-pub high-bytes-spec : {M : Type 1} → statement M
-high-bytes-spec =
+pub low-bytes-spec : {M : Type 1} → statement M
+low-bytes-spec =
     tie.close
     (tie.spec
     Inv-loop
@@ -56,6 +59,7 @@ high-bytes-spec =
     loop-holds
     add-n
     shared-slice-read-n
+    sub-n
     add-n-2
     add-k
     loop-less
