@@ -97,17 +97,20 @@ fn past_blocks(s: &[u8], i: usize) -> usize
     at
 }
 
-// The end of the run of ASCII at i.
+// The end of the run of ASCII at i: byte by byte, and by blocks from a sixteenth place on, so that a short run costs no block.
 fn past_ascii(s: &[u8], i: usize) -> usize
     requires { ⌜ i ≤ length (now s) ⌝ }
     ensures { λ r. ⌜ Passed (now (s .entry)) i r ⌝ }
 {
-    let mut at = past_blocks(s, i);
+    let mut at = i;
     while at < s.len() {
         if 128 <= s[at] {
             return at;
         }
         at += 1;
+        if at % 16 == 0 {
+            at = past_blocks(s, at);
+        }
     }
     at
 }
@@ -151,7 +154,7 @@ fn valid_from(s: &[u8], i: usize) -> usize
 pub fn valid_up_to(s: &[u8]) -> usize
     ensures { λ r. ⌜ r ≡ validUpTo (now (s .entry)) ⌝ }
 {
-    let i = past_ascii(s, 0);
+    let i = past_ascii(s, past_blocks(s, 0));
     if i == s.len() {
         return i;
     }
