@@ -1,12 +1,15 @@
 -- An entry of the lead table taken apart again: both ends of the range fit a byte, so the entry's digits are its parts. Assumes nothing.
 use mathlib.Core.Path.{_≡_, refl}
 use mathlib.Core.Bool.{Bool, true, false, cond}
+use mathlib.Core.List.{List}
 use Prim.Native.Nat.{ℕ, _+_, _*_, _/_, _%_, _≤_, _<_}
 use native.Mathlib.Omega.{arith}
 use lib.Dec.{eqb, leb, lit≤}
+use lib.ListN.{length}
 use borrow.Author.Tests.{le-leb, lt-leb}
 use Rattle.text.specs.Text.{lengthOf, secondLow, secondHigh, within}
-use Rattle.text.specs.Lead.{entryOf}
+use Rattle.text.specs.Lead.{entryOf, IsLead}
+use Rattle.text.proofs.Table.{passes, entry-is}
 
 cond-le : (t : Bool) (x y n : ℕ) → x ≤ n → y ≤ n → cond t x y ≤ n
 cond-le true x y n p q = p
@@ -96,3 +99,9 @@ module _ (b : ℕ) where
   -- the range that the entry has is the lead byte's
   pub entry-second : (entry x : ℕ) → entry ≡ entryOf b → within (entry / 0x1_00 % 0x1_00) (entry % 0x1_00) x ≡ within (secondLow b) (secondHigh b) x
   entry-second entry x e = rw (e, entry-low, entry-high)
+
+-- ---- the whole table
+
+-- a list of 256 whose every place passes the test of RFC 3629's rule is the table
+pub lead-table : (table : List ℕ) → length table ≡ 0x1_00 → passes (λ b x. eqb x (entryOf b)) 0 table ≡ true → IsLead table
+lead-table table size test = record { entry = λ b below. entry-is entryOf table b (omega arith) test }

@@ -1,7 +1,7 @@
 // Which bytes are text by RFC 3629, and where its characters begin.
 use crate::lead;
 ghost use mathlib.Core.Path.{_≡_};
-ghost use mathlib.Core.Bool.{cond};
+ghost use mathlib.Core.Bool.{true, cond};
 ghost use Prim.Native.Nat.{_+_, _/_, _%_, _≤_, _<_};
 ghost use lib.ListN.{length, drop};
 ghost use Rattle.text.specs.Lead.{IsLead};
@@ -68,10 +68,10 @@ fn character_at(table: &[u32; 256], s: &[u8], i: usize) -> usize
 // How many bytes are looked at together, without a branch between them.
 const BLOCK: usize = 64;
 
-// How many of the BLOCK bytes at i are ASCII.
-fn low_bytes(s: &[u8], i: usize) -> u8
+// The BLOCK bytes at i are all ASCII: those that are add up to BLOCK.
+fn is_ascii_block(s: &[u8], i: usize) -> bool
     requires { ⌜ i + 64 ≤ length (now s) ⌝ }
-    ensures { λ r. ⌜ (r ≡ 64 → Ascii (now (s .entry)) i (i + 64)) ⌝ }
+    ensures { λ r. ⌜ (r ≡ true → Ascii (now (s .entry)) i (i + 64)) ⌝ }
 {
     let mut n: u8 = 0;
     let mut k: usize = 0;
@@ -79,7 +79,7 @@ fn low_bytes(s: &[u8], i: usize) -> u8
         n += 1 - s[i + k] / 128;
         k += 1;
     }
-    n
+    n as usize == BLOCK
 }
 
 // The end of the blocks of ASCII at i.
@@ -89,7 +89,7 @@ fn past_blocks(s: &[u8], i: usize) -> usize
 {
     let mut at = i;
     while BLOCK <= s.len() - at {
-        if low_bytes(s, at) != 64 {
+        if !is_ascii_block(s, at) {
             return at;
         }
         at += BLOCK;

@@ -2,6 +2,7 @@
 use Prim.Native.Nat.{ℕ, _+_, _-_}
 use native.Mathlib.Omega.{arith}
 use borrow.Author.Needs.{needs}
+use borrow.Author.Tests.{not-false}
 use lib.ListN.{length}
 use Rattle.text.specs.Passing.{Passed}
 use Rattle.text.proofs.Passing.{passed-none, passed-on, passed-ascii}
@@ -20,8 +21,8 @@ loop-holds c = passed-none (c .before .args .s .now) (c .before .args .i) (omega
 sub-loop : tie.Need-sub-loop Inv-loop μ-loop
 sub-loop c = omega arith
 
-low-bytes-requires : tie.Need-low-bytes-requires Inv-loop μ-loop
-low-bytes-requires c κs = omega arith
+is-ascii-block-requires : tie.Need-is-ascii-block-requires Inv-loop μ-loop
+is-ascii-block-requires c κs = omega arith
 
 returns : tie.Need-returns Inv-loop μ-loop
 returns c = c .before .before .before .loop .inv
@@ -38,7 +39,7 @@ loop-again c =
     let a = h .before .before .args in
     let at = h .loop .at in
     passed-on (a .s .now) (a .i) at (at + 64) (h .loop .inv)
-    (passed-ascii 64 (a .s .now) at (omega arith) (c .before .low-bytes .ensures (omega arith)))
+    (passed-ascii 64 (a .s .now) at (omega arith) (c .before .is-ascii-block .ensures (not-false _ (c .if1 .left))))
 
 returns-2 : tie.Need-returns-2 Inv-loop μ-loop
 returns-2 c = c .before .loop .inv
@@ -51,7 +52,7 @@ past-blocks-spec =
     μ-loop
     loop-holds
     sub-loop
-    low-bytes-requires
+    is-ascii-block-requires
     returns
     add-at
     loop-less

@@ -1,14 +1,15 @@
--- `text::utf8::low_bytes` meets its contract. The loop's invariant: where every byte so far was counted, all are ASCII; a byte is counted
+-- `text::utf8::is_ascii_block` meets its contract. The loop's invariant: where every byte so far was counted, all are ASCII; a byte is counted
 -- exactly where it is below 128. Assumes nothing.
 use mathlib.Core.Path.{_≡_}
 use mathlib.Core.List.{List}
 use Prim.Native.Nat.{ℕ, _+_, _-_, _≤_}
 use native.Mathlib.Omega.{arith}
+use borrow.Author.Tests.{eqb-true}
 use lib.ListN.{getD}
 use Rattle.text.specs.Passing.{Ascii}
 use Rattle.text.proofs.Passing.{ascii-none, ascii-more}
-use Rattle.text.proofs.utf8.low_bytes.Statement.{statement}
-use Rattle.text.proofs.utf8.low_bytes.Tie as tie
+use Rattle.text.proofs.utf8.is_ascii_block.Statement.{statement}
+use Rattle.text.proofs.utf8.is_ascii_block.Tie as tie
 
 abbrev Inv-loop : tie.InvT-loop
 Inv-loop s i n₀ k₀ n k = (k ≤ 64) × (n ≤ k) × (n ≡ k → Ascii s i (i + k))
@@ -47,11 +48,16 @@ loop-again c =
     let a = h .before .args in
     (omega arith, omega (arith, byte c), λ e. ascii-more (a .s .now) (a .i) (h .loop .k) (h .loop .inv .2 (omega arith)) (omega arith))
 
-returns : tie.Need-returns Inv-loop μ-loop
-returns c e k p q = c .before .loop .inv .2 (omega arith) k p (omega arith)
+cast-result : tie.Need-cast-result Inv-loop μ-loop
+cast-result c = omega arith
 
-pub low-bytes-spec : {M : Type 1} → statement M
-low-bytes-spec =
+returns : tie.Need-returns Inv-loop μ-loop
+returns c e k p q =
+    let h = c .before .loop in
+    h .inv .2 (omega (arith, eqb-true (h .n) 64 e)) k p (omega arith)
+
+pub is-ascii-block-spec : {M : Type 1} → statement M
+is-ascii-block-spec =
     tie.close
     (tie.spec
     Inv-loop
@@ -64,4 +70,5 @@ low-bytes-spec =
     add-k
     loop-less
     loop-again
+    cast-result
     returns)
