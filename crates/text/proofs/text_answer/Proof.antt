@@ -1,6 +1,5 @@
 -- `text::text_answer` meets its contract: each return is the fault that its test finds, the last that there is none. Assumes nothing.
 use mathlib.Core.Path.{_≡_, sym, ap, _∙_}
-use Prim.Native.Nat.{ℕ, _<_, _≤_}
 use native.Mathlib.Omega.{arith}
 use borrow.Author.Needs.{needs}
 use Rattle.text.specs.Text.{validUpTo}

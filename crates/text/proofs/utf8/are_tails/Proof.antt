@@ -1,12 +1,8 @@
 -- `text::utf8::are_tails` meets its contract: `tails` takes a step for each byte that is read. Assumes nothing.
-use mathlib.Core.Path.{_≡_, sym, _∙_}
-use mathlib.Core.Bool.{true, false}
-use Prim.Native.Nat.{ℕ, _+_}
-use lib.ListN.{getD}
+use mathlib.Core.Path.{sym, _∙_}
 use native.Mathlib.Omega.{arith}
 use borrow.Author.Needs.{needs}
 use borrow.Author.Tests.{not-true, not-false}
-use Rattle.text.specs.Text.{tail}
 use Rattle.text.proofs.Reading.{tails-none, tails-first, tails-only, tails-two}
 use Rattle.text.proofs.utf8.are_tails.Statement.{statement}
 use Rattle.text.proofs.utf8.are_tails.Tie as tie

@@ -1,11 +1,9 @@
 -- `text::utf8::begun` meets its contract. The loop's invariant is the contract's, of the bytes so far. Assumes nothing.
 use mathlib.Core.Path.{_≡_}
-use mathlib.Core.List.{List}
-use Prim.Native.Nat.{ℕ, _+_, _-_, _≤_}
+use Prim.Native.Nat.{_+_, _-_, _≤_}
 use native.Mathlib.Nat.{add-zero}
 use native.Mathlib.Omega.{arith}
 use borrow.Author.Needs.{needs}
-use lib.ListN.{length}
 use Rattle.text.specs.Passing.{Counted}
 use Rattle.text.proofs.Passing.{counted-none, counted-byte}
 use Rattle.text.proofs.utf8.begun.Statement.{statement}

@@ -1,8 +1,7 @@
 -- `text::utf8::is_ascii_block` meets its contract. The loop's invariant: where every byte so far was counted, all are ASCII; a byte is counted
 -- exactly where it is below 128. Assumes nothing.
 use mathlib.Core.Path.{_≡_}
-use mathlib.Core.List.{List}
-use Prim.Native.Nat.{ℕ, _+_, _-_, _≤_}
+use Prim.Native.Nat.{_+_, _-_, _≤_}
 use native.Mathlib.Omega.{arith}
 use borrow.Author.Tests.{eqb-true}
 use lib.ListN.{getD}

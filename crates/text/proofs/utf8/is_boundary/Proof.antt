@@ -1,5 +1,5 @@
 -- `text::utf8::is_boundary` meets its contract: inside the text the byte decides, at and past its end the position. Assumes nothing.
-use mathlib.Core.Path.{_≡_, sym, ap, _∙_}
+use mathlib.Core.Path.{sym, ap, _∙_}
 use mathlib.Core.Bool.{not}
 use borrow.Author.Needs.{needs}
 use Rattle.text.proofs.Reading.{boundary-inside, boundary-outside}

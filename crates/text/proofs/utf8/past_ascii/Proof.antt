@@ -1,8 +1,7 @@
 -- `text::utf8::past_ascii` meets its contract. The loop's invariant is the contract's, of what was passed so far; a turn passes a byte, and
 -- then the blocks after it. Assumes nothing.
-use Prim.Native.Nat.{ℕ, _+_, _-_}
+use Prim.Native.Nat.{_+_, _-_}
 use native.Mathlib.Omega.{arith}
-use borrow.Author.Needs.{needs}
 use lib.ListN.{length}
 use Rattle.text.specs.Passing.{Passed}
 use Rattle.text.proofs.Passing.{passed-none, passed-on, passed-byte}

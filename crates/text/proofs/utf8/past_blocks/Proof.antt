@@ -1,7 +1,6 @@
 -- `text::utf8::past_blocks` meets its contract. The loop's invariant is the contract's, of what was passed so far. Assumes nothing.
-use Prim.Native.Nat.{ℕ, _+_, _-_}
+use Prim.Native.Nat.{_+_, _-_}
 use native.Mathlib.Omega.{arith}
-use borrow.Author.Needs.{needs}
 use borrow.Author.Tests.{not-false}
 use lib.ListN.{length}
 use Rattle.text.specs.Passing.{Passed}

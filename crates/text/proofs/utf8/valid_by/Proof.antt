@@ -1,10 +1,8 @@
 -- `text::utf8::valid_by` meets its contract. The loop's invariant: whole characters were passed so far. What is left of the length falls;
 -- a step that stays ends the loop, for nothing more is valid. Assumes nothing.
-use mathlib.Core.Path.{_≡_}
 use mathlib.Core.List.{List}
 use Prim.Native.Nat.{ℕ, _-_}
 use native.Mathlib.Omega.{arith}
-use borrow.Author.Needs.{needs}
 use lib.ListN.{length}
 use Rattle.text.specs.Passing.{Passed}
 use Rattle.text.proofs.Passing.{passed-none, passed-on}

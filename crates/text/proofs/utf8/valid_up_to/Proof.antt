@@ -1,5 +1,4 @@
 -- `text::utf8::valid_up_to` meets its contract: what is valid is the run of ASCII in front and what is valid after it. Assumes nothing.
-use mathlib.Core.Path.{_≡_}
 use native.Mathlib.Omega.{arith}
 use borrow.Author.Needs.{needs}
 use Rattle.text.proofs.Valid.{valid-past}
