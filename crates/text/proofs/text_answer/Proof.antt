@@ -30,7 +30,8 @@ returns c =
 returns-2 : tie.Need-returns-2
 unfolding answerOf
 returns-2 c =
-    let a = c .before .before .before .args in
+    let sized = c .before in
+    let a = sized .before .before .args in
     record { answered = sym (ap answerOf (fault-span (a .tab .now) (a .off) (a .len) (omega arith) (omega arith))) }
 
 sub-valid-up-to : tie.Need-sub-valid-up-to

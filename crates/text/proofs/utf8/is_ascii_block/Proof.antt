@@ -16,6 +16,10 @@ Inv-loop s i n₀ k₀ n k = (k ≤ 64) × (n ≤ k) × (n ≡ k → Ascii s i (
 abbrev μ-loop : tie.MeasureT-loop
 μ-loop s i n₀ k₀ n k = 64 - k
 
+-- the way back to the loop's head from where the byte is read
+abbrev head : tie.After-shared-slice-known Inv-loop μ-loop → tie.At-loop Inv-loop μ-loop
+head c = c .before .before
+
 loop-holds : tie.Need-loop-holds Inv-loop μ-loop
 loop-holds c = (omega arith, omega arith, λ e. ascii-none (c .args .s .now) (c .args .i))
 
@@ -26,8 +30,10 @@ shared-slice-read-n : tie.Need-shared-slice-read-n Inv-loop μ-loop
 shared-slice-read-n c = omega arith
 
 -- the byte that was read is one
-byte : (c : tie.After-shared-slice-known Inv-loop μ-loop) → getD (c .before .before .before .args .s .now) (c .before .before .before .args .i + c .before .before .loop .k) 0 ≤ 255
-byte c = omega (arith, c .shared-slice-known .given (c .before .before .before .args .i + c .before .before .loop .k))
+byte :
+    (c : tie.After-shared-slice-known Inv-loop μ-loop)
+    → let a = head c .before .args in getD (a .s .now) (a .i + head c .loop .k) 0 ≤ 255
+byte c = omega (arith, c .shared-slice-known .given (head c .before .args .i + head c .loop .k))
 
 sub-n : tie.Need-sub-n Inv-loop μ-loop
 sub-n c = omega (arith, byte c)

@@ -25,7 +25,7 @@ shared-slice-read-if1 : tie.Need-shared-slice-read-if1 Inv-loop μ-loop
 shared-slice-read-if1 c = omega arith
 
 returns : tie.Need-returns Inv-loop μ-loop
-returns c = c .before .before .before .loop .inv
+returns c = let read = c .before in read .before .before .loop .inv
 
 add-at : tie.Need-add-at Inv-loop μ-loop
 add-at c = omega arith

@@ -14,6 +14,10 @@ Inv-loop s i at₀ at = Passed s i at
 abbrev μ-loop : tie.MeasureT-loop
 μ-loop s i at₀ at = length s - at
 
+-- the way back to the loop's head from after the call
+abbrev head : tie.After-is-ascii-block Inv-loop μ-loop → tie.At-loop Inv-loop μ-loop
+head c = c .before .before
+
 loop-holds : tie.Need-loop-holds Inv-loop μ-loop
 loop-holds c = passed-none (c .before .args .s .now) (c .before .args .i) (omega arith)
 
@@ -24,7 +28,7 @@ is-ascii-block-requires : tie.Need-is-ascii-block-requires Inv-loop μ-loop
 is-ascii-block-requires c κs = omega arith
 
 returns : tie.Need-returns Inv-loop μ-loop
-returns c = c .before .before .before .loop .inv
+returns c = head (c .before) .loop .inv
 
 add-at : tie.Need-add-at Inv-loop μ-loop
 add-at c = omega arith
@@ -34,7 +38,7 @@ loop-less c = omega arith
 
 loop-again : tie.Need-loop-again Inv-loop μ-loop
 loop-again c =
-    let h = c .before .before .before in
+    let h = head (c .before) in
     let a = h .before .before .args in
     let at = h .loop .at in
     passed-on (a .s .now) (a .i) at (at + 64) (h .loop .inv)
