@@ -11,7 +11,8 @@ use lib.Dec.{leb}
 use lib.ListN.{length, getD, take, drop, length-drop, take-append-drop}
 use lib.Seq.{take-add, take-length, getD-drop, drop-drop}
 use Rattle.text.specs.Text.{tail, lengthOf, wellFormed, boundary, next, characters, part}
-use Rattle.text.proofs.Characters.{Front, one, two, three, four, false-true, front-positive, front-at-most-four, front-inside, front-lead, front-take, front-boundary, front-no-boundary, second-tail, lead-no-tail}
+use Rattle.text.proofs.Characters.{Front, one, two, three, four, false-true, second-tail, lead-no-tail}
+use Rattle.text.proofs.Characters.{front-positive, front-at-most-four, front-inside, front-lead, front-take, front-boundary, front-no-boundary}
 use Rattle.text.proofs.Reading.{at-most-one}
 use Rattle.text.proofs.Valid.{Chars, end, more, drop-of-take, chars-well, well-chars, chars-rest}
 
@@ -68,7 +69,9 @@ cut end (suc i) e = false-true e
 cut (more f c) zero e = (end, more f c)
 cut (more {s = s} {k = k} f c) (suc i) e = go (leb k (suc i)) refl (cut c (suc i - k))
   where
-    go : (t : Bool) → leb k (suc i) ≡ t → (boundary (drop k s) (suc i - k) ≡ true → Chars (take (suc i - k) (drop k s)) × Chars (drop (suc i - k) (drop k s)))
+    go :
+        (t : Bool) → leb k (suc i) ≡ t
+        → (boundary (drop k s) (suc i - k) ≡ true → Chars (take (suc i - k) (drop k s)) × Chars (drop (suc i - k) (drop k s)))
         → Chars (take (suc i) s) × Chars (drop (suc i) s)
     go true p rest = let past : k ≤ suc i = leb-true k (suc i) p in later-cut f (suc i) past (rest (sym (later-boundary f (suc i) past) ∙ e))
     go false p rest = false-true (sym (front-no-boundary f (suc i) (omega arith) (leb-false k (suc i) p)) ∙ e)

@@ -66,7 +66,8 @@ module _ (tab : List ℕ) (off len : ℕ) where
   -- an accepted span lies inside a table within the limit, and is text
   module _ (accepted : spanFault tab off len ≡ none) where
     tests :
-        (ltb maxTable (length tab) ≡ false) × (refuse (ltb (length tab) (off + len)) Span (refuse (not (wellFormed (spanOf tab off len))) Text none) ≡ none)
+        (ltb maxTable (length tab) ≡ false)
+        × (refuse (ltb (length tab) (off + len)) Span (refuse (not (wellFormed (spanOf tab off len))) Text none) ≡ none)
     unfolding spanFault
     tests = passed _ _ _ accepted
 

@@ -65,7 +65,7 @@ fn character_at(table: &[u32; 256], s: &[u8], i: usize) -> usize
     n
 }
 
-// How many bytes are looked at together, without a branch between them.
+// How many bytes are looked at together, without a branch between them, which compiles to sixteen at a time. A u8 counts them: at most 255.
 const BLOCK: usize = 64;
 
 // The BLOCK bytes at i are all ASCII: those that are add up to BLOCK.
@@ -82,7 +82,7 @@ fn is_ascii_block(s: &[u8], i: usize) -> bool
     n as usize == BLOCK
 }
 
-// The end of the blocks of ASCII at i.
+// The end of the whole blocks of ASCII at i.
 fn past_blocks(s: &[u8], i: usize) -> usize
     requires { ⌜ i ≤ length (now s) ⌝ }
     ensures { λ r. ⌜ Passed (now (s .entry)) i r ⌝ }

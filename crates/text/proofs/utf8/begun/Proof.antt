@@ -31,7 +31,10 @@ begins-requires : tie.Need-begins-requires Inv-loop μ-loop
 begins-requires c κs = search needs
 
 -- the count with the byte that was read
-counted : (c : tie.After-begins Inv-loop μ-loop) → let a = head c .before .before .args in Counted (a .s .now) (a .i) (a .i + (head c .loop .k + 1)) (head c .loop .n + c .begins .result)
+counted :
+    (c : tie.After-begins Inv-loop μ-loop)
+    → let a = head c .before .before .args in
+    Counted (a .s .now) (a .i) (a .i + (head c .loop .k + 1)) (head c .loop .n + c .begins .result)
 counted c =
     let a = head c .before .before .args in
     counted-byte (a .s .now) (a .i) (head c .loop .k) (head c .loop .n) (c .begins .result) (head c .loop .inv .1) (omega arith) (c .begins .ensures)
