@@ -3,6 +3,7 @@
 use mathlib.Core.Path.{_≡_, refl, sym, ap, _∙_}
 use mathlib.Core.Bool.{Bool, true, false, not}
 use mathlib.Core.List.{List, []}
+use mathlib.Core.Logic.{_↔_}
 use mathlib.Core.Option.{Option, none, some}
 use Prim.Native.Nat.{ℕ, _+_, _-_, _≤_, _<_}
 use native.Mathlib.Omega.{arith}
@@ -108,6 +109,12 @@ module _ {tab : List ℕ} {off len : ℕ} {answer : SpanAnswer} (a : TextAnswere
   pub none-accepted : spanFault tab off len ≡ none → answer ≡ Accepted
   unfolding answerOf
   none-accepted e = a .answered ∙ ap answerOf e
+
+  pub refused-exactly : (f : Fault) → (answer ≡ Refused f) ↔ (spanFault tab off len ≡ some f)
+  refused-exactly f = (refused-fault f, fault-refused f)
+
+  pub accepted-exactly : (answer ≡ Accepted) ↔ (spanFault tab off len ≡ none)
+  accepted-exactly = (accepted-none, none-accepted)
 
 -- the promise met twice gives the same answer, and the same part
 pub answer-determined : {tab : List ℕ} {off len : ℕ} {a b : SpanAnswer} → TextAnswered tab off len a → TextAnswered tab off len b → a ≡ b
