@@ -8,10 +8,11 @@ use native.Mathlib.Nat.{zero-add, add-zero}
 use native.Mathlib.Omega.{arith}
 use borrow.Author.Tests.{leb-true, leb-false}
 use lib.Dec.{leb}
-use lib.ListN.{length, getD, take, drop, length-append, length-drop, take-append-drop}
-use lib.Seq.{take-add, take-length, getD-drop, drop-drop, length-take-le}
+use lib.ListN.{length, getD, take, drop, length-drop, take-append-drop}
+use lib.Seq.{take-add, take-length, getD-drop, drop-drop}
 use Rattle.text.specs.Text.{tail, lengthOf, wellFormed, boundary, next, characters, part}
-use Rattle.text.proofs.Characters.{Front, one, two, three, four, false-true, found, front-positive, front-at-most-four, front-inside, front-lead, front-take, front-boundary, front-no-boundary, second-tail, lead-no-tail}
+use Rattle.text.proofs.Characters.{Front, one, two, three, four, false-true, second-tail, lead-no-tail}
+use Rattle.text.proofs.Characters.{front-positive, front-at-most-four, front-inside, front-lead, front-take, front-boundary, front-no-boundary}
 use Rattle.text.proofs.Reading.{at-most-one}
 use Rattle.text.proofs.Valid.{Chars, end, more, drop-of-take, chars-well, well-chars, chars-rest}
 
@@ -68,7 +69,9 @@ cut end (suc i) e = false-true e
 cut (more f c) zero e = (end, more f c)
 cut (more {s = s} {k = k} f c) (suc i) e = go (leb k (suc i)) refl (cut c (suc i - k))
   where
-    go : (t : Bool) → leb k (suc i) ≡ t → (boundary (drop k s) (suc i - k) ≡ true → Chars (take (suc i - k) (drop k s)) × Chars (drop (suc i - k) (drop k s)))
+    go :
+        (t : Bool) → leb k (suc i) ≡ t
+        → (boundary (drop k s) (suc i - k) ≡ true → Chars (take (suc i - k) (drop k s)) × Chars (drop (suc i - k) (drop k s)))
         → Chars (take (suc i) s) × Chars (drop (suc i) s)
     go true p rest = let past : k ≤ suc i = leb-true k (suc i) p in later-cut f (suc i) past (rest (sym (later-boundary f (suc i) past) ∙ e))
     go false p rest = false-true (sym (front-no-boundary f (suc i) (omega arith) (leb-false k (suc i) p)) ∙ e)
@@ -176,3 +179,19 @@ boundaries-before (b ∷ s) (suc i) h = omega (arith, one-or-none (tail b), boun
 
 pub boundaries-characters : (s : List ℕ) → count (boundary s) (length s) ≡ characters s
 boundaries-characters s = boundaries-before s (length s) (omega arith) ∙ ap characters (take-length s)
+
+-- a character counts one
+front-one : {s : List ℕ} {k : ℕ} → Front s k → characters (take k s) ≡ 1
+unfolding characters
+front-one (one {b = b} e) = rw (lead-no-tail b 0 e)
+front-one (two {b = b} {x = x} e w) = rw (lead-no-tail b 1 e, second-tail b x w)
+front-one (three {b = b} {x = x} e w y) = rw (lead-no-tail b 2 e, second-tail b x w, y)
+front-one (four {b = b} {x = x} e w y z) = rw (lead-no-tail b 3 e, second-tail b x w, y, z)
+
+module _ (s : List ℕ) (well : wellFormed s ≡ true) (i : ℕ) (at : boundary s i ≡ true) (below : i < length s) where
+  -- the characters before the next boundary are one more
+  pub characters-next : characters (take (next s i) s) ≡ suc (characters (take i s))
+  characters-next =
+      ap characters (take-add i (lengthOf (getD s i 0)) s)
+      ∙ characters-append (take i s) (take (lengthOf (getD s i 0)) (drop i s))
+      ∙ omega (arith, front-one (front-at s well i at below))

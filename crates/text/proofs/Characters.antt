@@ -1,16 +1,15 @@
 -- The character at the front of a byte list, written out. `Front s k` has a case for each length, so that what is said of a character is
 -- seen byte by byte: it stays where bytes follow it, its first byte is no tail, its others are tails. Assumes nothing.
-use mathlib.Core.Path.{_≡_, refl, sym, ap, _∙_}
-use mathlib.Core.Bool.{Bool, true, false, not, _&&_, cond}
+use mathlib.Core.Path.{_≡_, refl}
+use mathlib.Core.Bool.{Bool, true, false, _&&_, cond}
 use mathlib.Core.List.{List, [], _∷_, _++_}
-use Prim.Native.Nat.{ℕ, zero, suc, _+_, _≤_, _<_}
-use native.Mathlib.Nat.{not-suc-le-zero, le-of-suc-le-suc}
+use Prim.Native.Nat.{ℕ, zero, suc, _≤_, _<_}
 use native.Mathlib.Omega.{arith}
-use borrow.Author.Tests.{leb-true, leb-false, le-leb, lt-leb}
-use lib.Dec.{leb, eqb, lit≤}
-use lib.ListN.{length, getD, take, drop}
+use borrow.Author.Tests.{leb-true, le-leb, lt-leb}
+use lib.Dec.{leb, lit≤}
+use lib.ListN.{length, getD, take}
 use Rattle.text.specs.Text.{within, tail, tails, lengthOf, secondLow, secondHigh, rest, character, boundary}
-use Rattle.text.proofs.Entries.{length-le-four, length-low}
+use Rattle.text.proofs.Entries.{length-le-four, length-low, low-above, high-below}
 
 -- ---- tests of a byte
 
@@ -36,22 +35,6 @@ below-within lo hi x p = simp (lt-leb lo x p)
 
 pub above-within : (lo hi x : ℕ) → lo ≤ x → hi < x → within lo hi x ≡ false
 above-within lo hi x p q = simp (le-leb lo x p, lt-leb x hi q)
-
-le-cond : (t : Bool) (x y n : ℕ) → n ≤ x → n ≤ y → n ≤ cond t x y
-le-cond true x y n p q = p
-le-cond false x y n p q = q
-
-cond-le : (t : Bool) (x y n : ℕ) → x ≤ n → y ≤ n → cond t x y ≤ n
-cond-le true x y n p q = p
-cond-le false x y n p q = q
-
-low-above : (b : ℕ) → 0x80 ≤ secondLow b
-unfolding secondLow
-low-above b = le-cond (eqb b 0xE0) 0xA0 _ 0x80 (lit≤ tt) (le-cond (eqb b 0xF0) 0x90 0x80 0x80 (lit≤ tt) (lit≤ tt))
-
-high-below : (b : ℕ) → secondHigh b ≤ 0xBF
-unfolding secondHigh
-high-below b = cond-le (eqb b 0xED) 0x9F _ 0xBF (lit≤ tt) (cond-le (eqb b 0xF4) 0x8F 0xBF 0xBF (lit≤ tt) (lit≤ tt))
 
 -- x is in the range of the second byte after the lead byte b
 abbrev pub second : ℕ → ℕ → Bool

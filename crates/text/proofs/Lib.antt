@@ -1,4 +1,4 @@
--- The laws of text that the layers above cite, and those that the functions' proofs share.
+-- The laws of text. A layer above cites `Boundaries`, `Valid` and `Spans`; the others serve this crate's functions.
 pub mod Table
 pub mod Entries
 pub mod Characters

@@ -1,14 +1,14 @@
 -- The turns of `valid_up_to`: whole characters are passed one by one, and a run of ASCII is passed at once, each of its bytes a character.
 -- `Passed` composes, so that each function only says what it passes itself. Assumes nothing.
-use mathlib.Core.Path.{_≡_, refl, sym, ap, _∙_}
+use mathlib.Core.Path.{_≡_, refl, _∙_}
 use mathlib.Core.Bool.{Bool, true, false, cond}
 use mathlib.Core.List.{List}
-use Prim.Native.Nat.{ℕ, zero, suc, _+_, _-_, _≤_, _<_}
+use Prim.Native.Nat.{ℕ, zero, suc, _+_, _≤_, _<_}
 use native.Mathlib.Omega.{arith}
 use borrow.Author.Tests.{ltb-true, ltb-false}
 use lib.Dec.{ltb}
 use lib.ListN.{length, getD, drop}
-use Rattle.text.specs.Text.{tail, lengthOf, character, validUpTo, characters}
+use Rattle.text.specs.Text.{tail, lengthOf, character}
 use Rattle.text.specs.Passing.{Ascii, Passed, Counted}
 use Rattle.text.proofs.Entries.{length-ascii}
 use Rattle.text.proofs.Reading.{character-short, characters-one, at-most-one}

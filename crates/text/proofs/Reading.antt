@@ -2,16 +2,16 @@
 -- takes a step where the code reads a byte. Assumes nothing.
 use mathlib.Core.Path.{_≡_, refl, sym, ap, _∙_}
 use mathlib.Core.Bool.{Bool, true, false, not, _&&_, cond, and-true}
-use mathlib.Core.List.{List, [], _∷_, _++_}
+use mathlib.Core.List.{List, [], _∷_}
 use Prim.Native.Nat.{ℕ, zero, suc, _+_, _-_, _/_, _≤_, _<_}
 use native.Mathlib.Numerals.{add-one}
 use native.Mathlib.Omega.{arith}
 use borrow.Author.Tests.{eq-eqb, ne-eqb}
-use lib.Dec.{eqb, leb, eqb·suc-zero, eqb·suc-suc}
-use lib.ListN.{length, getD, take, drop, length-drop, drop-of-length-le}
-use lib.Seq.{drop-cons, drop-length, getD-drop}
+use lib.Dec.{eqb, eqb·suc-zero, eqb·suc-suc}
+use lib.ListN.{length, getD, drop, length-drop, drop-of-length-le}
+use lib.Seq.{drop-cons}
 use Rattle.text.specs.Text.{tail, tails, lengthOf, rest, character, boundary, characters}
-use Rattle.text.proofs.Characters.{second, within-low, within-high, within-of, Found, none, here, found, front-lead, front-inside, front-character}
+use Rattle.text.proofs.Characters.{second, within-low, within-high, within-of, Found, none, here, found, front-lead, front-inside}
 
 -- the byte is a tail exactly where its upper two bits are 10
 pub tail-by-quarter : (b : ℕ) → eqb (b / 64) 2 ≡ tail b

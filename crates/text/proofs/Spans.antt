@@ -3,11 +3,12 @@
 use mathlib.Core.Path.{_≡_, refl, sym, ap, _∙_}
 use mathlib.Core.Bool.{Bool, true, false, not}
 use mathlib.Core.List.{List, []}
+use mathlib.Core.Logic.{_↔_}
 use mathlib.Core.Option.{Option, none, some}
 use Prim.Native.Nat.{ℕ, _+_, _-_, _≤_, _<_}
 use native.Mathlib.Omega.{arith}
 use borrow.Author.Tests.{lt-ltb, le-ltb, ltb-false, eq-eqb, ne-eqb, not-false}
-use lib.Dec.{ltb, eqb}
+use lib.Dec.{ltb}
 use lib.ListN.{length, take, drop, length-take, length-drop}
 use Rattle.refusal.specs.declared.Fault.{Fault}
 use Rattle.refusal.specs.declared.Fault.the-variants.{Size, Span, Text}
@@ -66,7 +67,8 @@ module _ (tab : List ℕ) (off len : ℕ) where
   -- an accepted span lies inside a table within the limit, and is text
   module _ (accepted : spanFault tab off len ≡ none) where
     tests :
-        (ltb maxTable (length tab) ≡ false) × (refuse (ltb (length tab) (off + len)) Span (refuse (not (wellFormed (spanOf tab off len))) Text none) ≡ none)
+        (ltb maxTable (length tab) ≡ false)
+        × (refuse (ltb (length tab) (off + len)) Span (refuse (not (wellFormed (spanOf tab off len))) Text none) ≡ none)
     unfolding spanFault
     tests = passed _ _ _ accepted
 
@@ -107,6 +109,12 @@ module _ {tab : List ℕ} {off len : ℕ} {answer : SpanAnswer} (a : TextAnswere
   pub none-accepted : spanFault tab off len ≡ none → answer ≡ Accepted
   unfolding answerOf
   none-accepted e = a .answered ∙ ap answerOf e
+
+  pub refused-exactly : (f : Fault) → (answer ≡ Refused f) ↔ (spanFault tab off len ≡ some f)
+  refused-exactly f = (refused-fault f, fault-refused f)
+
+  pub accepted-exactly : (answer ≡ Accepted) ↔ (spanFault tab off len ≡ none)
+  accepted-exactly = (accepted-none, none-accepted)
 
 -- the promise met twice gives the same answer, and the same part
 pub answer-determined : {tab : List ℕ} {off len : ℕ} {a b : SpanAnswer} → TextAnswered tab off len a → TextAnswered tab off len b → a ≡ b

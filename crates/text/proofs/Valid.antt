@@ -1,16 +1,16 @@
 -- A well-formed text is characters, end to end: `Chars s`. It holds exactly where `wellFormed` does. Characters in front pass through
 -- `validUpTo` (`valid-over`), from which come concatenation, the longest prefix, and the turns of the loop that finds it. Assumes nothing.
 use mathlib.Core.Path.{_≡_, refl, sym, ap, _∙_}
-use mathlib.Core.Bool.{Bool, true, false, cond}
-use mathlib.Core.List.{List, [], _∷_, _++_, append-nil}
-use Prim.Native.Nat.{ℕ, zero, suc, _+_, _-_, _≤_, _<_}
+use mathlib.Core.Bool.{true}
+use mathlib.Core.List.{List, [], _++_, append-nil}
+use Prim.Native.Nat.{ℕ, zero, suc, _+_, _≤_, _<_}
 use native.Mathlib.Omega.{arith}
 use borrow.Author.Tests.{eq-eqb, eqb-true}
 use lib.Dec.{eqb, eqb·suc-zero}
-use lib.ListN.{length, getD, take, drop, length-append, length-take, length-drop, take-append-drop, drop-of-length-le}
-use lib.Seq.{take-add, take-length, take-all, drop-at, take-at, drop-append-le, drop-drop, length-take-le, drop-length}
-use Rattle.text.specs.Text.{lengthOf, character, validIn, validUpTo, wellFormed, boundary}
-use Rattle.text.proofs.Characters.{Front, one, Found, none, here, found, character-front, front-character, front-positive, front-inside, front-append, front-take}
+use lib.ListN.{length, take, drop, length-append, length-drop, take-append-drop, drop-of-length-le}
+use lib.Seq.{take-add, take-length, drop-at, drop-append-le, drop-drop, length-take-le}
+use Rattle.text.specs.Text.{character, validIn, validUpTo, wellFormed}
+use Rattle.text.proofs.Characters.{Front, Found, none, here, found, character-front, front-character, front-positive, front-inside, front-append, front-take}
 
 -- ---- the recursion with a bound
 
@@ -141,6 +141,11 @@ chars-valid {s} c = omega (arith, rw append-nil at (valid-over c []))
 pub chars-well : {s : List ℕ} → Chars s → wellFormed s ≡ true
 unfolding wellFormed
 chars-well {s} c = eq-eqb (validUpTo s) (length s) (chars-valid c)
+
+-- as a call that has `validUpTo` tests it
+pub well-by-valid : (s : List ℕ) → wellFormed s ≡ eqb (validUpTo s) (length s)
+unfolding wellFormed
+well-by-valid s = refl
 
 pub well-valid : (s : List ℕ) → wellFormed s ≡ true → validUpTo s ≡ length s
 unfolding wellFormed

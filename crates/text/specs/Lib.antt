@@ -1,4 +1,4 @@
--- RFC 3629, the number that an entry of its table is, and the span check.
+-- RFC 3629, the number that an entry of its table is, what the inner functions promise, and the span check.
 pub mod Text
 pub mod Lead
 pub mod Passing

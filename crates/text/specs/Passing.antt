@@ -1,4 +1,4 @@
--- What the parts of `valid_up_to` and `characters` promise one another. Definitions only; assumes nothing.
+-- What the functions behind `valid_up_to` and `characters` promise one another; no public call speaks of it. Definitions only; assumes nothing.
 use mathlib.Core.Path.{_≡_}
 use Prim.Native.Nat.{ℕ, _+_, _≤_, _<_}
 use mathlib.Core.List.{List}
@@ -9,7 +9,7 @@ use Rattle.text.specs.Text.{validUpTo, characters}
 abbrev pub Ascii : List ℕ → ℕ → ℕ → Type 0
 Ascii s i j = (k : ℕ) → i ≤ k → k < j → getD s k 0 < 0x80
 
--- from i up to j stand whole characters: what is valid from i on is what is valid from j on, and the bytes between
+-- j is reached from i over whole characters: what is valid from i on ends where what is valid from j on does
 pub record Passed (s : List ℕ) (i j : ℕ) : Type 0 where
   pub above : i ≤ j
   pub inside : j ≤ length s

@@ -7,7 +7,7 @@ pub mod utf8;
 ghost use Rattle.text.specs.Span.{TextAnswered, TextGiven};
 
 // The largest string table, in bytes.
-const MAX_TABLE: usize = 16_777_216;
+pub const MAX_TABLE: usize = 16_777_216;
 
 // What the call beside `text` answers: an empty part may be an accepted span.
 pub enum SpanAnswer {

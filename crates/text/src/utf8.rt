@@ -1,7 +1,7 @@
 // Which bytes are text by RFC 3629, and where its characters begin.
 use crate::lead;
 ghost use mathlib.Core.Path.{_≡_};
-ghost use mathlib.Core.Bool.{cond};
+ghost use mathlib.Core.Bool.{true, cond};
 ghost use Prim.Native.Nat.{_+_, _/_, _%_, _≤_, _<_};
 ghost use lib.ListN.{length, drop};
 ghost use Rattle.text.specs.Lead.{IsLead};
@@ -65,31 +65,31 @@ fn character_at(table: &[u32; 256], s: &[u8], i: usize) -> usize
     n
 }
 
-// How many bytes are looked at together, without a branch between them.
+// How many bytes are looked at together, without a branch between them, which compiles to sixteen at a time. A u8 counts them: at most 255.
 const BLOCK: usize = 64;
 
-// How many of the BLOCK bytes at i are not ASCII.
-fn high_bytes(s: &[u8], i: usize) -> u8
+// The BLOCK bytes at i are all ASCII: those that are add up to BLOCK.
+fn is_ascii_block(s: &[u8], i: usize) -> bool
     requires { ⌜ i + 64 ≤ length (now s) ⌝ }
-    ensures { λ r. ⌜ (r ≡ 0 → Ascii (now (s .entry)) i (i + 64)) ⌝ }
+    ensures { λ r. ⌜ (r ≡ true → Ascii (now (s .entry)) i (i + 64)) ⌝ }
 {
     let mut n: u8 = 0;
     let mut k: usize = 0;
     while k < BLOCK {
-        n += s[i + k] / 128;
+        n += 1 - s[i + k] / 128;
         k += 1;
     }
-    n
+    n as usize == BLOCK
 }
 
-// The end of the blocks of ASCII at i.
+// The end of the whole blocks of ASCII at i.
 fn past_blocks(s: &[u8], i: usize) -> usize
     requires { ⌜ i ≤ length (now s) ⌝ }
     ensures { λ r. ⌜ Passed (now (s .entry)) i r ⌝ }
 {
     let mut at = i;
     while BLOCK <= s.len() - at {
-        if high_bytes(s, at) != 0 {
+        if !is_ascii_block(s, at) {
             return at;
         }
         at += BLOCK;
@@ -97,17 +97,20 @@ fn past_blocks(s: &[u8], i: usize) -> usize
     at
 }
 
-// The end of the run of ASCII at i.
+// The end of the run of ASCII at i: byte by byte, and by blocks from a sixteenth place on, so that a short run costs no block.
 fn past_ascii(s: &[u8], i: usize) -> usize
     requires { ⌜ i ≤ length (now s) ⌝ }
     ensures { λ r. ⌜ Passed (now (s .entry)) i r ⌝ }
 {
-    let mut at = past_blocks(s, i);
+    let mut at = i;
     while at < s.len() {
         if 128 <= s[at] {
             return at;
         }
         at += 1;
+        if at % 16 == 0 {
+            at = past_blocks(s, at);
+        }
     }
     at
 }
@@ -151,7 +154,7 @@ fn valid_from(s: &[u8], i: usize) -> usize
 pub fn valid_up_to(s: &[u8]) -> usize
     ensures { λ r. ⌜ r ≡ validUpTo (now (s .entry)) ⌝ }
 {
-    let i = past_ascii(s, 0);
+    let i = past_ascii(s, past_blocks(s, 0));
     if i == s.len() {
         return i;
     }

@@ -1,11 +1,7 @@
 -- `text::text` meets its contract: an answer tells the fault, or that there is none and the span lies inside. Assumes nothing.
 use mathlib.Core.Path.{_≡_, sym, ap, _∙_}
-use mathlib.Core.List.{List}
-use mathlib.Core.Option.{Option, none, some}
-use Prim.Native.Nat.{ℕ, _+_, _≤_}
-use native.Mathlib.Omega.{arith}
+use mathlib.Core.Option.{Option, none}
 use borrow.Author.Needs.{needs}
-use lib.ListN.{length}
 use Rattle.refusal.specs.declared.Fault.{Fault}
 use Rattle.text.specs.Span.{spanOf, spanFault, givenFor}
 use Rattle.text.proofs.Spans.{part-is, refused-fault, accepted-none, accepted-inside}

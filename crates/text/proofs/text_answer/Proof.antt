@@ -1,6 +1,5 @@
 -- `text::text_answer` meets its contract: each return is the fault that its test finds, the last that there is none. Assumes nothing.
 use mathlib.Core.Path.{_≡_, sym, ap, _∙_}
-use Prim.Native.Nat.{ℕ, _<_, _≤_}
 use native.Mathlib.Omega.{arith}
 use borrow.Author.Needs.{needs}
 use Rattle.text.specs.Text.{validUpTo}
@@ -31,7 +30,8 @@ returns c =
 returns-2 : tie.Need-returns-2
 unfolding answerOf
 returns-2 c =
-    let a = c .before .before .before .args in
+    let sized = c .before in
+    let a = sized .before .before .args in
     record { answered = sym (ap answerOf (fault-span (a .tab .now) (a .off) (a .len) (omega arith) (omega arith))) }
 
 sub-valid-up-to : tie.Need-sub-valid-up-to

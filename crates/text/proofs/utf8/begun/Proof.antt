@@ -1,11 +1,9 @@
 -- `text::utf8::begun` meets its contract. The loop's invariant is the contract's, of the bytes so far. Assumes nothing.
 use mathlib.Core.Path.{_≡_}
-use mathlib.Core.List.{List}
-use Prim.Native.Nat.{ℕ, _+_, _-_, _≤_}
+use Prim.Native.Nat.{_+_, _-_, _≤_}
 use native.Mathlib.Nat.{add-zero}
 use native.Mathlib.Omega.{arith}
 use borrow.Author.Needs.{needs}
-use lib.ListN.{length}
 use Rattle.text.specs.Passing.{Counted}
 use Rattle.text.proofs.Passing.{counted-none, counted-byte}
 use Rattle.text.proofs.utf8.begun.Statement.{statement}
@@ -33,7 +31,10 @@ begins-requires : tie.Need-begins-requires Inv-loop μ-loop
 begins-requires c κs = search needs
 
 -- the count with the byte that was read
-counted : (c : tie.After-begins Inv-loop μ-loop) → let a = head c .before .before .args in Counted (a .s .now) (a .i) (a .i + (head c .loop .k + 1)) (head c .loop .n + c .begins .result)
+counted :
+    (c : tie.After-begins Inv-loop μ-loop)
+    → let a = head c .before .before .args in
+    Counted (a .s .now) (a .i) (a .i + (head c .loop .k + 1)) (head c .loop .n + c .begins .result)
 counted c =
     let a = head c .before .before .args in
     counted-byte (a .s .now) (a .i) (head c .loop .k) (head c .loop .n) (c .begins .result) (head c .loop .inv .1) (omega arith) (c .begins .ensures)

@@ -16,6 +16,9 @@ Inv-loop s i n₀ at₀ n at = (at ≤ length s) × Counted s i at n
 abbrev μ-loop : tie.MeasureT-loop
 μ-loop s i n₀ at₀ n at = length s - at
 
+abbrev text : tie.At-loop Inv-loop μ-loop → List ℕ
+text c = c .before .before .args .s .now
+
 abbrev head : tie.After-begins Inv-loop μ-loop → tie.At-loop Inv-loop μ-loop
 head c = c .before .before .before
 
@@ -54,7 +57,9 @@ loop-again : tie.Need-loop-again Inv-loop μ-loop
 loop-again c = (omega arith, counted c)
 
 returns : tie.Need-returns Inv-loop μ-loop
-returns c = let all : c .before .loop .at ≡ length (c .before .before .before .args .s .now) = omega arith in rw all at (c .before .loop .inv .1)
+returns c =
+    let all : c .before .loop .at ≡ length (text (c .before)) = omega arith in
+    rw all at (c .before .loop .inv .1)
 
 pub begun-from-spec : {M : Type 1} → statement M
 begun-from-spec =

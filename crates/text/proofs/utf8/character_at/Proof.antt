@@ -1,12 +1,11 @@
 -- `text::utf8::character_at` meets its contract: the entry has the length and the range of the lead byte, and each return is one case of
 -- `character`. Assumes nothing.
-use mathlib.Core.Path.{_≡_, refl, sym, ap, _∙_}
-use mathlib.Core.Bool.{true, false}
-use Prim.Native.Nat.{ℕ, _+_, _-_, _/_, _≤_, _<_}
+use mathlib.Core.Path.{_≡_, sym, ap, _∙_}
+use Prim.Native.Nat.{ℕ, _+_, _-_, _/_}
 use native.Mathlib.Omega.{arith}
 use borrow.Author.Needs.{needs}
 use borrow.Author.Tests.{not-true, not-false}
-use lib.ListN.{getD, drop, length}
+use lib.ListN.{getD, drop}
 use Rattle.text.specs.Text.{lengthOf, tails}
 use Rattle.text.proofs.Characters.{second}
 use Rattle.text.proofs.Entries.{entry-length, entry-second, length-le-four}

@@ -1,5 +1,4 @@
 -- `text::utf8::characters` meets its contract. The loop's invariant: the characters of the blocks so far are counted. Assumes nothing.
-use mathlib.Core.Path.{_≡_}
 use mathlib.Core.List.{List}
 use Prim.Native.Nat.{ℕ, _+_, _-_, _≤_}
 use native.Mathlib.Omega.{arith}

@@ -1,5 +1,5 @@
 -- `text::utf8::is_boundary` meets its contract: inside the text the byte decides, at and past its end the position. Assumes nothing.
-use mathlib.Core.Path.{_≡_, sym, ap, _∙_}
+use mathlib.Core.Path.{sym, ap, _∙_}
 use mathlib.Core.Bool.{not}
 use borrow.Author.Needs.{needs}
 use Rattle.text.proofs.Reading.{boundary-inside, boundary-outside}
@@ -12,9 +12,13 @@ shared-slice-read-is-tail c = search needs
 is-tail-requires : tie.Need-is-tail-requires
 is-tail-requires c κs = search needs
 
+-- the way back to the function's start from after the call
+abbrev start : tie.After-is-tail → tie.Start
+start c = c .before .before .before .before
+
 returns : tie.Need-returns
 returns c =
-    let a = c .before .before .before .before .args in
+    let a = start c .args in
     ap not (c .is-tail .ensures) ∙ sym (boundary-inside (a .s .now) (a .i) (c .before .before .if1 .taken))
 
 returns-2 : tie.Need-returns-2

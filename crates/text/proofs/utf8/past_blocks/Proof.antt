@@ -1,7 +1,7 @@
 -- `text::utf8::past_blocks` meets its contract. The loop's invariant is the contract's, of what was passed so far. Assumes nothing.
-use Prim.Native.Nat.{ℕ, _+_, _-_}
+use Prim.Native.Nat.{_+_, _-_}
 use native.Mathlib.Omega.{arith}
-use borrow.Author.Needs.{needs}
+use borrow.Author.Tests.{not-false}
 use lib.ListN.{length}
 use Rattle.text.specs.Passing.{Passed}
 use Rattle.text.proofs.Passing.{passed-none, passed-on, passed-ascii}
@@ -14,17 +14,21 @@ Inv-loop s i at₀ at = Passed s i at
 abbrev μ-loop : tie.MeasureT-loop
 μ-loop s i at₀ at = length s - at
 
+-- the way back to the loop's head from after the call
+abbrev head : tie.After-is-ascii-block Inv-loop μ-loop → tie.At-loop Inv-loop μ-loop
+head c = c .before .before
+
 loop-holds : tie.Need-loop-holds Inv-loop μ-loop
 loop-holds c = passed-none (c .before .args .s .now) (c .before .args .i) (omega arith)
 
 sub-loop : tie.Need-sub-loop Inv-loop μ-loop
 sub-loop c = omega arith
 
-high-bytes-requires : tie.Need-high-bytes-requires Inv-loop μ-loop
-high-bytes-requires c κs = omega arith
+is-ascii-block-requires : tie.Need-is-ascii-block-requires Inv-loop μ-loop
+is-ascii-block-requires c κs = omega arith
 
 returns : tie.Need-returns Inv-loop μ-loop
-returns c = c .before .before .before .loop .inv
+returns c = head (c .before) .loop .inv
 
 add-at : tie.Need-add-at Inv-loop μ-loop
 add-at c = omega arith
@@ -34,11 +38,11 @@ loop-less c = omega arith
 
 loop-again : tie.Need-loop-again Inv-loop μ-loop
 loop-again c =
-    let h = c .before .before .before in
+    let h = head (c .before) in
     let a = h .before .before .args in
     let at = h .loop .at in
     passed-on (a .s .now) (a .i) at (at + 64) (h .loop .inv)
-    (passed-ascii 64 (a .s .now) at (omega arith) (c .before .high-bytes .ensures (omega arith)))
+    (passed-ascii 64 (a .s .now) at (omega arith) (c .before .is-ascii-block .ensures (not-false _ (c .if1 .left))))
 
 returns-2 : tie.Need-returns-2 Inv-loop μ-loop
 returns-2 c = c .before .loop .inv
@@ -51,7 +55,7 @@ past-blocks-spec =
     μ-loop
     loop-holds
     sub-loop
-    high-bytes-requires
+    is-ascii-block-requires
     returns
     add-at
     loop-less

@@ -1,20 +1,24 @@
--- `text::utf8::high_bytes` meets its contract. The loop's invariant: while nothing was counted, all bytes so far are ASCII; a byte adds 0
+-- `text::utf8::is_ascii_block` meets its contract. The loop's invariant: where every byte so far was counted, all are ASCII; a byte is counted
 -- exactly where it is below 128. Assumes nothing.
 use mathlib.Core.Path.{_≡_}
-use mathlib.Core.List.{List}
-use Prim.Native.Nat.{ℕ, _+_, _-_, _≤_}
+use Prim.Native.Nat.{_+_, _-_, _≤_}
 use native.Mathlib.Omega.{arith}
+use borrow.Author.Tests.{eqb-true}
 use lib.ListN.{getD}
 use Rattle.text.specs.Passing.{Ascii}
 use Rattle.text.proofs.Passing.{ascii-none, ascii-more}
-use Rattle.text.proofs.utf8.high_bytes.Statement.{statement}
-use Rattle.text.proofs.utf8.high_bytes.Tie as tie
+use Rattle.text.proofs.utf8.is_ascii_block.Statement.{statement}
+use Rattle.text.proofs.utf8.is_ascii_block.Tie as tie
 
 abbrev Inv-loop : tie.InvT-loop
-Inv-loop s i n₀ k₀ n k = (k ≤ 64) × (n ≤ k) × (n ≡ 0 → Ascii s i (i + k))
+Inv-loop s i n₀ k₀ n k = (k ≤ 64) × (n ≤ k) × (n ≡ k → Ascii s i (i + k))
 
 abbrev μ-loop : tie.MeasureT-loop
 μ-loop s i n₀ k₀ n k = 64 - k
+
+-- the way back to the loop's head from where the byte is read
+abbrev head : tie.After-shared-slice-known Inv-loop μ-loop → tie.At-loop Inv-loop μ-loop
+head c = c .before .before
 
 loop-holds : tie.Need-loop-holds Inv-loop μ-loop
 loop-holds c = (omega arith, omega arith, λ e. ascii-none (c .args .s .now) (c .args .i))
@@ -26,8 +30,13 @@ shared-slice-read-n : tie.Need-shared-slice-read-n Inv-loop μ-loop
 shared-slice-read-n c = omega arith
 
 -- the byte that was read is one
-byte : (c : tie.After-shared-slice-known Inv-loop μ-loop) → getD (c .before .before .before .args .s .now) (c .before .before .before .args .i + c .before .before .loop .k) 0 ≤ 255
-byte c = omega (arith, c .shared-slice-known .given (c .before .before .before .args .i + c .before .before .loop .k))
+byte :
+    (c : tie.After-shared-slice-known Inv-loop μ-loop)
+    → let a = head c .before .args in getD (a .s .now) (a .i + head c .loop .k) 0 ≤ 255
+byte c = omega (arith, c .shared-slice-known .given (head c .before .args .i + head c .loop .k))
+
+sub-n : tie.Need-sub-n Inv-loop μ-loop
+sub-n c = omega (arith, byte c)
 
 add-n-2 : tie.Need-add-n-2 Inv-loop μ-loop
 add-n-2 c = omega (arith, byte c)
@@ -44,11 +53,16 @@ loop-again c =
     let a = h .before .args in
     (omega arith, omega (arith, byte c), λ e. ascii-more (a .s .now) (a .i) (h .loop .k) (h .loop .inv .2 (omega arith)) (omega arith))
 
-returns : tie.Need-returns Inv-loop μ-loop
-returns c e k p q = c .before .loop .inv .2 e k p (omega arith)
+cast-result : tie.Need-cast-result Inv-loop μ-loop
+cast-result c = omega arith
 
-pub high-bytes-spec : {M : Type 1} → statement M
-high-bytes-spec =
+returns : tie.Need-returns Inv-loop μ-loop
+returns c e k p q =
+    let h = c .before .loop in
+    h .inv .2 (omega (arith, eqb-true (h .n) 64 e)) k p (omega arith)
+
+pub is-ascii-block-spec : {M : Type 1} → statement M
+is-ascii-block-spec =
     tie.close
     (tie.spec
     Inv-loop
@@ -56,8 +70,10 @@ high-bytes-spec =
     loop-holds
     add-n
     shared-slice-read-n
+    sub-n
     add-n-2
     add-k
     loop-less
     loop-again
+    cast-result
     returns)
