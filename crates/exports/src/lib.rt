@@ -3,9 +3,9 @@
 use text::SpanAnswer;
 ghost use mathlib.Core.Path.{_≡_};
 ghost use lib.ListN.{length};
-ghost use Rattle.text.specs.Text.{lengthOf, validUpTo, boundary, characters};
+ghost use Rattle.text.specs.Text.{lengthOf, validUpTo, boundary};
 ghost use Rattle.text.specs.Span.{spanFault, spanOf, givenFor};
-ghost use Rattle.exports.specs.Flat.{status};
+ghost use Rattle.exports.specs.Flat.{status, charactersOf};
 
 // The length of the longest prefix made of whole well-formed characters.
 #[no_mangle]
@@ -31,12 +31,15 @@ pub extern "C" fn sk_is_boundary(s: &[u8], i: usize) -> bool
     text::utf8::is_boundary(s, i)
 }
 
-// How many bytes begin a character.
+// How many characters a text has; 0 for what is no text.
 #[no_mangle]
 pub extern "C" fn sk_characters(s: &[u8]) -> usize
-    ensures { λ r. ⌜ r ≡ characters (now (s .entry)) ⌝ }
+    ensures { λ r. ⌜ r ≡ charactersOf (now (s .entry)) ⌝ }
 {
-    text::utf8::characters(s)
+    if text::utf8::valid_up_to(s) < s.len() {
+        return 0;
+    }
+    text::checked::characters(s)
 }
 
 // Whether a span of the table is text: 0, or 1, 2 or 4.

@@ -1,17 +1,17 @@
 -- The turns of `valid_up_to`: whole characters are passed one by one, and a run of ASCII is passed at once, each of its bytes a character.
 -- `Passed` composes, so that each function only says what it passes itself. Assumes nothing.
 use mathlib.Core.Path.{_≡_, refl, _∙_}
-use mathlib.Core.Bool.{Bool, true, false, cond}
+use mathlib.Core.Bool.{Bool, true, false}
 use mathlib.Core.List.{List}
 use Prim.Native.Nat.{ℕ, zero, suc, _+_, _≤_, _<_}
 use native.Mathlib.Omega.{arith}
 use borrow.Author.Tests.{ltb-true, ltb-false}
 use lib.Dec.{ltb}
 use lib.ListN.{length, getD, drop}
-use Rattle.text.specs.Text.{tail, lengthOf, character}
-use Rattle.text.specs.Passing.{Ascii, Passed, Counted}
+use Rattle.text.specs.Text.{lengthOf, character}
+use Rattle.text.specs.Passing.{Ascii, Passed}
 use Rattle.text.proofs.Entries.{length-ascii}
-use Rattle.text.proofs.Reading.{character-short, characters-one, at-most-one}
+use Rattle.text.proofs.Reading.{character-short}
 use Rattle.text.proofs.Valid.{valid-turn, turn-inside}
 
 -- ---- a run of ASCII
@@ -56,22 +56,3 @@ passed-ascii (suc n) s i h run =
     let first : Passed s i (i + 1) = passed-byte s i (omega arith) (run i (omega arith) (omega arith)) in
     let later : Passed s (i + 1) (i + 1 + n) = passed-ascii n s (i + 1) (omega arith) (λ k p q. run k (omega arith) (omega arith)) in
     rw e at (passed-on s i (i + 1) (i + 1 + n) first later)
-
--- ---- what is counted
-
-pub counted-none : (s : List ℕ) (i : ℕ) → Counted s i i 0
-counted-none s i = record { few = omega arith; counted = omega arith }
-
-pub counted-on : (s : List ℕ) (i j k m n : ℕ) → Counted s i j m → Counted s j k n → Counted s i k (m + n)
-counted-on s i j k m n p q = record { few = omega arith; counted = omega arith }
-
-pub counted-one : (s : List ℕ) (i n : ℕ) → i < length s → n ≡ cond (tail (getD s i 0)) 0 1 → Counted s i (i + 1) n
-counted-one s i n h e =
-    record { few = omega (arith, at-most-one (tail (getD s i 0))); counted = omega (arith, characters-one s i h) }
-
--- one byte more
-pub counted-byte :
-    (s : List ℕ) (i k m n : ℕ) → Counted s i (i + k) m → i + k < length s → n ≡ cond (tail (getD s (i + k) 0)) 0 1 → Counted s i (i + (k + 1)) (m + n)
-counted-byte s i k m n p h e =
-    let next : i + k + 1 ≡ i + (k + 1) = omega arith in
-    rw next at (counted-on s i (i + k) (i + k + 1) m n p (counted-one s (i + k) n h e))

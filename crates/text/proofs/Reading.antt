@@ -124,12 +124,6 @@ module _ (s : List ℕ) (i : ℕ) where
         → character (drop i s) ≡ lengthOf (getD s i 0)
     character-whole e f = character-long h two ∙ rw (e, f)
 
-  -- ---- counting
-
-  pub characters-one : i < length s → characters (drop i s) ≡ cond (tail (getD s i 0)) 0 1 + characters (drop (i + 1) s)
-  unfolding characters
-  characters-one h = rw (from-one h)
-
   pub characters-past : length s ≤ i → characters (drop i s) ≡ 0
   unfolding characters
   characters-past h = rw (drop-of-length-le s h)

@@ -1,9 +1,9 @@
--- What the functions behind `valid_up_to` and `characters` promise one another; no public call speaks of it. Definitions only; assumes nothing.
+-- What the functions behind `valid_up_to` promise one another; no public call speaks of it. Definitions only; assumes nothing.
 use mathlib.Core.Path.{_≡_}
 use Prim.Native.Nat.{ℕ, _+_, _≤_, _<_}
 use mathlib.Core.List.{List}
 use lib.ListN.{length, getD, drop}
-use Rattle.text.specs.Text.{validUpTo, characters}
+use Rattle.text.specs.Text.{validUpTo}
 
 -- the bytes from i up to j are ASCII, each a character by itself
 abbrev pub Ascii : List ℕ → ℕ → ℕ → Type 0
@@ -19,8 +19,3 @@ pub record Passed (s : List ℕ) (i j : ℕ) : Type 0 where
 pub record Stepped (s : List ℕ) (i j : ℕ) : Type 0 where
   pub passed : Passed s i j
   pub stuck : j ≡ i → validUpTo (drop i s) ≡ 0
-
--- n of the bytes from i up to j begin a character
-pub record Counted (s : List ℕ) (i j n : ℕ) : Type 0 where
-  pub few : n + i ≤ j
-  pub counted : characters (drop i s) ≡ n + characters (drop j s)

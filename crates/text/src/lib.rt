@@ -1,6 +1,7 @@
 // RFC 3629 text: where it is well-formed, where its characters begin, and the span check over a lent string table.
 use refusal::Fault;
 
+pub mod checked;
 pub mod lead;
 pub mod utf8;
 

@@ -5,8 +5,8 @@ ghost use mathlib.Core.Bool.{true, cond};
 ghost use Prim.Native.Nat.{_+_, _/_, _%_, _≤_, _<_};
 ghost use lib.ListN.{length, drop};
 ghost use Rattle.text.specs.Lead.{IsLead};
-ghost use Rattle.text.specs.Passing.{Ascii, Passed, Stepped, Counted};
-ghost use Rattle.text.specs.Text.{within, tail, tails, character, validUpTo, boundary, characters};
+ghost use Rattle.text.specs.Passing.{Ascii, Passed, Stepped};
+ghost use Rattle.text.specs.Text.{within, tail, tails, character, validUpTo, boundary};
 
 // 80-BF: the byte continues a character.
 fn is_tail(b: u8) -> bool
@@ -169,55 +169,4 @@ pub fn is_boundary(s: &[u8], i: usize) -> bool
         return !is_tail(s[i]);
     }
     i == s.len()
-}
-
-// 1 where the byte begins a character, 0 where it continues one.
-fn begins(b: u8) -> u8
-    ensures { λ r. ⌜ r ≡ cond (tail b) 0 1 ⌝ }
-{
-    if is_tail(b) {
-        return 0;
-    }
-    1
-}
-
-// How many of the BLOCK bytes at i begin a character.
-fn begun(s: &[u8], i: usize) -> u8
-    requires { ⌜ i + 64 ≤ length (now s) ⌝ }
-    ensures { λ r. ⌜ Counted (now (s .entry)) i (i + 64) r ⌝ }
-{
-    let mut n: u8 = 0;
-    let mut k: usize = 0;
-    while k < BLOCK {
-        n += begins(s[i + k]);
-        k += 1;
-    }
-    n
-}
-
-// How many bytes from i on begin a character, one by one.
-fn begun_from(s: &[u8], i: usize) -> usize
-    requires { ⌜ i ≤ length (now s) ⌝ }
-    ensures { λ r. ⌜ Counted (now (s .entry)) i (length (now (s .entry))) r ⌝ }
-{
-    let mut n: usize = 0;
-    let mut at = i;
-    while at < s.len() {
-        n += begins(s[at]) as usize;
-        at += 1;
-    }
-    n
-}
-
-// How many characters a well-formed text has: the bytes that begin one.
-pub fn characters(s: &[u8]) -> usize
-    ensures { λ r. ⌜ r ≡ characters (now (s .entry)) ⌝ }
-{
-    let mut n: usize = 0;
-    let mut i = 0;
-    while BLOCK <= s.len() - i {
-        n += begun(s, i) as usize;
-        i += BLOCK;
-    }
-    n + begun_from(s, i)
 }
