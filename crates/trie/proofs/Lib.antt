@@ -4,4 +4,6 @@
 pub mod Every
 -- the test of soundness and the record of its facts say the same
 pub mod SoundParts
+-- looking a byte up among rising bytes
+pub mod Seeking
 pub mod Determinacy

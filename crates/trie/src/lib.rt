@@ -1,6 +1,7 @@
 // Trie parts in lent columns: soundness, steps and walks, and looking a string up.
 use refusal::Fault;
 
+pub mod checked;
 pub mod soundness;
 
 // What a look-up answers.
