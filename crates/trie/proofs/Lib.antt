@@ -6,4 +6,9 @@ pub mod Every
 pub mod SoundParts
 -- looking a byte up among rising bytes
 pub mod Seeking
+-- walks compose, and stay in sound parts
+pub mod Walking
+-- which test gives which fault, and what an answer says, both ways
+pub mod Lookups
+-- the promise of a look-up fixes its answer
 pub mod Determinacy
