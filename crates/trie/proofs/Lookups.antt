@@ -50,6 +50,13 @@ module _ {sound : Bool} {t : Trie} {s : List ℕ} where
   unfolding lookupAnswer
   found-for {o} e i = record { answered = sym (ap (λ (f : Option Fault). lookupAnswer f (idOf t s)) e ∙ ap found i) }
 
+  -- with what the test of soundness answered
+  pub refused-unsound : length s ≤ maxText → sound ≡ false → LookedUp sound t s (Refused fault.Trie)
+  refused-unsound size e = refused-for (ap (λ (b : Bool). lookupFault b s) e ∙ fault-trie s size)
+
+  pub looked-sound : {a : LookupAnswer} → sound ≡ true → LookedUp true t s a → LookedUp sound t s a
+  looked-sound e p = record { answered = p .answered ∙ ap (λ (b : Bool). lookupAnswer (lookupFault b s) (idOf t s)) (sym e) }
+
 -- ---- exactly when
 
 -- the faults and ids behind an answer

@@ -105,7 +105,14 @@ pub fn id_at(id: &[u32], at: Walk) -> NodeId
 }
 
 // The id of the string s, if it has one.
-pub fn exact(edge_at: &[u32], edge_n: &[u16], id: &[u32], byte: &[u8], to: &[u32], s: &[u8]) -> NodeId
+pub fn exact(
+    edge_at: &[u32],
+    edge_n: &[u16],
+    id: &[u32],
+    byte: &[u8],
+    to: &[u32],
+    s: &[u8],
+) -> NodeId
     requires { ⌜ Sound (partsOf (now «edge_at») (now «edge_n») (now id) (now byte) (now to)) ⌝ }
     ensures { λ r. ⌜ idIn r ≡ idOf (partsOf (now («edge_at» .entry)) (now («edge_n» .entry)) (now (id .entry)) (now (byte .entry)) (now (to .entry))) (now (s .entry)) ⌝ }
 {

@@ -25,7 +25,14 @@ pub enum LookupAnswer {
 }
 
 // The look-up in sound parts of a text within the limit: what is left to refuse is an ill-formed text.
-fn look_up(edge_at: &[u32], edge_n: &[u16], id: &[u32], byte: &[u8], to: &[u32], s: &[u8]) -> LookupAnswer
+fn look_up(
+    edge_at: &[u32],
+    edge_n: &[u16],
+    id: &[u32],
+    byte: &[u8],
+    to: &[u32],
+    s: &[u8],
+) -> LookupAnswer
     requires { ⌜ Sound (partsOf (now «edge_at») (now «edge_n») (now id) (now byte) (now to)) × (length (now s) ≤ 65536) ⌝ }
     ensures { λ r. ⌜ LookedUp true (partsOf (now («edge_at» .entry)) (now («edge_n» .entry)) (now (id .entry)) (now (byte .entry)) (now (to .entry))) (now (s .entry)) r ⌝ }
 {

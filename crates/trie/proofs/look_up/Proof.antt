@@ -1,38 +1,55 @@
+-- `trie::look_up` meets its contract: an ill-formed text is refused, and else the answer is the string's id or that it has none.
+-- Assumes nothing.
+use mathlib.Core.Path.{_≡_, sym, ap, _∙_}
+use mathlib.Core.Bool.{true}
+use mathlib.Core.Option.{Option, none}
+use native.Mathlib.Omega.{arith}
 use borrow.Author.Needs.{needs}
+use Rattle.refusal.specs.declared.Fault.{Fault}
+use Rattle.trie.specs.Walks.{idIn}
+use Rattle.trie.specs.Lookup.{lookupFault, found}
+use Rattle.trie.proofs.Lookups.{fault-text, fault-none, refused-for, found-for}
 use Rattle.trie.proofs.look_up.Statement.{statement}
 use Rattle.trie.proofs.look_up.Tie as tie
-use Rattle.trie.proofs.look_up.Reads as reads
-use Rattle.trie.proofs.look_up.Lts as lts
-use Rattle.text.proofs.utf8.valid_up_to.Reads as valid-up-to-reads
-use Rattle.trie.proofs.checked.exact.Reads as exact-reads
 
--- src/lib.rt:32:8
+-- the function's start, from after the first call
+abbrev entry : tie.After-valid-up-to → tie.Start
+entry c = c .before .before .before .before .before .before .before
+
+-- nothing is refused
+accepted : (c : tie.Else1) → lookupFault true (entry (c .before) .args .s .now) ≡ none
+accepted c =
+    let e = entry (c .before) in
+    fault-none (e .args .s .now) (e .pre .1) (omega (arith, c .before .valid-up-to .ensures, c .if1 .left))
+
 valid-up-to-requires : tie.Need-valid-up-to-requires
 valid-up-to-requires c κs = search needs
 
--- src/lib.rt:33:9
 returns : tie.Need-returns
-returns c = ?
+returns c =
+    let e = entry (c .before) in
+    refused-for (fault-text (e .args .s .now) (e .pre .1) (omega (arith, c .before .valid-up-to .ensures, c .if1 .taken)))
 
--- src/lib.rt:35:11
 exact-requires : tie.Need-exact-requires
-exact-requires c κs = search needs
+exact-requires c κs = entry (c .before) .pre .0
 
--- src/lib.rt:36:20
 enum-known-i : tie.Need-enum-known-i
 enum-known-i c = search needs
 
--- src/lib.rt:37:28
 enum-told : tie.Need-enum-told
 enum-told c = search needs
 
--- src/lib.rt:28:1
 returns-2 : tie.Need-returns-2
-returns-2 c = ?
+unfolding found
+returns-2 c =
+    let told = c .before .before .before in
+    found-for (accepted (told .before)) (sym (told .exact .ensures) ∙ ap idIn (c .before .i .given .1))
 
--- src/lib.rt:28:1
 returns-3 : tie.Need-returns-3
-returns-3 c = ?
+unfolding found
+returns-3 c =
+    let told = c .before .before in
+    found-for (accepted (told .before)) (sym (told .exact .ensures) ∙ ap idIn (c .enum-told .given .1))
 
 pub look-up-spec : {M : Type 1} → statement M
 look-up-spec =

@@ -69,14 +69,13 @@ loop-less c = omega arith
 loop-again : tie.Need-loop-again Inv-loop μ-loop
 loop-again c =
     let h = head (c .before .before) in
-    let a = h .before .args in
-    (
+    let a = h .before .args in (
       omega arith,
       omega arith,
       omega arith,
       h .loop .inv .3
-      ∙ halves-up (a .byte .now) (a .to .now) (a .b) (a .at) (a .n) (h .before .pre .rising) (h .loop .low) (mid h) (h .loop .high)
-      (omega arith) (omega arith) (omega arith) (omega arith) (c .if2 .taken),
+          ∙ halves-up (a .byte .now) (a .to .now) (a .b) (a .at) (a .n) (h .before .pre .rising) (h .loop .low) (mid h) (h .loop .high)
+          (omega arith) (omega arith) (omega arith) (omega arith) (c .if2 .taken),
     )
 
 loop-less-2 : tie.Need-loop-less-2 Inv-loop μ-loop
@@ -86,14 +85,13 @@ loop-again-2 : tie.Need-loop-again-2 Inv-loop μ-loop
 loop-again-2 c =
     let h = head (c .before .before) in
     let a = h .before .args in
-    let above : a .b < getD (a .byte .now) (mid h) 0 = omega (arith, c .before .if1 .left, c .if2 .left) in
-    (
+    let above : a .b < getD (a .byte .now) (mid h) 0 = omega (arith, c .before .if1 .left, c .if2 .left) in (
       omega arith,
       omega arith,
       omega arith,
       h .loop .inv .3
-      ∙ halves-down (a .byte .now) (a .to .now) (a .b) (a .at) (a .n) (h .before .pre .rising) (h .loop .low) (mid h) (h .loop .high)
-      (omega arith) (omega arith) (omega arith) (omega arith) above,
+          ∙ halves-down (a .byte .now) (a .to .now) (a .b) (a .at) (a .n) (h .before .pre .rising) (h .loop .low) (mid h) (h .loop .high)
+          (omega arith) (omega arith) (omega arith) (omega arith) above,
     )
 
 returns-2 : tie.Need-returns-2 Inv-loop μ-loop

@@ -43,7 +43,7 @@ text c = c .args .s .now
 stepped :
     (c : tie.After-step Inv-loop μ-loop) (ids : List ℕ)
     → let h = head c in
-      step (parts (entry (h .before)) ids) (h .loop .node) (getD (text (entry (h .before))) (h .loop .i) 0) ≡ nextOf (c .step .result)
+    step (parts (entry (h .before)) ids) (h .loop .node) (getD (text (entry (h .before))) (h .loop .i) 0) ≡ nextOf (c .step .result)
 stepped c ids = sym (c .step .ensures ids)
 
 loop-holds : tie.Need-loop-holds Inv-loop μ-loop
@@ -83,15 +83,14 @@ loop-less c = omega arith
 led :
     (c : tie.After-next Inv-loop μ-loop) (ids : List ℕ)
     → let h = head (c .before .before) in
-      step (parts (entry (h .before)) ids) (h .loop .node) (getD (text (entry (h .before))) (h .loop .i) 0) ≡ some (c .next .given .0 .0 .node)
+    step (parts (entry (h .before)) ids) (h .loop .node) (getD (text (entry (h .before))) (h .loop .i) 0) ≡ some (c .next .given .0 .0 .node)
 led c ids = stepped (c .before .before) ids ∙ ap nextOf (c .next .given .1)
 
 loop-again : tie.Need-loop-again Inv-loop μ-loop
 loop-again c =
     let next = c .before in
     let h = head (next .before .before) in
-    let e = entry (h .before) in
-    (
+    let e = entry (h .before) in (
       omega arith,
       step-inside (e .pre .parts) (h .loop .node) (getD (text e) (h .loop .i) 0) (h .loop .inv .1) (led next (e .pre .ids)),
       λ ids.
