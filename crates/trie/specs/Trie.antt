@@ -17,6 +17,10 @@ pub record Trie : Type 0 where
   pub byte : List ℕ
   pub to : List ℕ
 
+-- the parts that lent columns hold, in the columns' order
+abbrev pub partsOf : List ℕ → List ℕ → List ℕ → List ℕ → List ℕ → Trie
+partsOf edgeAt edgeN id byte to = record { edgeAt = edgeAt; edgeN = edgeN; id = id; byte = byte; to = to }
+
 -- the target of the byte b among the n edges from `at` on
 unfoldable pub seek : List ℕ → List ℕ → ℕ → ℕ → ℕ → Option ℕ
 seek bytes tos b at zero = none

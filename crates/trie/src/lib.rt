@@ -1,9 +1,88 @@
 // Trie parts in lent columns: soundness, steps and walks, and looking a string up.
+use checked::NodeId;
 use refusal::Fault;
+
+pub mod checked;
+pub mod soundness;
+
+ghost use mathlib.Core.Bool.{true};
+ghost use mathlib.Core.List.{map};
+ghost use Prim.Native.Nat.{_≤_};
+ghost use lib.ListN.{length};
+ghost use Rattle.doubles.specs.Units.{units};
+ghost use Rattle.trie.specs.Trie.{partsOf};
+ghost use Rattle.trie.specs.Sound.{sound, soundScored, Sound};
+ghost use Rattle.trie.specs.Lookup.{LookedUp};
+
+// The longest text, in bytes.
+const MAX_TEXT: usize = 65_536;
 
 // What a look-up answers.
 pub enum LookupAnswer {
     Found(u32),
     Absent,
     Refused(Fault),
+}
+
+// The look-up in sound parts of a text within the limit: what is left to refuse is an ill-formed text.
+fn look_up(
+    edge_at: &[u32],
+    edge_n: &[u16],
+    id: &[u32],
+    byte: &[u8],
+    to: &[u32],
+    s: &[u8],
+) -> LookupAnswer
+    requires { ⌜ Sound (partsOf (now «edge_at») (now «edge_n») (now id) (now byte) (now to)) × (length (now s) ≤ 65536) ⌝ }
+    ensures { λ r. ⌜ LookedUp true (partsOf (now («edge_at» .entry)) (now («edge_n» .entry)) (now (id .entry)) (now (byte .entry)) (now (to .entry))) (now (s .entry)) r ⌝ }
+{
+    if text::utf8::valid_up_to(s) < s.len() {
+        return LookupAnswer::Refused(Fault::Text);
+    }
+    match checked::exact(edge_at, edge_n, id, byte, to, s) {
+        NodeId::Is(i) => LookupAnswer::Found(i),
+        NodeId::Missing => LookupAnswer::Absent,
+    }
+}
+
+// The id of a text in a Unigram trie's parts: refused are a text above the limit, then parts that are not sound, then an ill-formed text.
+pub fn exact(
+    edge_at: &[u32],
+    edge_n: &[u16],
+    id: &[u32],
+    score: &[f64],
+    byte: &[u8],
+    to: &[u32],
+    unknown_score: f64,
+    s: &[u8],
+) -> LookupAnswer
+    ensures { λ r. ⌜ LookedUp (soundScored (partsOf (now («edge_at» .entry)) (now («edge_n» .entry)) (now (id .entry)) (now (byte .entry)) (now (to .entry))) (map units (now (score .entry))) (units «unknown_score»)) (partsOf (now («edge_at» .entry)) (now («edge_n» .entry)) (now (id .entry)) (now (byte .entry)) (now (to .entry))) (now (s .entry)) r ⌝ }
+{
+    if MAX_TEXT < s.len() {
+        return LookupAnswer::Refused(Fault::Size);
+    }
+    if !soundness::sound_scored(edge_at, edge_n, id, score, byte, to, unknown_score) {
+        return LookupAnswer::Refused(Fault::Trie);
+    }
+    look_up(edge_at, edge_n, id, byte, to, s)
+}
+
+// The same in parts without scores.
+pub fn exact_unscored(
+    edge_at: &[u32],
+    edge_n: &[u16],
+    id: &[u32],
+    byte: &[u8],
+    to: &[u32],
+    s: &[u8],
+) -> LookupAnswer
+    ensures { λ r. ⌜ LookedUp (sound (partsOf (now («edge_at» .entry)) (now («edge_n» .entry)) (now (id .entry)) (now (byte .entry)) (now (to .entry)))) (partsOf (now («edge_at» .entry)) (now («edge_n» .entry)) (now (id .entry)) (now (byte .entry)) (now (to .entry))) (now (s .entry)) r ⌝ }
+{
+    if MAX_TEXT < s.len() {
+        return LookupAnswer::Refused(Fault::Size);
+    }
+    if !soundness::sound(edge_at, edge_n, id, byte, to) {
+        return LookupAnswer::Refused(Fault::Trie);
+    }
+    look_up(edge_at, edge_n, id, byte, to, s)
 }

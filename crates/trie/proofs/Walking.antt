@@ -1,0 +1,197 @@
+-- Steps and walks. A walk is its first step and the walk after it, so walks compose, each law an induction on the string. In sound parts
+-- every target is a node, so a step, and then a walk, from a node leads to a node. Neither looks at the ids. Assumes nothing.
+use mathlib.Core.Path.{_≡_, refl, sym, ap, _∙_}
+use mathlib.Core.Bool.{Bool, true, false, cond}
+use mathlib.Core.List.{List, [], _∷_, _++_}
+use mathlib.Core.Option.{Option, none, some, bind}
+use Prim.Native.Nat.{ℕ, zero, suc, _+_, _≤_, _<_}
+use native.Mathlib.Numerals.{add-one}
+use native.Mathlib.Omega.{arith}
+use borrow.Author.Tests.{eq-eqb, ne-eqb}
+use lib.Dec.{eqb}
+use lib.ListN.{length, getD, drop, drop-of-length-le}
+use lib.Seq.{drop-cons}
+use Rattle.refusal.specs.Sizes.{noId}
+use Rattle.trie.specs.Trie.{Trie, partsOf, seek, step, walk, idAt, idFrom, idOf}
+use Rattle.trie.specs.Sound.{Sound}
+
+-- nothing is not something
+pub not-some : {j : ℕ} → none ≡ some j → ⊥
+not-some e = let z : _≡_ {A = ℕ} 0 1 = cc in omega arith
+
+-- ---- one step more
+
+module _ (t : Trie) where
+  pub walk-nil : (k : ℕ) → walk t k [] ≡ some k
+  unfolding walk
+  walk-nil k = refl
+
+  -- in front
+  pub walk-cons : (k b : ℕ) (s : List ℕ) → walk t k (b ∷ s) ≡ bind (step t k b) (λ j. walk t j s)
+  unfolding walk bind
+  walk-cons k b s = go (step t k b)
+    where
+      go : (o : Option ℕ) → elim o [ none ↦ none | some j ↦ walk t j s ] ≡ bind o (λ j. walk t j s)
+      go none = refl
+      go (some j) = refl
+
+  pub walk-stop : (k b : ℕ) (s : List ℕ) → step t k b ≡ none → walk t k (b ∷ s) ≡ none
+  unfolding bind
+  walk-stop k b s e = walk-cons k b s ∙ ap (λ (o : Option ℕ). bind o (λ j. walk t j s)) e
+
+  pub walk-to : (k b : ℕ) (s : List ℕ) {j : ℕ} → step t k b ≡ some j → walk t k (b ∷ s) ≡ walk t j s
+  unfolding bind
+  walk-to k b s e = walk-cons k b s ∙ ap (λ (o : Option ℕ). bind o (λ j. walk t j s)) e
+
+  -- a walk over s and then over u
+  pub walk-append : (k : ℕ) (s u : List ℕ) → walk t k (s ++ u) ≡ bind (walk t k s) (λ j. walk t j u)
+  unfolding walk bind
+  walk-append k [] u = refl
+  walk-append k (b ∷ s) u = go (step t k b) (λ j. walk-append j s u)
+    where
+      go :
+          (o : Option ℕ) → ((j : ℕ) → walk t j (s ++ u) ≡ bind (walk t j s) (λ i. walk t i u))
+          → elim o [ none ↦ none | some j ↦ walk t j (s ++ u) ] ≡ bind (elim o [ none ↦ none | some j ↦ walk t j s ]) (λ i. walk t i u)
+      go none all = refl
+      go (some j) all = all j
+
+  pub walk-append-to : (k : ℕ) (s u : List ℕ) {j : ℕ} → walk t k s ≡ some j → walk t k (s ++ u) ≡ walk t j u
+  unfolding bind
+  walk-append-to k s u e = walk-append k s u ∙ ap (λ (o : Option ℕ). bind o (λ j. walk t j u)) e
+
+  pub walk-append-none : (k : ℕ) (s u : List ℕ) → walk t k s ≡ none → walk t k (s ++ u) ≡ none
+  unfolding bind
+  walk-append-none k s u e = walk-append k s u ∙ ap (λ (o : Option ℕ). bind o (λ j. walk t j u)) e
+
+  -- one byte alone, and one at the end
+  pub walk-one : (k b : ℕ) → walk t k (b ∷ []) ≡ step t k b
+  unfolding walk
+  walk-one k b = go (step t k b)
+    where
+      go : (o : Option ℕ) → elim o [ none ↦ none | some j ↦ some j ] ≡ o
+      go none = refl
+      go (some j) = refl
+
+  pub walk-snoc : (k : ℕ) (s : List ℕ) (b : ℕ) → walk t k (s ++ (b ∷ [])) ≡ bind (walk t k s) (λ j. step t j b)
+  unfolding bind
+  walk-snoc k s b = walk-append k s (b ∷ []) ∙ go (walk t k s)
+    where
+      go : (o : Option ℕ) → bind o (λ j. walk t j (b ∷ [])) ≡ bind o (λ j. step t j b)
+      go none = refl
+      go (some j) = walk-one j b
+
+  -- ---- the turns of a walk over s that has come to i
+
+  module _ (s : List ℕ) (i : ℕ) where
+    pub turn-stop : (k : ℕ) → i < length s → step t k (getD s i 0) ≡ none → walk t k (drop i s) ≡ none
+    turn-stop k l e = rw (drop-cons s i 0 l) (walk-stop k (getD s i 0) (drop (suc i) s) e)
+
+    pub turn-to : (k : ℕ) {j : ℕ} → i < length s → step t k (getD s i 0) ≡ some j → walk t k (drop i s) ≡ walk t j (drop (i + 1) s)
+    turn-to k l e = rw (add-one, drop-cons s i 0 l) (walk-to k (getD s i 0) (drop (suc i) s) e)
+
+    pub turn-end : (k : ℕ) → length s ≤ i → walk t k (drop i s) ≡ some k
+    turn-end k l = rw (drop-of-length-le s l) (walk-nil k)
+
+-- ---- ids
+
+-- a place that is there has no default
+pub getD-inside : (xs : List ℕ) (k c d : ℕ) → k < length xs → getD xs k c ≡ getD xs k d
+getD-inside [] k c d l = absurd (omega arith)
+getD-inside (x ∷ xs) zero c d l = refl
+getD-inside (x ∷ xs) (suc k) c d l = getD-inside xs k c d (omega arith)
+
+module _ (t : Trie) (k : ℕ) where
+  pub id-none : k < length (t .id) → getD (t .id) k 0 ≡ noId → idAt t k ≡ none
+  unfolding idAt
+  id-none l e = rw (eq-eqb (getD (t .id) k noId) noId (getD-inside (t .id) k noId 0 l ∙ e))
+
+  pub id-some : k < length (t .id) → (getD (t .id) k 0 ≡ noId → ⊥) → idAt t k ≡ some (getD (t .id) k 0)
+  unfolding idAt
+  id-some l e =
+      rw (ne-eqb (getD (t .id) k noId) noId (λ same. e (getD-inside (t .id) k 0 noId l ∙ same)))
+      (ap some (getD-inside (t .id) k noId 0 l))
+
+  pub from-walk : (s : List ℕ) → idFrom t k s ≡ bind (walk t k s) (idAt t)
+  unfolding idFrom bind
+  from-walk s = go (walk t k s)
+    where
+      go : (o : Option ℕ) → elim o [ none ↦ none | some j ↦ idAt t j ] ≡ bind o (idAt t)
+      go none = refl
+      go (some j) = refl
+
+  pub from-none : (s : List ℕ) → walk t k s ≡ none → idFrom t k s ≡ none
+  unfolding bind
+  from-none s e = from-walk s ∙ ap (λ (o : Option ℕ). bind o (idAt t)) e
+
+  pub from-some : (s : List ℕ) {j : ℕ} → walk t k s ≡ some j → idFrom t k s ≡ idAt t j
+  unfolding bind
+  from-some s e = from-walk s ∙ ap (λ (o : Option ℕ). bind o (idAt t)) e
+
+-- the id of what a walk over s leads on to
+pub from-append : (t : Trie) (k : ℕ) (s u : List ℕ) → idFrom t k (s ++ u) ≡ bind (walk t k s) (λ j. idFrom t j u)
+unfolding bind
+from-append t k s u =
+    from-walk t k (s ++ u) ∙ ap (λ (o : Option ℕ). bind o (idAt t)) (walk-append t k s u) ∙ go (walk t k s)
+  where
+    go : (o : Option ℕ) → bind (bind o (λ j. walk t j u)) (idAt t) ≡ bind o (λ j. idFrom t j u)
+    go none = refl
+    go (some j) = sym (from-walk t j u)
+
+-- the id of a string is that of the walk from the root
+pub id-of : (t : Trie) (s : List ℕ) → idOf t s ≡ idFrom t 0 s
+unfolding idOf
+id-of t s = refl
+
+-- ---- steps and walks look at no ids
+
+module _ (edgeAt edgeN byte to ids others : List ℕ) where
+  pub step-ids : (k b : ℕ) → step (partsOf edgeAt edgeN ids byte to) k b ≡ step (partsOf edgeAt edgeN others byte to) k b
+  unfolding step
+  step-ids k b = refl
+
+  pub walk-ids : (k : ℕ) (s : List ℕ) → walk (partsOf edgeAt edgeN ids byte to) k s ≡ walk (partsOf edgeAt edgeN others byte to) k s
+  unfolding step bind
+  walk-ids k [] = walk-nil _ k ∙ sym (walk-nil _ k)
+  walk-ids k (b ∷ s) =
+      walk-cons (partsOf edgeAt edgeN ids byte to) k b s
+      ∙ go (step (partsOf edgeAt edgeN ids byte to) k b) (λ j. walk-ids j s)
+      ∙ sym (walk-cons (partsOf edgeAt edgeN others byte to) k b s)
+    where
+      go :
+          (o : Option ℕ)
+          → ((j : ℕ) → walk (partsOf edgeAt edgeN ids byte to) j s ≡ walk (partsOf edgeAt edgeN others byte to) j s)
+          → bind o (λ j. walk (partsOf edgeAt edgeN ids byte to) j s) ≡ bind o (λ j. walk (partsOf edgeAt edgeN others byte to) j s)
+      go none all = refl
+      go (some j) all = all j
+
+-- ---- in sound parts
+
+-- a target that was found is one of those that were looked at
+seek-inside :
+    (bytes tos : List ℕ) (b m : ℕ) (n at : ℕ) {j : ℕ} → ((e : ℕ) → at ≤ e → e < at + n → getD tos e 0 < m) → seek bytes tos b at n ≡ some j → j < m
+unfolding seek
+seek-inside bytes tos b m zero at all h = absurd (not-some h)
+seek-inside bytes tos b m (suc n) at {j} all h =
+    pick (eqb (getD bytes at 0) b) (all at (omega arith) (omega arith)) (seek-inside bytes tos b m n (suc at) (λ e p q. all e (omega arith) (omega arith))) h
+  where
+    pick : (t : Bool) {x : ℕ} {o : Option ℕ} → x < m → (o ≡ some j → j < m) → cond t (some x) o ≡ some j → j < m
+    pick true {x} l later e = let same : x ≡ j = cc in omega arith
+    pick false l later e = later e
+
+module _ {t : Trie} (sound : Sound t) where
+  pub step-inside : (k b : ℕ) {j : ℕ} → k < length (t .edgeAt) → step t k b ≡ some j → j < length (t .edgeAt)
+  unfolding step
+  step-inside k b l e =
+      seek-inside (t .byte) (t .to) b (length (t .edgeAt)) (getD (t .edgeN) k 0) (getD (t .edgeAt) k 0)
+      (λ i p q. sound .target i (omega (arith, sound .inside k l))) e
+
+  pub walk-inside : (k : ℕ) (s : List ℕ) {j : ℕ} → k < length (t .edgeAt) → walk t k s ≡ some j → j < length (t .edgeAt)
+  unfolding walk
+  walk-inside k [] {j} l e = let same : k ≡ j = cc in omega arith
+  walk-inside k (b ∷ s) {j} l e = go (step t k b) (λ i p. step-inside k b l p) (λ i p. walk-inside i s p) e
+    where
+      go :
+          (o : Option ℕ) → ((i : ℕ) → o ≡ some i → i < length (t .edgeAt)) → ((i : ℕ) → i < length (t .edgeAt) → walk t i s ≡ some j → j < length (t .edgeAt))
+          → elim o [ none ↦ none | some i ↦ walk t i s ] ≡ some j → j < length (t .edgeAt)
+      go none p q h = absurd (not-some h)
+      go (some i) p q h = q i (p i refl) h

@@ -1,0 +1,63 @@
+-- `trie::checked::Walk::step` meets its contract: the edges of a node of sound parts are what the search asks for. Assumes nothing.
+use mathlib.Core.Path.{_≡_, refl, sym, ap, _∙_}
+use native.Mathlib.Omega.{arith}
+use borrow.Author.Needs.{needs}
+use lib.ListN.{length, getD}
+use Rattle.trie.specs.Trie.{step}
+use Rattle.trie.specs.Walks.{Edges}
+use Rattle.trie.proofs.checked.Walk.step.Statement.{statement}
+use Rattle.trie.proofs.checked.Walk.step.Tie as tie
+
+-- the function's start, from after the first read
+abbrev entry : tie.After-shared-slice-known5 → tie.Start
+entry c = c .before .before .before .before .before .before
+
+cast-node : tie.Need-cast-node
+cast-node c = search needs
+
+mul-at : tie.Need-mul-at
+mul-at c = search needs
+
+shared-slice-read-at : tie.Need-shared-slice-read-at
+shared-slice-read-at c = search needs
+
+cast-at : tie.Need-cast-at
+cast-at c = omega (arith, c .shared-slice-known5 .given (entry c .args .self .node))
+
+mul-n : tie.Need-mul-n
+mul-n c = search needs
+
+shared-slice-read-n : tie.Need-shared-slice-read-n
+shared-slice-read-n c = search needs
+
+cast-n : tie.Need-cast-n
+cast-n c = omega (arith, c .shared-slice-known6 .given (entry (c .before) .args .self .node))
+
+seek-requires : tie.Need-seek-requires
+seek-requires c κs =
+    let e = entry (c .before) in
+    let node = e .args .self .node in
+    let p = e .pre .parts in
+    record {
+      inside = p .inside node (e .pre .inside);
+      inside-to = omega (arith, p .inside node (e .pre .inside), p .level-to);
+      rising = λ i. p .rising node i (e .pre .inside);
+    }
+
+returns : tie.Need-returns
+unfolding step
+returns c ids = c .seek .ensures
+
+pub step-spec : {M : Type 1} → statement M
+step-spec =
+    tie.close
+    (tie.spec
+    cast-node
+    mul-at
+    shared-slice-read-at
+    cast-at
+    mul-n
+    shared-slice-read-n
+    cast-n
+    seek-requires
+    returns)

@@ -1,0 +1,77 @@
+-- `trie::checked::exact` meets its contract: the string's id is that of the node its walk from the root ends in. Assumes nothing.
+use mathlib.Core.Path.{_≡_, refl, sym, ap, _∙_}
+use mathlib.Core.List.{List}
+use mathlib.Core.Option.{Option, none, some}
+use Prim.Native.Nat.{ℕ, _<_}
+use native.Mathlib.Omega.{arith}
+use borrow.Author.Needs.{needs}
+use lib.ListN.{length}
+use Rattle.trie.specs.Trie.{Trie, partsOf, walk, idFrom}
+use Rattle.trie.specs.Walks.{Stands, nextOf}
+use Rattle.trie.proofs.Walking.{id-of, from-none, from-some, walk-inside}
+use Rattle.trie.proofs.checked.exact.Statement.{statement}
+use Rattle.trie.proofs.checked.exact.Tie as tie
+
+-- the function's start, from after the call of `root`
+abbrev entry : tie.After-root → tie.Start
+entry c = c .before .before .before .before .before .before .before
+
+abbrev parts : tie.Start → Trie
+parts c = let a = c .args in partsOf (a .edge-at .now) (a .edge-n .now) (a .id .now) (a .byte .now) (a .to .now)
+
+-- where the walk from the root ends
+walked : (c : tie.After-over) → let e = entry (c .before) in walk (parts e) 0 (e .args .s .now) ≡ nextOf (c .over .result)
+walked c =
+    let e = entry (c .before) in
+    sym (c .over .ensures (e .args .id .now) ∙ ap (λ (k : ℕ). walk (parts e) k (e .args .s .now)) (c .before .root .ensures))
+
+-- it ends in a node
+ended : (c : tie.After-end) → let e = entry (c .before .before .before) in walk (parts e) 0 (e .args .s .now) ≡ some (c .end .given .0 .0 .node)
+ended c = walked (c .before .before) ∙ ap nextOf (c .end .given .1)
+
+root-requires : tie.Need-root-requires
+root-requires c κs = search needs
+
+over-requires : tie.Need-over-requires
+over-requires c κs =
+    let e = entry c in
+    record { ids = e .args .id .now; parts = e .pre; inside = omega (arith, c .root .ensures, e .pre .some-node) }
+
+enum-known-end : tie.Need-enum-known-end
+enum-known-end c = search needs
+
+id-at-requires : tie.Need-id-at-requires
+id-at-requires c κs =
+    let last = c .before in
+    let e = entry (last .before .before .before) in
+    omega (arith, walk-inside (e .pre) 0 (e .args .s .now) (e .pre .some-node) (ended last), e .pre .level-id)
+
+enum-told : tie.Need-enum-told
+enum-told c = search needs
+
+returns : tie.Need-returns
+returns c =
+    let last = c .before .before in
+    let e = entry (last .before .before .before) in
+    c .id-at .ensures (parts e) refl
+    ∙ sym (id-of (parts e) (e .args .s .now) ∙ from-some (parts e) 0 (e .args .s .now) (ended last))
+
+returns-2 : tie.Need-returns-2
+returns-2 c =
+    let told = c .before .before in
+    let e = entry (told .before) in
+    sym
+    (id-of (parts e) (e .args .s .now)
+    ∙ from-none (parts e) 0 (e .args .s .now) (walked told ∙ ap nextOf (c .enum-told .given .1)))
+
+pub exact-spec : {M : Type 1} → statement M
+exact-spec =
+    tie.close
+    (tie.spec
+    root-requires
+    over-requires
+    enum-known-end
+    id-at-requires
+    enum-told
+    returns
+    returns-2)

@@ -1,0 +1,64 @@
+-- `trie::look_up` meets its contract: an ill-formed text is refused, and else the answer is the string's id or that it has none.
+-- Assumes nothing.
+use mathlib.Core.Path.{_≡_, sym, ap, _∙_}
+use mathlib.Core.Bool.{true}
+use mathlib.Core.Option.{Option, none}
+use native.Mathlib.Omega.{arith}
+use borrow.Author.Needs.{needs}
+use Rattle.refusal.specs.declared.Fault.{Fault}
+use Rattle.trie.specs.Walks.{idIn}
+use Rattle.trie.specs.Lookup.{lookupFault, found}
+use Rattle.trie.proofs.Lookups.{fault-text, fault-none, refused-for, found-for}
+use Rattle.trie.proofs.look_up.Statement.{statement}
+use Rattle.trie.proofs.look_up.Tie as tie
+
+-- the function's start, from after the first call
+abbrev entry : tie.After-valid-up-to → tie.Start
+entry c = c .before .before .before .before .before .before .before
+
+-- nothing is refused
+accepted : (c : tie.Else1) → lookupFault true (entry (c .before) .args .s .now) ≡ none
+accepted c =
+    let e = entry (c .before) in
+    fault-none (e .args .s .now) (e .pre .1) (omega (arith, c .before .valid-up-to .ensures, c .if1 .left))
+
+valid-up-to-requires : tie.Need-valid-up-to-requires
+valid-up-to-requires c κs = search needs
+
+returns : tie.Need-returns
+returns c =
+    let e = entry (c .before) in
+    refused-for (fault-text (e .args .s .now) (e .pre .1) (omega (arith, c .before .valid-up-to .ensures, c .if1 .taken)))
+
+exact-requires : tie.Need-exact-requires
+exact-requires c κs = entry (c .before) .pre .0
+
+enum-known-i : tie.Need-enum-known-i
+enum-known-i c = search needs
+
+enum-told : tie.Need-enum-told
+enum-told c = search needs
+
+returns-2 : tie.Need-returns-2
+unfolding found
+returns-2 c =
+    let told = c .before .before .before in
+    found-for (accepted (told .before)) (sym (told .exact .ensures) ∙ ap idIn (c .before .i .given .1))
+
+returns-3 : tie.Need-returns-3
+unfolding found
+returns-3 c =
+    let told = c .before .before in
+    found-for (accepted (told .before)) (sym (told .exact .ensures) ∙ ap idIn (c .enum-told .given .1))
+
+pub look-up-spec : {M : Type 1} → statement M
+look-up-spec =
+    tie.close
+    (tie.spec
+    valid-up-to-requires
+    returns
+    exact-requires
+    enum-known-i
+    enum-told
+    returns-2
+    returns-3)

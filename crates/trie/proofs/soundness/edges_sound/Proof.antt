@@ -1,0 +1,29 @@
+-- `trie::soundness::edges_sound` meets its contract: each return is what its test decides. Assumes nothing.
+use mathlib.Core.Path.{_≡_, sym, _∙_}
+use native.Mathlib.Omega.{arith}
+use borrow.Author.Needs.{needs}
+use Rattle.trie.proofs.SoundParts.{edges-outside, edges-many, edges-rise}
+use Rattle.trie.proofs.soundness.edges_sound.Statement.{statement}
+use Rattle.trie.proofs.soundness.edges_sound.Tie as tie
+
+add-if1 : tie.Need-add-if1
+add-if1 c = search needs
+
+returns : tie.Need-returns
+returns c = let a = c .before .before .args in sym (edges-outside (a .byte .now) (a .at) (a .n) (omega arith))
+
+returns-2 : tie.Need-returns-2
+returns-2 c =
+    let a = c .before .before .before .args in sym (edges-many (a .byte .now) (a .at) (a .n) (omega arith) (omega arith))
+
+rising-requires : tie.Need-rising-requires
+rising-requires c κs = search needs
+
+returns-3 : tie.Need-returns-3
+returns-3 c =
+    let tested = c .before .before in
+    let a = tested .before .before .args in
+    c .rising .ensures ∙ sym (edges-rise (a .byte .now) (a .at) (a .n) (omega arith) (omega arith))
+
+pub edges-sound-spec : {M : Type 1} → statement M
+edges-sound-spec = tie.close (tie.spec add-if1 returns returns-2 rising-requires returns-3)

@@ -1,0 +1,123 @@
+// Steps and walks in sound parts, for layers above that have tested soundness once. Nothing here refuses.
+ghost use mathlib.Core.Path.{_≡_};
+ghost use mathlib.Core.List.{List};
+ghost use Prim.Native.Nat.{ℕ, _<_};
+ghost use lib.ListN.{length};
+ghost use Rattle.trie.specs.Trie.{Trie, partsOf, seek, step, walk, idAt, idOf};
+ghost use Rattle.trie.specs.Sound.{Sound};
+ghost use Rattle.trie.specs.Walks.{Edges, Stands, nextOf, idIn};
+
+// A position in the trie: the node that the bytes so far lead to.
+pub struct Walk {
+    pub node: u32,
+}
+
+// Where a step leads.
+pub enum Step {
+    To(Walk),
+    Stop,
+}
+
+// The id of a node, if it ends a token.
+pub enum NodeId {
+    Is(u32),
+    Missing,
+}
+
+// "A node that ends no token has id 4,294,967,295."
+const NO_ID: u32 = 4_294_967_295;
+
+// The target of the byte b among the n edges from `at` on. Their bytes rise, so half of them are left out at each turn: at most 9 turns.
+fn seek(byte: &[u8], to: &[u32], at: usize, n: usize, b: u8) -> Step
+    requires { ⌜ Edges (now byte) (now to) at n ⌝ }
+    ensures { λ r. ⌜ nextOf r ≡ seek (now (byte .entry)) (now (to .entry)) b at n ⌝ }
+{
+    let mut low = at;
+    let mut high = at + n;
+    while low < high {
+        let mid = low + (high - low) / 2;
+        let x = byte[mid];
+        if x == b {
+            return Step::To(Walk { node: to[mid] });
+        }
+        if x < b {
+            low = mid + 1;
+        } else {
+            high = mid;
+        }
+    }
+    Step::Stop
+}
+
+impl Walk {
+    // "Node 0 is the root."
+    pub fn root() -> Walk
+        ensures { λ r. ⌜ r .node ≡ 0 ⌝ }
+    {
+        Walk { node: 0 }
+    }
+
+    // Where the byte b leads from here, in parts with any ids.
+    pub fn step(self, edge_at: &[u32], edge_n: &[u16], byte: &[u8], to: &[u32], b: u8) -> Step
+        requires { ⌜ Stands (now «edge_at») (now «edge_n») (now byte) (now to) (self .node) ⌝ }
+        ensures { λ r. ⌜ ((ids : List ℕ) → nextOf r ≡ step (partsOf (now («edge_at» .entry)) (now («edge_n» .entry)) ids (now (byte .entry)) (now (to .entry))) (self .node) b) ⌝ }
+    {
+        let node = self.node as usize;
+        let at = edge_at[node] as usize;
+        let n = edge_n[node] as usize;
+        seek(byte, to, at, n, b)
+    }
+
+    // Where the bytes of s lead from here.
+    pub fn over(self, edge_at: &[u32], edge_n: &[u16], byte: &[u8], to: &[u32], s: &[u8]) -> Step
+        requires { ⌜ Stands (now «edge_at») (now «edge_n») (now byte) (now to) (self .node) ⌝ }
+        ensures { λ r. ⌜ ((ids : List ℕ) → nextOf r ≡ walk (partsOf (now («edge_at» .entry)) (now («edge_n» .entry)) ids (now (byte .entry)) (now (to .entry))) (self .node) (now (s .entry))) ⌝ }
+    {
+        let mut node = self.node;
+        let mut i: usize = 0;
+        while i < s.len() {
+            let here = Walk { node };
+            match here.step(edge_at, edge_n, byte, to, s[i]) {
+                Step::To(next) => {
+                    node = next.node;
+                }
+                Step::Stop => {
+                    return Step::Stop;
+                }
+            }
+            i += 1;
+        }
+        Step::To(Walk { node })
+    }
+}
+
+// The id of the node of a position, in parts with any edges.
+pub fn id_at(id: &[u32], at: Walk) -> NodeId
+    requires { ⌜ at .node < length (now id) ⌝ }
+    ensures { λ r. ⌜ ((t : Trie) → t .id ≡ now (id .entry) → idIn r ≡ idAt t (at .node)) ⌝ }
+{
+    let node = at.node as usize;
+    let i = id[node];
+    if i == NO_ID {
+        return NodeId::Missing;
+    }
+    NodeId::Is(i)
+}
+
+// The id of the string s, if it has one.
+pub fn exact(
+    edge_at: &[u32],
+    edge_n: &[u16],
+    id: &[u32],
+    byte: &[u8],
+    to: &[u32],
+    s: &[u8],
+) -> NodeId
+    requires { ⌜ Sound (partsOf (now «edge_at») (now «edge_n») (now id) (now byte) (now to)) ⌝ }
+    ensures { λ r. ⌜ idIn r ≡ idOf (partsOf (now («edge_at» .entry)) (now («edge_n» .entry)) (now (id .entry)) (now (byte .entry)) (now (to .entry))) (now (s .entry)) ⌝ }
+{
+    match Walk::root().over(edge_at, edge_n, byte, to, s) {
+        Step::To(end) => id_at(id, end),
+        Step::Stop => NodeId::Missing,
+    }
+}
