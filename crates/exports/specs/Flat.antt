@@ -1,11 +1,13 @@
 -- Answers as numbers, for callers in other languages. Definitions only; assumes nothing.
-use Prim.Native.Nat.{ℕ}
+use Prim.Native.Nat.{ℕ, _+_, _^_}
 use mathlib.Core.Bool.{cond}
 use mathlib.Core.List.{List}
 use mathlib.Core.Option.{Option, none, some}
 use Rattle.refusal.specs.declared.Fault.{Fault}
 use Rattle.refusal.specs.Refusal.{number}
 use Rattle.text.specs.Text.{wellFormed, characters}
+use Rattle.trie.specs.declared.LookupAnswer.{LookupAnswer}
+use Rattle.trie.specs.declared.LookupAnswer.the-variants.{Found, Absent, Refused}
 
 -- 0 where there is no fault, else the paper's number
 abbrev pub status : Option Fault → ℕ
@@ -15,3 +17,9 @@ status (some f) = number f
 -- how many characters a text has; 0 for what is no text
 abbrev pub charactersOf : List ℕ → ℕ
 charactersOf s = cond (wellFormed s) (characters s) 0
+
+-- a look-up: the id, which is below 2 ^ 32; 2 ^ 32 for none; or that and the number of the fault
+abbrev pub lookupNumber : LookupAnswer → ℕ
+lookupNumber (Found i) = i
+lookupNumber Absent = 2 ^ 32
+lookupNumber (Refused f) = 2 ^ 32 + number f

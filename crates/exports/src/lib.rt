@@ -1,11 +1,17 @@
 // The calls for other languages. A slice passes as a pointer and a length, an answer as numbers. A caller outside Rattle is checked by nothing:
 // it passes what the parameters' types say.
 use text::SpanAnswer;
+use trie::LookupAnswer;
 ghost use mathlib.Core.Path.{_≡_};
+ghost use mathlib.Core.List.{map};
 ghost use lib.ListN.{length};
+ghost use Rattle.doubles.specs.Units.{units};
 ghost use Rattle.text.specs.Text.{lengthOf, validUpTo, boundary};
 ghost use Rattle.text.specs.Span.{spanFault, spanOf, givenFor};
-ghost use Rattle.exports.specs.Flat.{status, charactersOf};
+ghost use Rattle.trie.specs.Trie.{partsOf, idOf};
+ghost use Rattle.trie.specs.Sound.{sound, soundScored};
+ghost use Rattle.trie.specs.Lookup.{lookupFault, lookupAnswer};
+ghost use Rattle.exports.specs.Flat.{status, charactersOf, lookupNumber};
 
 // The length of the longest prefix made of whole well-formed characters.
 #[no_mangle]
@@ -59,4 +65,77 @@ pub extern "C" fn sk_text_len(tab: &[u8], off: u32, len: u32) -> usize
     ensures { λ r. ⌜ r ≡ length (givenFor (spanFault (now (tab .entry)) off len) (spanOf (now (tab .entry)) off len)) ⌝ }
 {
     text::text(tab, off, len).len()
+}
+
+// Whether the parts of a WordPiece trie are sound.
+#[no_mangle]
+pub extern "C" fn sk_sound(
+    edge_at: &[u32],
+    edge_n: &[u16],
+    id: &[u32],
+    byte: &[u8],
+    to: &[u32],
+) -> bool
+    ensures { λ r. ⌜ r ≡ sound (partsOf (now («edge_at» .entry)) (now («edge_n» .entry)) (now (id .entry)) (now (byte .entry)) (now (to .entry))) ⌝ }
+{
+    trie::soundness::sound(edge_at, edge_n, id, byte, to)
+}
+
+// Whether the parts of a Unigram trie and its unknown score are sound.
+#[no_mangle]
+pub extern "C" fn sk_sound_scored(
+    edge_at: &[u32],
+    edge_n: &[u16],
+    id: &[u32],
+    score: &[f64],
+    byte: &[u8],
+    to: &[u32],
+    unknown_score: f64,
+) -> bool
+    ensures { λ r. ⌜ r ≡ soundScored (partsOf (now («edge_at» .entry)) (now («edge_n» .entry)) (now (id .entry)) (now (byte .entry)) (now (to .entry))) (map units (now (score .entry))) (units «unknown_score») ⌝ }
+{
+    trie::soundness::sound_scored(edge_at, edge_n, id, score, byte, to, unknown_score)
+}
+
+// A look-up as one number.
+fn lookup_number(a: LookupAnswer) -> u64
+    ensures { λ r. ⌜ r ≡ lookupNumber a ⌝ }
+{
+    match a {
+        LookupAnswer::Found(i) => i as u64,
+        LookupAnswer::Absent => 4_294_967_296,
+        LookupAnswer::Refused(f) => 4_294_967_296 + refusal::number(f) as u64,
+    }
+}
+
+// The id of a text in a Unigram trie: the id, 2^32 for none, or 2^32 and 1, 8 or 4.
+#[no_mangle]
+pub extern "C" fn sk_exact(
+    edge_at: &[u32],
+    edge_n: &[u16],
+    id: &[u32],
+    score: &[f64],
+    byte: &[u8],
+    to: &[u32],
+    unknown_score: f64,
+    s: &[u8],
+) -> u64
+    ensures { λ r. ⌜ (let t = partsOf (now («edge_at» .entry)) (now («edge_n» .entry)) (now (id .entry)) (now (byte .entry)) (now (to .entry)) in r ≡ lookupNumber (lookupAnswer (lookupFault (soundScored t (map units (now (score .entry))) (units «unknown_score»)) (now (s .entry))) (idOf t (now (s .entry))))) ⌝ }
+{
+    lookup_number(trie::exact(edge_at, edge_n, id, score, byte, to, unknown_score, s))
+}
+
+// The same in a WordPiece trie.
+#[no_mangle]
+pub extern "C" fn sk_exact_unscored(
+    edge_at: &[u32],
+    edge_n: &[u16],
+    id: &[u32],
+    byte: &[u8],
+    to: &[u32],
+    s: &[u8],
+) -> u64
+    ensures { λ r. ⌜ (let t = partsOf (now («edge_at» .entry)) (now («edge_n» .entry)) (now (id .entry)) (now (byte .entry)) (now (to .entry)) in r ≡ lookupNumber (lookupAnswer (lookupFault (sound t) (now (s .entry))) (idOf t (now (s .entry))))) ⌝ }
+{
+    lookup_number(trie::exact_unscored(edge_at, edge_n, id, byte, to, s))
 }
