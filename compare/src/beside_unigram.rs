@@ -1,5 +1,11 @@
-// Read out beside `Lattice`, after `segment` has run on this thread: its slots and its path. (Plain comments: this text
-// is included at the end of a copy of unigram.rs.)
+// Read out beside `Lattice`: its private look-up and, after `segment` has run on this thread, its slots and its path.
+// (Plain comments: this text is included at the end of a copy of unigram.rs.)
+
+impl Lattice {
+    pub(crate) fn exact_of(&self, text: &[u8]) -> Option<u32> {
+        self.exact(text)
+    }
+}
 
 /// For each position up to the text's length, the slot that this call filled: start, id, score.
 pub(crate) fn slots_of_last(n: usize) -> Vec<Option<(u32, u32, f64)>> {

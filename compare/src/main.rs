@@ -7,6 +7,7 @@
 //! Built with the feature `port`, which links the compiled port:
 //!
 //!   compare text [SEED] [--quick]              RFC 3629 against Rust's library, spans against tokie's
+//!   compare tries [SEED] [--quick]             soundness against an independent test, look-ups against tokie's
 //!   compare bench-text                         times
 //!
 //! Run from anywhere; the repository is the folder above this package.
@@ -23,6 +24,8 @@ mod sums;
 #[cfg(feature = "port")]
 mod text;
 mod tokie;
+#[cfg(feature = "port")]
+mod tries;
 
 use std::path::Path;
 use std::process::ExitCode;
@@ -30,6 +33,8 @@ use std::process::ExitCode;
 fn main() -> ExitCode {
     let root = Path::new(env!("CARGO_MANIFEST_DIR")).parent().expect("the package stands in the repository");
     let args: Vec<String> = std::env::args().skip(1).collect();
+    #[cfg(feature = "port")]
+    let (seed, quick) = (args.get(1).and_then(|w| w.parse().ok()).unwrap_or(1), args.iter().any(|w| w == "--quick"));
     let agrees = match args.first().map(String::as_str) {
         Some("examples") => examples::run(),
         Some("sums") if args.get(1).is_some_and(|w| w == "--print") => {
@@ -39,10 +44,9 @@ fn main() -> ExitCode {
         Some("sums") => sums::stored(root),
         Some("definitions") => definitions_command(root, &args[1..]),
         #[cfg(feature = "port")]
-        Some("text") => {
-            let seed = args.get(1).and_then(|w| w.parse().ok()).unwrap_or(1);
-            text::run(seed, args.iter().any(|w| w == "--quick"))
-        }
+        Some("text") => text::run(seed, quick),
+        #[cfg(feature = "port")]
+        Some("tries") => tries::run(seed, quick),
         #[cfg(feature = "port")]
         Some("bench-text") => {
             bench::texts();
@@ -50,7 +54,7 @@ fn main() -> ExitCode {
         }
         _ => {
             eprintln!(
-                "usage: compare examples | sums [--print] | definitions [SEED..] [--cases N] | text [SEED] [--quick] | bench-text"
+                "usage: compare examples | sums [--print] | definitions [SEED..] [--cases N] | text [SEED] [--quick] | tries [SEED] [--quick] | bench-text"
             );
             return ExitCode::from(2);
         }

@@ -9,6 +9,102 @@ mod c {
         pub fn sk_characters(s: *const u8, s_len: usize) -> usize;
         pub fn sk_text(tab: *const u8, tab_len: usize, off: u32, len: u32) -> u32;
         pub fn sk_text_len(tab: *const u8, tab_len: usize, off: u32, len: u32) -> usize;
+        pub fn sk_sound(
+            edge_at: *const u32,
+            edge_at_len: usize,
+            edge_n: *const u16,
+            edge_n_len: usize,
+            id: *const u32,
+            id_len: usize,
+            byte: *const u8,
+            byte_len: usize,
+            to: *const u32,
+            to_len: usize,
+        ) -> bool;
+        pub fn sk_sound_scored(
+            edge_at: *const u32,
+            edge_at_len: usize,
+            edge_n: *const u16,
+            edge_n_len: usize,
+            id: *const u32,
+            id_len: usize,
+            score: *const f64,
+            score_len: usize,
+            byte: *const u8,
+            byte_len: usize,
+            to: *const u32,
+            to_len: usize,
+            unknown_score: f64,
+        ) -> bool;
+        pub fn sk_exact(
+            edge_at: *const u32,
+            edge_at_len: usize,
+            edge_n: *const u16,
+            edge_n_len: usize,
+            id: *const u32,
+            id_len: usize,
+            score: *const f64,
+            score_len: usize,
+            byte: *const u8,
+            byte_len: usize,
+            to: *const u32,
+            to_len: usize,
+            unknown_score: f64,
+            s: *const u8,
+            s_len: usize,
+        ) -> u64;
+        pub fn sk_exact_unscored(
+            edge_at: *const u32,
+            edge_at_len: usize,
+            edge_n: *const u16,
+            edge_n_len: usize,
+            id: *const u32,
+            id_len: usize,
+            byte: *const u8,
+            byte_len: usize,
+            to: *const u32,
+            to_len: usize,
+            s: *const u8,
+            s_len: usize,
+        ) -> u64;
+    }
+}
+
+use crate::tokie::Parts;
+
+/// A slice as a pointer and a length, in the middle of a call's arguments.
+macro_rules! call {
+    ($name:ident($($slice:expr),*; $($last:expr),*)) => { call!(@ $name [] $($slice,)*; $($last),*) };
+    (@ $name:ident [$($done:expr),*] $slice:expr, $($more:expr,)*; $($last:expr),*) => {
+        call!(@ $name [$($done,)* $slice.as_ptr(), $slice.len()] $($more,)*; $($last),*)
+    };
+    (@ $name:ident [$($done:expr),*] ; $($last:expr),*) => { unsafe { c::$name($($done,)* $($last),*) } };
+}
+
+pub fn sound(p: &Parts) -> bool {
+    call!(sk_sound(p.edge_at, p.edge_n, p.id, p.byte, p.to;))
+}
+
+pub fn sound_scored(p: &Parts) -> bool {
+    call!(sk_sound_scored(p.edge_at, p.edge_n, p.id, p.score, p.byte, p.to; p.unknown_score))
+}
+
+/// What a look-up answers: the id, none, or the number of the refusal.
+pub fn exact(p: &Parts, s: &[u8]) -> Result<Option<u32>, u32> {
+    let (at, len) = (s.as_ptr(), s.len());
+    lookup(call!(sk_exact(p.edge_at, p.edge_n, p.id, p.score, p.byte, p.to; p.unknown_score, at, len)))
+}
+
+pub fn exact_unscored(p: &Parts, s: &[u8]) -> Result<Option<u32>, u32> {
+    let (at, len) = (s.as_ptr(), s.len());
+    lookup(call!(sk_exact_unscored(p.edge_at, p.edge_n, p.id, p.byte, p.to; at, len)))
+}
+
+fn lookup(n: u64) -> Result<Option<u32>, u32> {
+    match n.checked_sub(1 << 32) {
+        None => Ok(Some(n as u32)),
+        Some(0) => Ok(None),
+        Some(number) => Err(number as u32),
     }
 }
 

@@ -13,6 +13,7 @@ pub struct Unigram {
 }
 
 /// The parts of a trie. WordPiece has no scores: they are 0 there.
+#[derive(Clone, Debug)]
 pub struct Parts {
     pub edge_at: Vec<u32>,
     pub edge_n: Vec<u16>,
@@ -48,6 +49,18 @@ impl Lattice {
             to: self.0.edges().map(|e| e.1).collect(),
             unknown_score: self.0.unk_score(),
         }
+    }
+
+    /// A lattice over any parts, which the Rust does not test: they must be sound.
+    pub fn from_parts(p: &Parts, unknown: u32) -> Self {
+        let node = |k: usize| (p.edge_at[k], p.edge_n[k], p.id[k], p.score[k]);
+        let nodes = (0..p.edge_at.len()).map(node).collect();
+        let edges = (0..p.byte.len()).map(|e| (p.byte[e], p.to[e])).collect();
+        Lattice(unigram::Lattice::from_parts(nodes, edges, unknown, p.unknown_score))
+    }
+
+    pub fn exact(&self, text: &[u8]) -> Option<u32> {
+        self.0.exact_of(text)
     }
 
     pub fn segment(&self, text: &str) -> Segmented {
