@@ -20,7 +20,7 @@ use Rattle.trie.proofs.Every.{both, first, second, five, fails, every-a
 -- ---- the edges of one node
 
 -- the n edges from `at` on are sound
-pub record Edges (bytes : List ℕ) (at n : ℕ) : Type 0 where
+pub record NodeEdges (bytes : List ℕ) (at n : ℕ) : Type 0 where
   pub inside : at + n ≤ length bytes
   pub at-most : n ≤ 256
   pub rising : (i : ℕ) → suc i < n → getD bytes (at + i) 0 < getD bytes (at + suc i) 0
@@ -29,7 +29,7 @@ module _ (bytes : List ℕ) (at n : ℕ) where
   rise : ℕ → Bool
   rise i = ltb (getD bytes (at + i) 0) (getD bytes (at + suc i) 0)
 
-  pub edges-of : soundEdges bytes at n ≡ true → Edges bytes at n
+  pub edges-of : soundEdges bytes at n ≡ true → NodeEdges bytes at n
   unfolding rise
   edges-of h =
       let two = first (leb (at + n) (length bytes) && leb n 256) (rises bytes at n) h in
@@ -41,7 +41,7 @@ module _ (bytes : List ℕ) (at n : ℕ) where
             (every-all rise (n - 1) (second (leb (at + n) (length bytes) && leb n 256) (rises bytes at n) h) i (omega arith));
       }
 
-  pub of-edges : Edges bytes at n → soundEdges bytes at n ≡ true
+  pub of-edges : NodeEdges bytes at n → soundEdges bytes at n ≡ true
   unfolding rise
   of-edges e =
       both (both (le-leb (at + n) (length bytes) (e .inside)) (le-leb n 256 (e .at-most)))
@@ -95,7 +95,7 @@ module _ (t : Trie) where
   facts : lengths ≡ true → every (length (t .edgeAt)) (soundNode t) ≡ true → every (length (t .byte)) inside-nodes ≡ true → Sound t
   unfolding lengths soundNode inside-nodes
   facts l ns ts =
-      let edges : (k : ℕ) → k < length (t .edgeAt) → Edges (t .byte) (getD (t .edgeAt) k 0) (getD (t .edgeN) k 0) =
+      let edges : (k : ℕ) → k < length (t .edgeAt) → NodeEdges (t .byte) (getD (t .edgeAt) k 0) (getD (t .edgeN) k 0) =
       λ k m. edges-of (t .byte) (getD (t .edgeAt) k 0) (getD (t .edgeN) k 0) (every-all (soundNode t) (length (t .edgeAt)) ns k m)
       in
       let each =

@@ -56,7 +56,7 @@ pub fn exact(
     unknown_score: f64,
     s: &[u8],
 ) -> LookupAnswer
-    ensures { λ r. ⌜ LookedUp (soundScored (partsOf (now («edge_at» .entry)) (now («edge_n» .entry)) (now (id .entry)) (now (byte .entry)) (now (to .entry))) (map units (now (score .entry))) (units «unknown_score»)) (partsOf (now («edge_at» .entry)) (now («edge_n» .entry)) (now (id .entry)) (now (byte .entry)) (now (to .entry))) (now (s .entry)) r ⌝ }
+    ensures { λ r. ⌜ (let t = partsOf (now («edge_at» .entry)) (now («edge_n» .entry)) (now (id .entry)) (now (byte .entry)) (now (to .entry)) in LookedUp (soundScored t (map units (now (score .entry))) (units «unknown_score»)) t (now (s .entry)) r) ⌝ }
 {
     if MAX_TEXT < s.len() {
         return LookupAnswer::Refused(Fault::Size);
@@ -76,7 +76,7 @@ pub fn exact_unscored(
     to: &[u32],
     s: &[u8],
 ) -> LookupAnswer
-    ensures { λ r. ⌜ LookedUp (sound (partsOf (now («edge_at» .entry)) (now («edge_n» .entry)) (now (id .entry)) (now (byte .entry)) (now (to .entry)))) (partsOf (now («edge_at» .entry)) (now («edge_n» .entry)) (now (id .entry)) (now (byte .entry)) (now (to .entry))) (now (s .entry)) r ⌝ }
+    ensures { λ r. ⌜ (let t = partsOf (now («edge_at» .entry)) (now («edge_n» .entry)) (now (id .entry)) (now (byte .entry)) (now (to .entry)) in LookedUp (sound t) t (now (s .entry)) r) ⌝ }
 {
     if MAX_TEXT < s.len() {
         return LookupAnswer::Refused(Fault::Size);

@@ -17,11 +17,15 @@ use Rattle.trie.proofs.exact.Tie as tie
 abbrev entry : tie.After-shared-slice-known7 → tie.Start
 entry c = c .before .before .before .before .before .before .before
 
+-- and from after the test of soundness
+abbrev begun : tie.After-sound-scored → tie.Start
+begun c = entry (c .before .before)
+
 abbrev parts : tie.Start → Trie
 parts c = let a = c .args in partsOf (a .edge-at .now) (a .edge-n .now) (a .id .now) (a .byte .now) (a .to .now)
 
 -- the parts passed the test
-tested : (c : tie.Else2) → let e = entry (c .before .before .before) in soundScored (parts e) (map units (e .args .score .now)) (units (e .args .unknown-score)) ≡ true
+tested : (c : tie.Else2) → let e = begun (c .before) in soundScored (parts e) (map units (e .args .score .now)) (units (e .args .unknown-score)) ≡ true
 tested c = sym (c .before .sound-scored .ensures) ∙ not-false _ (c .if2 .left)
 
 returns : tie.Need-returns
@@ -34,7 +38,7 @@ returns-2 : tie.Need-returns-2
 returns-2 c = refused-unsound (omega arith) (sym (c .before .sound-scored .ensures) ∙ not-true _ (c .if2 .taken))
 
 look-up-requires : tie.Need-look-up-requires
-look-up-requires c κs = (let e = entry (c .before .before .before) in scored-of (parts e) (map units (e .args .score .now)) (units (e .args .unknown-score)) (tested c) .parts, omega arith)
+look-up-requires c κs = (let e = begun (c .before) in scored-of (parts e) (map units (e .args .score .now)) (units (e .args .unknown-score)) (tested c) .parts, omega arith)
 
 returns-3 : tie.Need-returns-3
 returns-3 c = looked-sound (tested (c .before)) (c .look-up .ensures)

@@ -42,8 +42,9 @@ enum-told c = search needs
 returns-2 : tie.Need-returns-2
 unfolding found
 returns-2 c =
-    let told = c .before .before .before in
-    found-for (accepted (told .before)) (sym (told .exact .ensures) ∙ ap idIn (c .before .i .given .1))
+    let named = c .before in
+    let told = named .before .before in
+    found-for (accepted (told .before)) (sym (told .exact .ensures) ∙ ap idIn (named .i .given .1))
 
 returns-3 : tie.Need-returns-3
 unfolding found

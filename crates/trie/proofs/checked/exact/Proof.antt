@@ -16,17 +16,21 @@ use Rattle.trie.proofs.checked.exact.Tie as tie
 abbrev entry : tie.After-root → tie.Start
 entry c = c .before .before .before .before .before .before .before
 
+-- and from after the walk
+abbrev begun : tie.After-over → tie.Start
+begun c = entry (c .before)
+
 abbrev parts : tie.Start → Trie
 parts c = let a = c .args in partsOf (a .edge-at .now) (a .edge-n .now) (a .id .now) (a .byte .now) (a .to .now)
 
 -- where the walk from the root ends
-walked : (c : tie.After-over) → let e = entry (c .before) in walk (parts e) 0 (e .args .s .now) ≡ nextOf (c .over .result)
+walked : (c : tie.After-over) → let e = begun c in walk (parts e) 0 (e .args .s .now) ≡ nextOf (c .over .result)
 walked c =
-    let e = entry (c .before) in
+    let e = begun c in
     sym (c .over .ensures (e .args .id .now) ∙ ap (λ (k : ℕ). walk (parts e) k (e .args .s .now)) (c .before .root .ensures))
 
 -- it ends in a node
-ended : (c : tie.After-end) → let e = entry (c .before .before .before) in walk (parts e) 0 (e .args .s .now) ≡ some (c .end .given .0 .0 .node)
+ended : (c : tie.After-end) → let e = begun (c .before .before) in walk (parts e) 0 (e .args .s .now) ≡ some (c .end .given .0 .0 .node)
 ended c = walked (c .before .before) ∙ ap nextOf (c .end .given .1)
 
 root-requires : tie.Need-root-requires
@@ -43,7 +47,7 @@ enum-known-end c = search needs
 id-at-requires : tie.Need-id-at-requires
 id-at-requires c κs =
     let last = c .before in
-    let e = entry (last .before .before .before) in
+    let e = begun (last .before .before) in
     omega (arith, walk-inside (e .pre) 0 (e .args .s .now) (e .pre .some-node) (ended last), e .pre .level-id)
 
 enum-told : tie.Need-enum-told
@@ -52,14 +56,14 @@ enum-told c = search needs
 returns : tie.Need-returns
 returns c =
     let last = c .before .before in
-    let e = entry (last .before .before .before) in
+    let e = begun (last .before .before) in
     c .id-at .ensures (parts e) refl
     ∙ sym (id-of (parts e) (e .args .s .now) ∙ from-some (parts e) 0 (e .args .s .now) (ended last))
 
 returns-2 : tie.Need-returns-2
 returns-2 c =
     let told = c .before .before in
-    let e = entry (told .before) in
+    let e = begun told in
     sym
     (id-of (parts e) (e .args .s .now)
     ∙ from-none (parts e) 0 (e .args .s .now) (walked told ∙ ap nextOf (c .enum-told .given .1)))

@@ -10,8 +10,6 @@ use Rattle.trie.specs.Trie.{seek}
 use Rattle.trie.proofs.Seeking.{seek-empty, halves-hit, halves-up, halves-down}
 use Rattle.trie.proofs.checked.seek.Statement.{statement}
 use Rattle.trie.proofs.checked.seek.Tie as tie
-use Rattle.trie.proofs.checked.seek.Reads as reads
-use Rattle.trie.proofs.checked.seek.Lts as lts
 
 abbrev Inv-loop : tie.InvT-loop
 Inv-loop byte to at n b low₀ high₀ low high =
@@ -75,7 +73,7 @@ loop-again c =
       omega arith,
       h .loop .inv .3
           ∙ halves-up (a .byte .now) (a .to .now) (a .b) (a .at) (a .n) (h .before .pre .rising) (h .loop .low) (mid h) (h .loop .high)
-          (omega arith) (omega arith) (omega arith) (omega arith) (c .if2 .taken),
+          (omega arith) (omega arith) (omega arith) (omega arith) (omega arith),
     )
 
 loop-less-2 : tie.Need-loop-less-2 Inv-loop μ-loop

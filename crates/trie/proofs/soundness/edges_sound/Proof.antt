@@ -6,6 +6,10 @@ use Rattle.trie.proofs.SoundParts.{edges-outside, edges-many, edges-ris
 use Rattle.trie.proofs.soundness.edges_sound.Statement.{statement}
 use Rattle.trie.proofs.soundness.edges_sound.Tie as tie
 
+-- the function's start, from after the first test
+abbrev entry : tie.Else1 → tie.Start
+entry c = c .before .before
+
 add-if1 : tie.Need-add-if1
 add-if1 c = search needs
 
@@ -14,15 +18,14 @@ returns c = let a = c .before .before .args in sym (edges-outside (a .byte .now)
 
 returns-2 : tie.Need-returns-2
 returns-2 c =
-    let a = c .before .before .before .args in sym (edges-many (a .byte .now) (a .at) (a .n) (omega arith) (omega arith))
+    let a = entry (c .before) .args in sym (edges-many (a .byte .now) (a .at) (a .n) (omega arith) (omega arith))
 
 rising-requires : tie.Need-rising-requires
 rising-requires c κs = search needs
 
 returns-3 : tie.Need-returns-3
 returns-3 c =
-    let tested = c .before .before in
-    let a = tested .before .before .args in
+    let a = entry (c .before .before) .args in
     c .rising .ensures ∙ sym (edges-rise (a .byte .now) (a .at) (a .n) (omega arith) (omega arith))
 
 pub edges-sound-spec : {M : Type 1} → statement M

@@ -9,8 +9,6 @@ use Rattle.trie.proofs.Every.{every-none}
 use Rattle.trie.proofs.SoundParts.{rises-more, rises-fails}
 use Rattle.trie.proofs.soundness.rising.Statement.{statement}
 use Rattle.trie.proofs.soundness.rising.Tie as tie
-use Rattle.trie.proofs.soundness.rising.Reads as reads
-use Rattle.trie.proofs.soundness.rising.Lts as lts
 
 abbrev Inv-loop : tie.InvT-loop
 Inv-loop byte at n i₀ i = (1 ≤ i) × (i - 1 ≤ n - 1) × (rises byte at i ≡ true)
@@ -44,7 +42,7 @@ returns : tie.Need-returns Inv-loop μ-loop
 returns c =
     let h = head (c .before) in
     let a = h .before .args in
-    sym (rises-fails (a .byte .now) (a .at) (a .n) (h .loop .i) (omega arith) (omega arith) (c .if1 .taken))
+    sym (rises-fails (a .byte .now) (a .at) (a .n) (h .loop .i) (omega arith) (omega arith) (omega arith))
 
 add-i : tie.Need-add-i Inv-loop μ-loop
 add-i c = omega arith
@@ -58,7 +56,7 @@ loop-again c =
     let a = h .before .args in (
       omega arith,
       omega arith,
-      rises-more (a .byte .now) (a .at) (a .n) (h .loop .i) (omega arith) (h .loop .inv .2) (c .if1 .left),
+      rises-more (a .byte .now) (a .at) (a .n) (h .loop .i) (omega arith) (h .loop .inv .2) (omega arith),
     )
 
 returns-2 : tie.Need-returns-2 Inv-loop μ-loop

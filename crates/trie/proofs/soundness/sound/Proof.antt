@@ -14,14 +14,21 @@ use Rattle.trie.proofs.SoundParts.{sound-empty, sound-many, sound-uneve
 use Rattle.trie.proofs.soundness.sound.Statement.{statement}
 use Rattle.trie.proofs.soundness.sound.Tie as tie
 
--- the parts that were lent, from before the first test
+-- the function's start, from before the first test
+abbrev entry : tie.After-shared-slice-known5 → tie.Start
+entry c = c .before .before .before .before .before
+
+-- the parts that were lent
 abbrev parts : tie.After-shared-slice-known5 → Trie
 parts c =
-    let a = c .before .before .before .before .before .args in
-    partsOf (a .edge-at .now) (a .edge-n .now) (a .id .now) (a .byte .now) (a .to .now)
+    let a = entry c .args in partsOf (a .edge-at .now) (a .edge-n .now) (a .id .now) (a .byte .now) (a .to .now)
+
+-- the way back from after the second, the third and the fifth test
+abbrev from-if2 : tie.Else2 → tie.After-shared-slice-known5
+from-if2 c = c .before .before
 
 abbrev from-if3 : tie.Else3 → tie.After-shared-slice-known5
-from-if3 c = c .before .before .before
+from-if3 c = from-if2 (c .before)
 
 abbrev from-if5 : tie.Else5 → tie.After-shared-slice-known5
 from-if5 c = from-if3 (c .before .before)
@@ -44,7 +51,7 @@ returns-2 : tie.Need-returns-2
 returns-2 c = sym (sound-many (parts (c .before .before)) (omega arith) (omega arith))
 
 returns-3 : tie.Need-returns-3
-returns-3 c = sym (sound-uneven-n (parts (c .before .before .before)) (omega arith) (omega arith) (c .if3 .taken))
+returns-3 c = sym (sound-uneven-n (parts (from-if2 (c .before))) (omega arith) (omega arith) (c .if3 .taken))
 
 returns-4 : tie.Need-returns-4
 returns-4 c = sym (sound-uneven-id (parts (from-if3 (c .before))) (omega arith) (omega arith) (omega arith) (c .if4 .taken))

@@ -19,6 +19,10 @@ use Rattle.trie.proofs.soundness.sound_scored.Tie as tie
 abbrev entry : tie.After-shared-slice-known6 → tie.Start
 entry c = c .before .before .before .before .before .before
 
+-- and from after the first test
+abbrev begun : tie.Else1 → tie.Start
+begun c = entry (c .before .before)
+
 abbrev parts : tie.Start → Trie
 parts c = let a = c .args in partsOf (a .edge-at .now) (a .edge-n .now) (a .id .now) (a .byte .now) (a .to .now)
 
@@ -26,17 +30,17 @@ abbrev scores : tie.Start → List Double
 scores c = map units (c .args .score .now)
 
 -- what the test of the unknown score says
-finite-unknown : (c : tie.Else1) → isFinite (units (entry (c .before .before) .args .unknown-score)) ≡ true
+finite-unknown : (c : tie.Else1) → isFinite (units (begun c .args .unknown-score)) ≡ true
 finite-unknown c = sym (c .before .is-finite .ensures) ∙ not-false _ (c .if1 .left)
 
 -- what the answer about the parts leaves
 level :
     (c : tie.After-sound)
-    → let e = entry (c .before .before .before .before) in
+    → let e = begun (c .before .before) in
     soundScored (parts e) (scores e) (units (e .args .unknown-score)) ≡ c .sound .result && allFinite (scores e)
 level c =
     let tested = c .before in
-    let e = entry (tested .before .before .before) in
+    let e = begun (tested .before) in
     scored-level (parts e) (scores e) (units (e .args .unknown-score)) (finite-unknown (tested .before))
     (length-map (e .args .score .now) units ∙ tested .if2 .left)
     ∙ ap (λ (b : Bool). b && allFinite (scores e)) (sym (c .sound .ensures))
@@ -53,7 +57,7 @@ returns c =
 
 returns-2 : tie.Need-returns-2
 returns-2 c =
-    let e = entry (c .before .before .before) in
+    let e = begun (c .before) in
     sym
     (scored-uneven (parts e) (scores e) (units (e .args .unknown-score)) (finite-unknown (c .before))
     (λ same. c .if2 .taken (sym (length-map (e .args .score .now) units) ∙ same)))

@@ -44,7 +44,7 @@ returns c =
     let a = h .before .args in
     sym
     (every-fails (test (a .to .now) (a .nodes)) (length (a .to .now)) (h .loop .e) (omega arith)
-    (le-ltb (getD (a .to .now) (h .loop .e) 0) (a .nodes) (c .if1 .taken)))
+    (le-ltb (getD (a .to .now) (h .loop .e) 0) (a .nodes) (omega arith)))
 
 add-e : tie.Need-add-e Inv-loop μ-loop
 add-e c = omega arith
@@ -58,7 +58,7 @@ loop-again c =
     let a = h .before .args in (
       omega arith,
       every-more (test (a .to .now) (a .nodes)) (h .loop .e) (h .loop .inv .1)
-          (lt-ltb (getD (a .to .now) (h .loop .e) 0) (a .nodes) (c .if1 .left)),
+          (lt-ltb (getD (a .to .now) (h .loop .e) 0) (a .nodes) (omega arith)),
     )
 
 returns-2 : tie.Need-returns-2 Inv-loop μ-loop

@@ -12,9 +12,6 @@ use Rattle.trie.specs.Walks.{Stands, nextOf}
 use Rattle.trie.proofs.Walking.{turn-stop, turn-to, turn-end, step-inside}
 use Rattle.trie.proofs.checked.Walk.over.Statement.{statement}
 use Rattle.trie.proofs.checked.Walk.over.Tie as tie
-use Rattle.trie.proofs.checked.Walk.over.Reads as reads
-use Rattle.trie.proofs.checked.Walk.over.Lts as lts
-use Rattle.trie.proofs.checked.Walk.step.Reads as step-reads
 
 abbrev Inv-loop : tie.InvT-loop
 Inv-loop edge-at edge-n byte to s node₀ i₀ node i =
