@@ -4,7 +4,8 @@ use std::hint::black_box;
 use std::time::Instant;
 
 use crate::random::Random;
-use crate::{port, text};
+use crate::tokie::Lattice;
+use crate::{large, port, text};
 
 /// Nanoseconds a call: the least of some runs of many calls, so that other work on the machine counts little.
 pub fn nanoseconds<R>(mut call: impl FnMut() -> R) -> f64 {
@@ -44,5 +45,18 @@ pub fn texts() {
             let d = nanoseconds(|| port::characters(black_box(&s)));
             println!("| {name} | {} | {a:.1} | {b:.1} | {:.2} | {c:.1} | {d:.1} | {:.2} |", s.len(), b / a, d / c);
         }
+    }
+}
+
+/// The test of soundness on a trie of real size.
+pub fn tries() {
+    let p = Lattice::build(&large::unigram(&mut Random::new(1))).parts();
+    let (nodes, edges) = (p.edge_at.len(), p.byte.len());
+    let plain = nanoseconds(|| port::sound(black_box(&p)));
+    let scored = nanoseconds(|| port::sound_scored(black_box(&p)));
+    println!("| parts | nodes | edges | microseconds | ns a node |");
+    println!("|---|---|---|---|---|");
+    for (name, ns) in [("WordPiece, `sound`", plain), ("Unigram, `sound_scored`", scored)] {
+        println!("| {name} | {nodes} | {edges} | {:.0} | {:.2} |", ns / 1000.0, ns / nodes as f64);
     }
 }

@@ -8,7 +8,7 @@
 //!
 //!   compare text [SEED] [--quick]              RFC 3629 against Rust's library, spans against tokie's
 //!   compare tries [SEED] [--quick]             soundness against an independent test, look-ups against tokie's
-//!   compare bench-text                         times
+//!   compare bench-text, bench-tries            times
 //!
 //! Run from anywhere; the repository is the folder above this package.
 
@@ -16,6 +16,8 @@
 mod bench;
 mod definitions;
 mod examples;
+#[cfg(feature = "port")]
+mod large;
 #[cfg(feature = "port")]
 mod port;
 mod random;
@@ -52,9 +54,14 @@ fn main() -> ExitCode {
             bench::texts();
             true
         }
+        #[cfg(feature = "port")]
+        Some("bench-tries") => {
+            bench::tries();
+            true
+        }
         _ => {
             eprintln!(
-                "usage: compare examples | sums [--print] | definitions [SEED..] [--cases N] | text [SEED] [--quick] | tries [SEED] [--quick] | bench-text"
+                "usage: compare examples | sums [--print] | definitions [SEED..] [--cases N] | text [SEED] [--quick] | tries [SEED] [--quick] | bench-text | bench-tries"
             );
             return ExitCode::from(2);
         }
