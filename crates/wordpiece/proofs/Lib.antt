@@ -1,2 +1,3 @@
 -- Laws of WordPiece that the layers above cite.
+pub mod Longest
 pub mod Determinacy

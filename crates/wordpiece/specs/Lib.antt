@@ -2,3 +2,4 @@
 pub mod Build
 pub mod Pieces
 pub mod Encode
+pub mod Checked

@@ -2,6 +2,8 @@
 use refusal::Fault;
 use refusal::Reason;
 
+pub mod checked;
+
 // What `from_rows` answers: how many nodes the trie has, or why nothing was built.
 pub enum BuildAnswer {
     Built(u32),
