@@ -1,3 +1,4 @@
 -- Laws of WordPiece that the layers above cite.
 pub mod Longest
+pub mod Rest
 pub mod Determinacy

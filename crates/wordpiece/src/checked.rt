@@ -3,13 +3,16 @@ use trie::checked::NodeId;
 use trie::checked::Step;
 use trie::checked::Walk;
 ghost use mathlib.Core.Path.{_≡_};
-ghost use Prim.Native.Nat.{_≤_, _<_};
+ghost use mathlib.Core.List.{List};
+ghost use mathlib.Core.Option.{some};
+ghost use Prim.Native.Nat.{ℕ, _+_, _≤_, _<_};
 ghost use lib.ListN.{length};
+ghost use lib.Seq.{sets};
 ghost use Rattle.text.specs.Text.{boundary};
 ghost use Rattle.trie.specs.Trie.{Trie, partsOf, idAt};
 ghost use Rattle.trie.specs.Sound.{Sound};
 ghost use Rattle.wordpiece.specs.Pieces.{longestTo};
-ghost use Rattle.wordpiece.specs.Checked.{foundIn, pick, endAt};
+ghost use Rattle.wordpiece.specs.Checked.{foundIn, pick, endAt, restFrom, counted, countIn, Fitting};
 
 // A piece that was found: where it ends, and its id.
 pub struct Piece {
@@ -27,6 +30,14 @@ pub enum Match {
 pub enum Count {
     Pieces(usize),
     Miss,
+}
+
+// What is to be written for a word: nothing; one id; or the first piece's id and then those of the rest, which goes on from a node. A late miss is
+// known before anything is written, so that no place past the answer is touched.
+pub enum Plan {
+    Nothing,
+    One(u32),
+    Many(Walk, Piece),
 }
 
 // The longest piece once the walk has come to byte j: a boundary at which its node has an id ends a longer piece.
@@ -72,4 +83,62 @@ pub fn longest(
         best = seen(id, w, next, j, best);
     }
     best
+}
+
+// How many pieces w has from i on, each going on from the walk's node.
+fn count_rest(
+    edge_at: &[u32],
+    edge_n: &[u16],
+    id: &[u32],
+    byte: &[u8],
+    to: &[u32],
+    rest: Walk,
+    w: &[u8],
+    i: usize,
+) -> Count
+    requires { ⌜ Sound (partsOf (now «edge_at») (now «edge_n») (now id) (now byte) (now to)) ⌝ }
+    requires { ⌜ rest .node < length (now «edge_at») ⌝ }
+    requires { ⌜ i ≤ length (now w) ⌝ }
+    ensures { λ r. ⌜ countIn r ≡ counted (restFrom (partsOf (now («edge_at» .entry)) (now («edge_n» .entry)) (now (id .entry)) (now (byte .entry)) (now (to .entry))) (rest .node) (now (w .entry)) i) ⌝ }
+{
+    let mut at = i;
+    let mut n: usize = 0;
+    while at < w.len() {
+        let Match::Is(piece) = longest(edge_at, edge_n, id, byte, to, rest, w, at) else {
+            return Count::Miss;
+        };
+        at = piece.end;
+        n += 1;
+    }
+    Count::Pieces(n)
+}
+
+// Writes the ids of the pieces of w from i on, from the second place on; answers how many places are then written.
+fn write_rest(
+    edge_at: &[u32],
+    edge_n: &[u16],
+    id: &[u32],
+    byte: &[u8],
+    to: &[u32],
+    rest: Walk,
+    w: &[u8],
+    i: usize,
+    ids: &mut [u32],
+) -> usize
+    requires { ⌜ Sound (partsOf (now «edge_at») (now «edge_n») (now id) (now byte) (now to)) ⌝ }
+    requires { ⌜ rest .node < length (now «edge_at») ⌝ }
+    requires { ⌜ Fitting (partsOf (now «edge_at») (now «edge_n») (now id) (now byte) (now to)) (rest .node) (now w) i (now ids) ⌝ }
+    ensures { λ r. ⌜ ((xs : List ℕ) → restFrom (partsOf (now («edge_at» .entry)) (now («edge_n» .entry)) (now (id .entry)) (now (byte .entry)) (now (to .entry))) (rest .node) (now (w .entry)) i ≡ some xs → (r ≡ 1 + length xs) × (now (ids .exit) ≡ sets (now (ids .entry)) 1 xs)) ⌝ }
+{
+    let mut at = i;
+    let mut n: usize = 1;
+    while at < w.len() {
+        let Match::Is(piece) = longest(edge_at, edge_n, id, byte, to, rest, w, at) else {
+            return n;
+        };
+        at = piece.end;
+        ids[n] = piece.id;
+        n += 1;
+    }
+    n
 }
