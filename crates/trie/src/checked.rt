@@ -1,9 +1,9 @@
-// Steps and walks in sound parts, for layers above that have tested soundness once. Nothing here refuses.
+// Steps and walks in sound parts, for layers above that have tested soundness once: each function asks for sound parts and refuses nothing.
 ghost use mathlib.Core.Path.{_≡_};
-ghost use mathlib.Core.List.{List};
 ghost use mathlib.Core.Bool.{cond};
-ghost use lib.Dec.{leb};
+ghost use mathlib.Core.List.{List};
 ghost use Prim.Native.Nat.{ℕ, _<_};
+ghost use lib.Dec.{leb};
 ghost use lib.ListN.{length};
 ghost use Rattle.trie.specs.Trie.{Trie, partsOf, seek, step, walk, idAt, idOf};
 ghost use Rattle.trie.specs.Sound.{Sound};
@@ -37,8 +37,8 @@ fn passed(half: usize, x: u8, b: u8) -> usize
     half * ((256 + b as usize - x as usize) / 256)
 }
 
-// The target of the byte b among the n edges from `at` on. Their bytes rise, so each turn leaves out half of those that are left: 8 turns at
-// most.
+// The target of the byte b among the n edges from `at` on. Their bytes rise, so each turn leaves out half of those that are left: 8 turns for
+// 256 edges.
 fn seek(byte: &[u8], to: &[u32], at: usize, n: usize, b: u8) -> Step
     requires { ⌜ Edges (now byte) (now to) at n ⌝ }
     ensures { λ r. ⌜ nextOf r ≡ seek (now (byte .entry)) (now (to .entry)) b at n ⌝ }
