@@ -2,7 +2,7 @@
 ghost use mathlib.Core.Path.{_≡_};
 ghost use mathlib.Core.Bool.{cond};
 ghost use mathlib.Core.List.{List};
-ghost use Prim.Native.Nat.{ℕ, _<_};
+ghost use Prim.Native.Nat.{ℕ, _≤_, _<_};
 ghost use lib.Dec.{leb};
 ghost use lib.ListN.{length};
 ghost use Rattle.trie.specs.Trie.{Trie, partsOf, seek, step, walk, idAt, idOf};
@@ -32,7 +32,7 @@ const NO_ID: u32 = 4_294_967_295;
 // `half` where x is at most b, else 0. By a number and not a branch: the next byte of a text can't be foretold, and a wrong guess costs
 // more than the rest of a turn.
 fn passed(half: usize, x: u8, b: u8) -> usize
-    ensures { λ r. ⌜ r ≡ cond (leb x b) half 0 ⌝ }
+    ensures { λ r. ⌜ (r ≡ cond (leb x b) half 0) × (r ≤ half) ⌝ }
 {
     half * ((256 + b as usize - x as usize) / 256)
 }

@@ -6,10 +6,9 @@ use mathlib.Core.List.{List}
 use Prim.Native.Nat.{ℕ, suc, _+_, _-_, _/_, _≤_, _<_}
 use native.Mathlib.Omega.{arith}
 use borrow.Author.Needs.{needs}
-use lib.Dec.{leb}
 use lib.ListN.{length, getD}
 use Rattle.trie.specs.Trie.{seek}
-use Rattle.trie.proofs.Seeking.{seek-empty, seek-here, seek-later, halves, at-most-half}
+use Rattle.trie.proofs.Seeking.{seek-empty, seek-here, seek-later, halves}
 use Rattle.trie.proofs.checked.seek.Statement.{statement}
 use Rattle.trie.proofs.checked.seek.Tie as tie
 
@@ -31,14 +30,6 @@ begun h = entry (h .before .before)
 abbrev head : tie.After-passed Inv-loop μ-loop → tie.At-loop Inv-loop μ-loop
 head c = c .before .before .before
 
--- how far the turn goes on
-far : (c : tie.After-passed Inv-loop μ-loop) → c .passed .result ≤ head c .loop .left / 2
-far c =
-    let h = head c in
-    let a = begun h .args in
-    let half = h .loop .left / 2 in
-    omega (arith, c .passed .ensures, at-most-half (leb (getD (a .byte .now) (h .loop .low + half) 0) (a .b)) half)
-
 returns : tie.Need-returns Inv-loop μ-loop
 returns c =
     let a = entry (c .before) .args in
@@ -57,7 +48,7 @@ passed-requires : tie.Need-passed-requires Inv-loop μ-loop
 passed-requires c κs = search needs
 
 add-low : tie.Need-add-low Inv-loop μ-loop
-add-low c = omega (arith, far c)
+add-low c = omega arith
 
 sub-left : tie.Need-sub-left Inv-loop μ-loop
 sub-left c = omega arith
@@ -73,11 +64,11 @@ loop-again c =
     let half = h .loop .left / 2 in (
       omega arith,
       omega arith,
-      omega (arith, far c),
+      omega arith,
       h .loop .inv .3
           ∙ halves (a .byte .now) (a .to .now) (a .b) (a .at) (a .n) (e .pre .rising) (h .loop .low) half (h .loop .left) (omega arith) (omega arith)
           (omega arith) (omega arith)
-          ∙ ap (λ (k : ℕ). seek (a .byte .now) (a .to .now) (a .b) (h .loop .low + k) (h .loop .left - half)) (sym (c .passed .ensures)),
+          ∙ ap (λ (k : ℕ). seek (a .byte .now) (a .to .now) (a .b) (h .loop .low + k) (h .loop .left - half)) (sym (c .passed .ensures .0)),
     )
 
 -- one edge is left
