@@ -76,9 +76,3 @@ module _ (test : ℕ → Bool) where
   pub every-more : (i : ℕ) → every i test ≡ true → test i ≡ true → every (i + 1) test ≡ true
   unfolding every
   every-more i h here = rw add-one (both h here)
-
--- only the numbers below the count matter
-pub every-same : (test other : ℕ → Bool) (n : ℕ) → ((k : ℕ) → k < n → test k ≡ other k) → every n test ≡ every n other
-unfolding every
-every-same test other zero same = refl
-every-same test other (suc n) same = rw (every-same test other n (λ k l. same k (omega arith)), same n (omega arith))

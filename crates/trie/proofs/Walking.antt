@@ -14,10 +14,7 @@ use lib.Seq.{drop-cons}
 use Rattle.refusal.specs.Sizes.{noId}
 use Rattle.trie.specs.Trie.{Trie, partsOf, seek, step, walk, idAt, idFrom, idOf}
 use Rattle.trie.specs.Sound.{Sound}
-
--- nothing is not something
-pub not-some : {j : ℕ} → none ≡ some j → ⊥
-not-some e = let z : _≡_ {A = ℕ} 0 1 = cc in omega arith
+use Rattle.trie.proofs.Seeking.{not-some, seek-found}
 
 -- ---- one step more
 
@@ -166,24 +163,12 @@ module _ (edgeAt edgeN byte to ids others : List ℕ) where
 
 -- ---- in sound parts
 
--- a target that was found is one of those that were looked at
-seek-inside :
-    (bytes tos : List ℕ) (b m : ℕ) (n at : ℕ) {j : ℕ} → ((e : ℕ) → at ≤ e → e < at + n → getD tos e 0 < m) → seek bytes tos b at n ≡ some j → j < m
-unfolding seek
-seek-inside bytes tos b m zero at all h = absurd (not-some h)
-seek-inside bytes tos b m (suc n) at {j} all h =
-    pick (eqb (getD bytes at 0) b) (all at (omega arith) (omega arith)) (seek-inside bytes tos b m n (suc at) (λ e p q. all e (omega arith) (omega arith))) h
-  where
-    pick : (t : Bool) {x : ℕ} {o : Option ℕ} → x < m → (o ≡ some j → j < m) → cond t (some x) o ≡ some j → j < m
-    pick true {x} l later e = let same : x ≡ j = cc in omega arith
-    pick false l later e = later e
-
 module _ {t : Trie} (sound : Sound t) where
   pub step-inside : (k b : ℕ) {j : ℕ} → k < length (t .edgeAt) → step t k b ≡ some j → j < length (t .edgeAt)
   unfolding step
   step-inside k b l e =
-      seek-inside (t .byte) (t .to) b (length (t .edgeAt)) (getD (t .edgeN) k 0) (getD (t .edgeAt) k 0)
-      (λ i p q. sound .target i (omega (arith, sound .inside k l))) e
+      let h = seek-found (t .byte) (t .to) b (getD (t .edgeN) k 0) (getD (t .edgeAt) k 0) e in
+      omega (arith, h .target, sound .target (h .edge) (omega (arith, sound .inside k l, h .below)))
 
   pub walk-inside : (k : ℕ) (s : List ℕ) {j : ℕ} → k < length (t .edgeAt) → walk t k s ≡ some j → j < length (t .edgeAt)
   unfolding walk

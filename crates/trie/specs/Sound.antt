@@ -1,5 +1,5 @@
 -- "Sound parts: 1 to 4,294,967,295 nodes; columns of equal length; each node's edges lie inside the edge part, at most 256, bytes strictly
--- rising; each target is a node; for Unigram, node scores and the unknown score are finite." As tests. Definitions only; assumes nothing.
+-- rising; each target is a node; for Unigram, node scores and the unknown score are finite." As tests, and as facts. Definitions only; assumes nothing.
 use mathlib.Core.Path.{_≡_}
 use Prim.Native.Nat.{ℕ, zero, suc, _+_, _-_, _≤_, _<_}
 use mathlib.Core.Bool.{Bool, true, false, _&&_}
@@ -41,7 +41,7 @@ allFinite (x ∷ xs) = isFinite x && allFinite xs
 unfoldable pub soundScored : Trie → List Double → Double → Bool
 soundScored t scores unknown = sound t && eqb (length scores) (length (t .edgeAt)) && allFinite scores && isFinite unknown
 
--- the same as facts, for what rests on sound parts
+-- the test of both kinds as facts, for what rests on sound parts
 pub record Sound (t : Trie) : Type 0 where
   pub some-node : 1 ≤ length (t .edgeAt)
   pub few : length (t .edgeAt) ≤ 4_294_967_295
@@ -53,6 +53,7 @@ pub record Sound (t : Trie) : Type 0 where
   pub rising : (k i : ℕ) → k < length (t .edgeAt) → suc i < getD (t .edgeN) k 0 → getD (t .byte) (getD (t .edgeAt) k 0 + i) 0 < getD (t .byte) (getD (t .edgeAt) k 0 + suc i) 0
   pub target : (e : ℕ) → e < length (t .byte) → getD (t .to) e 0 < length (t .edgeAt)
 
+-- and that of a Unigram trie
 pub record SoundScored (t : Trie) (scores : List Double) (unknown : Double) : Type 0 where
   pub parts : Sound t
   pub level-score : length scores ≡ length (t .edgeAt)

@@ -1,7 +1,9 @@
-// Steps and walks in sound parts, for layers above that have tested soundness once. Nothing here refuses.
+// Steps and walks in sound parts, for layers above that have tested soundness once: each function asks for sound parts and refuses nothing.
 ghost use mathlib.Core.Path.{_≡_};
+ghost use mathlib.Core.Bool.{cond};
 ghost use mathlib.Core.List.{List};
-ghost use Prim.Native.Nat.{ℕ, _<_};
+ghost use Prim.Native.Nat.{ℕ, _≤_, _<_};
+ghost use lib.Dec.{leb};
 ghost use lib.ListN.{length};
 ghost use Rattle.trie.specs.Trie.{Trie, partsOf, seek, step, walk, idAt, idOf};
 ghost use Rattle.trie.specs.Sound.{Sound};
@@ -27,24 +29,32 @@ pub enum NodeId {
 // "A node that ends no token has id 4,294,967,295."
 const NO_ID: u32 = 4_294_967_295;
 
-// The target of the byte b among the n edges from `at` on. Their bytes rise, so half of them are left out at each turn: at most 9 turns.
+// `half` where x is at most b, else 0. By a number and not a branch: the next byte of a text can't be foretold, and a wrong guess costs
+// more than the rest of a turn.
+fn passed(half: usize, x: u8, b: u8) -> usize
+    ensures { λ r. ⌜ (r ≡ cond (leb x b) half 0) × (r ≤ half) ⌝ }
+{
+    half * ((256 + b as usize - x as usize) / 256)
+}
+
+// The target of the byte b among the n edges from `at` on. Their bytes rise, so each turn leaves out half of those that are left: 8 turns for
+// 256 edges.
 fn seek(byte: &[u8], to: &[u32], at: usize, n: usize, b: u8) -> Step
     requires { ⌜ Edges (now byte) (now to) at n ⌝ }
     ensures { λ r. ⌜ nextOf r ≡ seek (now (byte .entry)) (now (to .entry)) b at n ⌝ }
 {
+    if n == 0 {
+        return Step::Stop;
+    }
     let mut low = at;
-    let mut high = at + n;
-    while low < high {
-        let mid = low + (high - low) / 2;
-        let x = byte[mid];
-        if x == b {
-            return Step::To(Walk { node: to[mid] });
-        }
-        if x < b {
-            low = mid + 1;
-        } else {
-            high = mid;
-        }
+    let mut left = n;
+    while 1 < left {
+        let half = left / 2;
+        low += passed(half, byte[low + half], b);
+        left -= half;
+    }
+    if byte[low] == b {
+        return Step::To(Walk { node: to[low] });
     }
     Step::Stop
 }

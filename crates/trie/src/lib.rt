@@ -54,17 +54,17 @@ pub fn exact(
     byte: &[u8],
     to: &[u32],
     unknown_score: f64,
-    s: &[u8],
+    text: &[u8],
 ) -> LookupAnswer
-    ensures { λ r. ⌜ (let t = partsOf (now («edge_at» .entry)) (now («edge_n» .entry)) (now (id .entry)) (now (byte .entry)) (now (to .entry)) in LookedUp (soundScored t (map units (now (score .entry))) (units «unknown_score»)) t (now (s .entry)) r) ⌝ }
+    ensures { λ r. ⌜ (let t = partsOf (now («edge_at» .entry)) (now («edge_n» .entry)) (now (id .entry)) (now (byte .entry)) (now (to .entry)) in LookedUp (soundScored t (map units (now (score .entry))) (units «unknown_score»)) t (now (text .entry)) r) ⌝ }
 {
-    if MAX_TEXT < s.len() {
+    if MAX_TEXT < text.len() {
         return LookupAnswer::Refused(Fault::Size);
     }
     if !soundness::sound_scored(edge_at, edge_n, id, score, byte, to, unknown_score) {
         return LookupAnswer::Refused(Fault::Trie);
     }
-    look_up(edge_at, edge_n, id, byte, to, s)
+    look_up(edge_at, edge_n, id, byte, to, text)
 }
 
 // The same in parts without scores.
@@ -74,15 +74,15 @@ pub fn exact_unscored(
     id: &[u32],
     byte: &[u8],
     to: &[u32],
-    s: &[u8],
+    text: &[u8],
 ) -> LookupAnswer
-    ensures { λ r. ⌜ (let t = partsOf (now («edge_at» .entry)) (now («edge_n» .entry)) (now (id .entry)) (now (byte .entry)) (now (to .entry)) in LookedUp (sound t) t (now (s .entry)) r) ⌝ }
+    ensures { λ r. ⌜ (let t = partsOf (now («edge_at» .entry)) (now («edge_n» .entry)) (now (id .entry)) (now (byte .entry)) (now (to .entry)) in LookedUp (sound t) t (now (text .entry)) r) ⌝ }
 {
-    if MAX_TEXT < s.len() {
+    if MAX_TEXT < text.len() {
         return LookupAnswer::Refused(Fault::Size);
     }
     if !soundness::sound(edge_at, edge_n, id, byte, to) {
         return LookupAnswer::Refused(Fault::Trie);
     }
-    look_up(edge_at, edge_n, id, byte, to, s)
+    look_up(edge_at, edge_n, id, byte, to, text)
 }

@@ -29,7 +29,7 @@ tested : (c : tie.Else2) → let e = begun (c .before) in soundScored (parts e) 
 tested c = sym (c .before .sound-scored .ensures) ∙ not-false _ (c .if2 .left)
 
 returns : tie.Need-returns
-returns c = let e = entry (c .before) in refused-for (fault-size (e .args .s .now) _ (omega arith))
+returns c = let e = entry (c .before) in refused-for (fault-size (e .args .text .now) _ (omega arith))
 
 sound-scored-requires : tie.Need-sound-scored-requires
 sound-scored-requires c κs = search needs

@@ -27,7 +27,7 @@ tested : (c : tie.Else2) → let e = begun (c .before) in sound (parts e) ≡ tr
 tested c = sym (c .before .sound .ensures) ∙ not-false _ (c .if2 .left)
 
 returns : tie.Need-returns
-returns c = let e = entry (c .before) in refused-for (fault-size (e .args .s .now) _ (omega arith))
+returns c = let e = entry (c .before) in refused-for (fault-size (e .args .text .now) _ (omega arith))
 
 sound-requires : tie.Need-sound-requires
 sound-requires c κs = search needs

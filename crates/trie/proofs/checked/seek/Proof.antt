@@ -1,103 +1,114 @@
--- `trie::checked::seek` meets its contract. The loop's invariant: the byte's target among all the edges is its target among those from
--- `low` up to `high`. Their number falls. Assumes nothing.
+-- `trie::checked::seek` meets its contract. The loop's invariant: the byte's target among all the edges is its target among the `left` edges
+-- from `low` on, which are at least one. Their number falls. Assumes nothing.
 use mathlib.Core.Path.{_≡_, refl, sym, ap, _∙_}
-use mathlib.Core.Option.{Option, none, some}
-use Prim.Native.Nat.{ℕ, _+_, _-_, _/_, _≤_, _<_}
+use mathlib.Core.Bool.{cond}
+use mathlib.Core.List.{List}
+use Prim.Native.Nat.{ℕ, suc, _+_, _-_, _/_, _≤_, _<_}
 use native.Mathlib.Omega.{arith}
 use borrow.Author.Needs.{needs}
 use lib.ListN.{length, getD}
 use Rattle.trie.specs.Trie.{seek}
-use Rattle.trie.proofs.Seeking.{seek-empty, halves-hit, halves-up, halves-down}
+use Rattle.trie.proofs.Seeking.{seek-empty, seek-here, seek-later, halves}
 use Rattle.trie.proofs.checked.seek.Statement.{statement}
 use Rattle.trie.proofs.checked.seek.Tie as tie
 
 abbrev Inv-loop : tie.InvT-loop
-Inv-loop byte to at n b low₀ high₀ low high =
-    (at ≤ low) × (low ≤ high) × (high ≤ at + n) × (seek byte to b at n ≡ seek byte to b low (high - low))
+Inv-loop byte to at n b low₀ left₀ low left =
+    (at ≤ low) × (1 ≤ left) × (low + left ≤ at + n) × (seek byte to b at n ≡ seek byte to b low left)
 
 abbrev μ-loop : tie.MeasureT-loop
-μ-loop byte to at n b low₀ high₀ low high = high - low
+μ-loop byte to at n b low₀ left₀ low left = left
 
--- the loop's head, from after the byte in the middle was read
-abbrev head : tie.After-shared-slice-known Inv-loop μ-loop → tie.At-loop Inv-loop μ-loop
-head c = c .before .before
+-- the function's start, from before the first test, and from the loop's head
+abbrev entry : tie.After-shared-slice-known2 Inv-loop μ-loop → tie.Start Inv-loop μ-loop
+entry c = c .before .before
 
-abbrev mid : tie.At-loop Inv-loop μ-loop → ℕ
-mid h = h .loop .low + (h .loop .high - h .loop .low) / 2
+abbrev begun : tie.At-loop Inv-loop μ-loop → tie.Start Inv-loop μ-loop
+begun h = entry (h .before .before)
 
-add-high : tie.Need-add-high Inv-loop μ-loop
-add-high c = omega arith
-
-loop-holds : tie.Need-loop-holds Inv-loop μ-loop
-loop-holds c =
-    let a = c .args in
-    let all : a .at + a .n - a .at ≡ a .n = omega arith in
-    (omega arith, omega arith, omega arith, rw all)
-
-sub-mid : tie.Need-sub-mid Inv-loop μ-loop
-sub-mid c = omega arith
-
-add-mid : tie.Need-add-mid Inv-loop μ-loop
-add-mid c = omega arith
-
-shared-slice-read-x : tie.Need-shared-slice-read-x Inv-loop μ-loop
-shared-slice-read-x c = omega arith
-
-mul-t15 : tie.Need-mul-t15 Inv-loop μ-loop
-mul-t15 c = omega arith
-
-shared-slice-read-t17 : tie.Need-shared-slice-read-t17 Inv-loop μ-loop
-shared-slice-read-t17 c = omega arith
+-- the loop's head, from after the call
+abbrev head : tie.After-passed Inv-loop μ-loop → tie.At-loop Inv-loop μ-loop
+head c = c .before .before .before
 
 returns : tie.Need-returns Inv-loop μ-loop
 returns c =
-    let h = head (c .before .before) in
-    let a = h .before .args in
-    sym
-    (h .loop .inv .3
-    ∙ halves-hit (a .byte .now) (a .to .now) (a .b) (a .at) (a .n) (h .before .pre .rising) (h .loop .low) (mid h) (h .loop .high)
-    (omega arith) (omega arith) (omega arith) (omega arith) (c .before .if1 .taken))
+    let a = entry (c .before) .args in
+    sym (ap (seek (a .byte .now) (a .to .now) (a .b) (a .at)) (c .if1 .taken) ∙ seek-empty (a .byte .now) (a .to .now) (a .b) (a .at))
+
+loop-holds : tie.Need-loop-holds Inv-loop μ-loop
+loop-holds c = (omega arith, omega arith, omega arith, refl)
+
+add-passed : tie.Need-add-passed Inv-loop μ-loop
+add-passed c = omega arith
+
+shared-slice-read-passed : tie.Need-shared-slice-read-passed Inv-loop μ-loop
+shared-slice-read-passed c = omega arith
+
+passed-requires : tie.Need-passed-requires Inv-loop μ-loop
+passed-requires c κs = search needs
 
 add-low : tie.Need-add-low Inv-loop μ-loop
 add-low c = omega arith
+
+sub-left : tie.Need-sub-left Inv-loop μ-loop
+sub-left c = omega arith
 
 loop-less : tie.Need-loop-less Inv-loop μ-loop
 loop-less c = omega arith
 
 loop-again : tie.Need-loop-again Inv-loop μ-loop
 loop-again c =
-    let h = head (c .before .before) in
-    let a = h .before .args in (
+    let h = head c in
+    let e = begun h in
+    let a = e .args in
+    let half = h .loop .left / 2 in (
       omega arith,
       omega arith,
       omega arith,
       h .loop .inv .3
-          ∙ halves-up (a .byte .now) (a .to .now) (a .b) (a .at) (a .n) (h .before .pre .rising) (h .loop .low) (mid h) (h .loop .high)
-          (omega arith) (omega arith) (omega arith) (omega arith) (omega arith),
+          ∙ halves (a .byte .now) (a .to .now) (a .b) (a .at) (a .n) (e .pre .rising) (h .loop .low) half (h .loop .left) (omega arith) (omega arith)
+          (omega arith) (omega arith)
+          ∙ ap (λ (k : ℕ). seek (a .byte .now) (a .to .now) (a .b) (h .loop .low + k) (h .loop .left - half)) (sym (c .passed .ensures .0)),
     )
 
-loop-less-2 : tie.Need-loop-less-2 Inv-loop μ-loop
-loop-less-2 c = omega arith
+-- one edge is left
+last :
+    (c : tie.After-loop Inv-loop μ-loop)
+    → let h = c .before in
+    let a = begun h .args in
+    seek (a .byte .now) (a .to .now) (a .b) (a .at) (a .n) ≡ seek (a .byte .now) (a .to .now) (a .b) (h .loop .low) 1
+last c =
+    let h = c .before in
+    let a = begun h .args in
+    let one : h .loop .left ≡ 1 = omega arith in
+    h .loop .inv .3 ∙ ap (seek (a .byte .now) (a .to .now) (a .b) (h .loop .low)) one
 
-loop-again-2 : tie.Need-loop-again-2 Inv-loop μ-loop
-loop-again-2 c =
-    let h = head (c .before .before) in
-    let a = h .before .args in
-    let above : a .b < getD (a .byte .now) (mid h) 0 = omega (arith, c .before .if1 .left, c .if2 .left) in (
-      omega arith,
-      omega arith,
-      omega arith,
-      h .loop .inv .3
-          ∙ halves-down (a .byte .now) (a .to .now) (a .b) (a .at) (a .n) (h .before .pre .rising) (h .loop .low) (mid h) (h .loop .high)
-          (omega arith) (omega arith) (omega arith) (omega arith) above,
-    )
+shared-slice-read-if2 : tie.Need-shared-slice-read-if2 Inv-loop μ-loop
+shared-slice-read-if2 c = omega arith
+
+mul-t17 : tie.Need-mul-t17 Inv-loop μ-loop
+mul-t17 c = omega arith
+
+shared-slice-read-t19 : tie.Need-shared-slice-read-t19 Inv-loop μ-loop
+shared-slice-read-t19 c = omega arith
 
 returns-2 : tie.Need-returns-2 Inv-loop μ-loop
 returns-2 c =
-    let h = c .before in
-    let a = h .before .args in
-    let over : h .loop .high - h .loop .low ≡ 0 = omega arith in
-    sym (h .loop .inv .3 ∙ rw over (seek-empty (a .byte .now) (a .to .now) (a .b) (h .loop .low)))
+    let tested = c .before in
+    let left = tested .before .before in
+    let h = left .before in
+    let a = begun h .args in
+    sym (last left ∙ seek-here (a .byte .now) (a .to .now) (a .b) (h .loop .low) 0 (tested .if2 .taken))
+
+returns-3 : tie.Need-returns-3 Inv-loop μ-loop
+returns-3 c =
+    let left = c .before .before in
+    let h = left .before in
+    let a = begun h .args in
+    sym
+    (last left
+    ∙ seek-later (a .byte .now) (a .to .now) (a .b) (h .loop .low) 0 (c .if2 .left)
+    ∙ seek-empty (a .byte .now) (a .to .now) (a .b) (suc (h .loop .low)))
 
 pub seek-spec : {M : Type 1} → statement M
 seek-spec =
@@ -105,17 +116,17 @@ seek-spec =
     (tie.spec
     Inv-loop
     μ-loop
-    add-high
-    loop-holds
-    sub-mid
-    add-mid
-    shared-slice-read-x
-    mul-t15
-    shared-slice-read-t17
     returns
+    loop-holds
+    add-passed
+    shared-slice-read-passed
+    passed-requires
     add-low
+    sub-left
     loop-less
     loop-again
-    loop-less-2
-    loop-again-2
-    returns-2)
+    shared-slice-read-if2
+    mul-t17
+    shared-slice-read-t19
+    returns-2
+    returns-3)

@@ -1,0 +1,30 @@
+-- `trie::checked::passed` meets its contract: the quotient is 1 where x is at most b, else 0. Assumes nothing.
+use mathlib.Core.Path.{_≡_}
+use Prim.Native.Nat.{_+_, _-_, _*_, _/_, _≤_}
+use native.Mathlib.Omega.{arith}
+use borrow.Author.Needs.{needs}
+use lib.Dec.{leb}
+use Rattle.trie.proofs.Seeking.{passed-is, at-most-half}
+use Rattle.trie.proofs.checked.passed.Statement.{statement}
+use Rattle.trie.proofs.checked.passed.Tie as tie
+
+add-result : tie.Need-add-result
+add-result c = search needs
+
+sub-result : tie.Need-sub-result
+sub-result c = search needs
+
+-- how far it goes on, and no further than `half`
+far : (c : tie.Start) → let a = c .args in a .half * ((256 + a .b - a .x) / 256) ≤ a .half
+far c =
+    let a = c .args in
+    omega (arith, passed-is (a .half) (a .x) (a .b) (omega arith) (omega arith), at-most-half (leb (a .x) (a .b)) (a .half))
+
+mul-result : tie.Need-mul-result
+mul-result c = omega (arith, far c)
+
+returns : tie.Need-returns
+returns c = (passed-is (c .args .half) (c .args .x) (c .args .b) (omega arith) (omega arith), far c)
+
+pub passed-spec : {M : Type 1} → statement M
+passed-spec = tie.close (tie.spec add-result sub-result mul-result returns)
