@@ -1,4 +1,5 @@
 -- Laws of WordPiece that the layers above cite.
 pub mod Longest
 pub mod Rest
+pub mod Plans
 pub mod Determinacy

@@ -9,9 +9,9 @@ use native.Mathlib.Omega.{arith}
 use borrow.Author.Tests.{eq-eqb, ne-eqb, ltb-true, ltb-false}
 use lib.Dec.{ltb, eqb}
 use lib.ListN.{length, take, drop}
-use lib.Seq.{take-add, take-all}
+use lib.Seq.{take-add, take-all, take-length}
 use Rattle.text.specs.Text.{wellFormed, boundary, characters, next, part}
-use Rattle.text.proofs.Boundaries.{next-above, next-inside, next-boundary, next-first, characters-next, characters-append, boundary-le}
+use Rattle.text.proofs.Boundaries.{next-above, next-inside, next-boundary, next-first, characters-next, characters-append, boundary-le, boundary-zero, boundary-end}
 use Rattle.text.proofs.Characters.{false-true}
 use Rattle.trie.specs.Trie.{Trie, walk, idFrom}
 use Rattle.trie.proofs.Every.{first, second}
@@ -180,6 +180,15 @@ module _ (w : List ℕ) (well : wellFormed w ≡ true) where
           let no : true ≡ false = sym b ∙ next-first w well i a below j h (ltb-true j (next w i) e) in
           absurd (false-true (sym no))
       reached below false e = ltb-false j (next w i) e
+
+  pub some-character : 0 < length w → 1 ≤ characters w
+  some-character h =
+      omega
+      (arith, one-more 0 (length w) (boundary-zero w well) (boundary-end w) h, ap characters (take-length w))
+
+  -- a piece at the start takes a character
+  pub piece-character : {j : ℕ} {f : Found} → Ends w 0 j f → 1 ≤ characters (take (f .end) w)
+  piece-character {f = f} s = omega (arith, one-more 0 (f .end) (boundary-zero w well) (s .at) (s .above))
 
   module _ (t : Trie) (k : ℕ) where
     few-within : (n i : ℕ) {ids : List ℕ} → boundary w i ≡ true → piecesFrom t (some k) w n (some k) i ≡ some ids → characters (take i w) + length ids ≤ characters w

@@ -14,7 +14,7 @@ use Rattle.wordpiece.specs.declared.checked.Count.{Count}
 use Rattle.wordpiece.specs.declared.checked.Count.the-variants as count-is
 use Rattle.wordpiece.specs.declared.checked.Plan.{Plan}
 use Rattle.wordpiece.specs.declared.checked.Plan.the-variants as plan-is
-use Rattle.wordpiece.specs.Pieces.{Found, piecesFrom, idsOf}
+use Rattle.wordpiece.specs.Pieces.{Found, longestTo, piecesFrom}
 
 -- the piece that an answer names
 abbrev pub foundIn : Match → Option Found
@@ -68,11 +68,16 @@ pub record Fitting (t : Trie) (k : ℕ) (w : List ℕ) (i : ℕ) (places : List 
   pub rest : restFrom t k w i ≡ some ids
   pub room : suc (length ids) ≤ length places
 
--- what is to be written for a word: no id, one id, or the first piece's id and then those of the rest, which goes on from node k
-abbrev pub Planned : Trie → ℕ → ℕ → List ℕ → List ℕ → Plan → Type 0
-Planned t unknown maxChars prefix w plan-is.Nothing = idsOf t unknown maxChars prefix w ≡ []
-Planned t unknown maxChars prefix w (plan-is.One x) = idsOf t unknown maxChars prefix w ≡ x ∷ []
-Planned t unknown maxChars prefix w (plan-is.Many at f) = Follows t w (at .node) (f .end) (f .id) (idsOf t unknown maxChars prefix w)
+-- A plan for the ids `all` of w: none; one, where w has a character; or the first piece's id and then those of the rest.
+abbrev pub Planned : Trie → List ℕ → List ℕ → Plan → Type 0
+Planned t w all plan-is.Nothing = all ≡ []
+Planned t w all (plan-is.One x) = (all ≡ x ∷ []) × (1 ≤ characters w)
+Planned t w all (plan-is.Many at f) = Follows t w (at .node) (f .end) (f .id) all
+
+-- the longest piece at the start of w, which is not all of w
+pub record First (t : Trie) (w : List ℕ) (end id : ℕ) : Type 0 where
+  pub longest : longestTo t 0 w 0 (length w) ≡ some (record { end = end; id = id })
+  pub below : end < length w
 
 -- Sound parts, a tested word, and room for an id a character.
 pub record Ready (t : Trie) (w ids : List ℕ) : Type 0 where

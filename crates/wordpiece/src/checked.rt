@@ -3,16 +3,19 @@ use trie::checked::NodeId;
 use trie::checked::Step;
 use trie::checked::Walk;
 ghost use mathlib.Core.Path.{_≡_};
-ghost use mathlib.Core.List.{List};
+ghost use mathlib.Core.Bool.{true};
+ghost use mathlib.Core.List.{List, [], _∷_};
 ghost use mathlib.Core.Option.{some};
 ghost use Prim.Native.Nat.{ℕ, _+_, _≤_, _<_};
+ghost use lib.Dec.{ltb};
 ghost use lib.ListN.{length};
 ghost use lib.Seq.{sets};
-ghost use Rattle.text.specs.Text.{boundary};
+ghost use Rattle.refusal.specs.Places.{overlay};
+ghost use Rattle.text.specs.Text.{wellFormed, boundary, characters};
 ghost use Rattle.trie.specs.Trie.{Trie, partsOf, idAt};
 ghost use Rattle.trie.specs.Sound.{Sound};
-ghost use Rattle.wordpiece.specs.Pieces.{longestTo};
-ghost use Rattle.wordpiece.specs.Checked.{foundIn, pick, endAt, restFrom, counted, countIn, Fitting};
+ghost use Rattle.wordpiece.specs.Pieces.{longestTo, piecesOf, orUnknown, idsOf};
+ghost use Rattle.wordpiece.specs.Checked.{foundIn, pick, endAt, restFrom, counted, countIn, Fitting, Planned, First, Ready};
 
 // A piece that was found: where it ends, and its id.
 pub struct Piece {
@@ -141,4 +144,129 @@ fn write_rest(
         n += 1;
     }
     n
+}
+
+// Whether w has more than `limit` characters. A text of no more bytes than that has not.
+fn too_long(w: &[u8], limit: u32) -> bool
+    requires { ⌜ wellFormed (now w) ≡ true ⌝ }
+    ensures { λ r. ⌜ r ≡ ltb limit (characters (now (w .entry))) ⌝ }
+{
+    let most = limit as usize;
+    if w.len() <= most {
+        return false;
+    }
+    most < text::checked::characters(w)
+}
+
+// The plan for a word after its first piece: an absent prefix or a miss makes it one unknown.
+fn plan_rest(
+    edge_at: &[u32],
+    edge_n: &[u16],
+    id: &[u32],
+    byte: &[u8],
+    to: &[u32],
+    unknown: u32,
+    prefix: &[u8],
+    w: &[u8],
+    first: Piece,
+) -> Plan
+    requires { ⌜ Sound (partsOf (now «edge_at») (now «edge_n») (now id) (now byte) (now to)) ⌝ }
+    requires { ⌜ wellFormed (now w) ≡ true ⌝ }
+    requires { ⌜ First (partsOf (now «edge_at») (now «edge_n») (now id) (now byte) (now to)) (now w) (first .end) (first .id) ⌝ }
+    ensures { λ r. ⌜ (let t = partsOf (now («edge_at» .entry)) (now («edge_n» .entry)) (now (id .entry)) (now (byte .entry)) (now (to .entry)) in Planned t (now (w .entry)) (orUnknown unknown (piecesOf t (now (prefix .entry)) (now (w .entry)))) r) ⌝ }
+{
+    let Step::To(rest) = Walk::root().over(edge_at, edge_n, byte, to, prefix) else {
+        return Plan::One(unknown);
+    };
+    let end = first.end;
+    match count_rest(edge_at, edge_n, id, byte, to, rest, w, end) {
+        Count::Pieces(_) => Plan::Many(rest, first),
+        Count::Miss => Plan::One(unknown),
+    }
+}
+
+// The plan for a word.
+fn plan_word(
+    edge_at: &[u32],
+    edge_n: &[u16],
+    id: &[u32],
+    byte: &[u8],
+    to: &[u32],
+    unknown: u32,
+    max_chars: u32,
+    prefix: &[u8],
+    w: &[u8],
+) -> Plan
+    requires { ⌜ Sound (partsOf (now «edge_at») (now «edge_n») (now id) (now byte) (now to)) ⌝ }
+    requires { ⌜ wellFormed (now w) ≡ true ⌝ }
+    ensures { λ r. ⌜ (let t = partsOf (now («edge_at» .entry)) (now («edge_n» .entry)) (now (id .entry)) (now (byte .entry)) (now (to .entry)) in Planned t (now (w .entry)) (idsOf t unknown «max_chars» (now (prefix .entry)) (now (w .entry))) r) ⌝ }
+{
+    if w.len() == 0 {
+        return Plan::Nothing;
+    }
+    if too_long(w, max_chars) {
+        return Plan::One(unknown);
+    }
+    let Match::Is(first) = longest(edge_at, edge_n, id, byte, to, Walk::root(), w, 0) else {
+        return Plan::One(unknown);
+    };
+    let end = first.end;
+    if end == w.len() {
+        return Plan::One(first.id);
+    }
+    plan_rest(edge_at, edge_n, id, byte, to, unknown, prefix, w, first)
+}
+
+// One id in the first place.
+fn put(ids: &mut [u32], x: u32) -> usize
+    requires { ⌜ 1 ≤ length (now ids) ⌝ }
+    ensures { λ r. ⌜ (r ≡ 1) × (now (ids .exit) ≡ overlay (x ∷ []) (now (ids .entry))) ⌝ }
+{
+    ids[0] = x;
+    1
+}
+
+// The first piece's id, and then those of the rest.
+fn put_all(
+    edge_at: &[u32],
+    edge_n: &[u16],
+    id: &[u32],
+    byte: &[u8],
+    to: &[u32],
+    rest: Walk,
+    w: &[u8],
+    first: Piece,
+    ids: &mut [u32],
+) -> usize
+    requires { ⌜ Sound (partsOf (now «edge_at») (now «edge_n») (now id) (now byte) (now to)) ⌝ }
+    requires { ⌜ rest .node < length (now «edge_at») ⌝ }
+    requires { ⌜ Fitting (partsOf (now «edge_at») (now «edge_n») (now id) (now byte) (now to)) (rest .node) (now w) (first .end) (now ids) ⌝ }
+    ensures { λ r. ⌜ ((xs : List ℕ) → restFrom (partsOf (now («edge_at» .entry)) (now («edge_n» .entry)) (now (id .entry)) (now (byte .entry)) (now (to .entry))) (rest .node) (now (w .entry)) (first .end) ≡ some xs → (r ≡ 1 + length xs) × (now (ids .exit) ≡ overlay (first .id ∷ xs) (now (ids .entry)))) ⌝ }
+{
+    let end = first.end;
+    ids[0] = first.id;
+    write_rest(edge_at, edge_n, id, byte, to, rest, w, end, ids)
+}
+
+// The ids of a word, in the first places; answers how many. Places past them stay as they are, also after a late miss.
+pub fn encode(
+    edge_at: &[u32],
+    edge_n: &[u16],
+    id: &[u32],
+    byte: &[u8],
+    to: &[u32],
+    unknown: u32,
+    max_chars: u32,
+    prefix: &[u8],
+    w: &[u8],
+    ids: &mut [u32],
+) -> usize
+    requires { ⌜ Ready (partsOf (now «edge_at») (now «edge_n») (now id) (now byte) (now to)) (now w) (now ids) ⌝ }
+    ensures { λ r. ⌜ (let all = idsOf (partsOf (now («edge_at» .entry)) (now («edge_n» .entry)) (now (id .entry)) (now (byte .entry)) (now (to .entry))) unknown «max_chars» (now (prefix .entry)) (now (w .entry)) in (r ≡ length all) × (now (ids .exit) ≡ overlay all (now (ids .entry)))) ⌝ }
+{
+    match plan_word(edge_at, edge_n, id, byte, to, unknown, max_chars, prefix, w) {
+        Plan::Nothing => 0,
+        Plan::One(x) => put(ids, x),
+        Plan::Many(rest, first) => put_all(edge_at, edge_n, id, byte, to, rest, w, first, ids),
+    }
 }

@@ -101,7 +101,7 @@ loop-again c =
           h .loop .inv .same
           ∙ ap (λ (o : Option (List ℕ)). more (h .loop .n) (counted o)) on
           ∙ ap (more (h .loop .n)) (count-piece (f .id) later)
-          ∙ more-one (h .loop .n) (counted later)
+          ∙ more-one (h .loop .n) (counted later);
     }
 
 returns-2 : tie.Need-returns-2 Inv-loop μ-loop

@@ -90,7 +90,7 @@ loop-holds c =
       rest = f .rest;
       room = omega (arith, f .room);
       level = refl;
-      all = λ xs g. let same : xs ≡ f .ids = cc (f .rest) in (ap (λ (l : List ℕ). 1 + length l) same, ap (sets (e .args .ids .now) 1) same)
+      all = λ xs g. let same : xs ≡ f .ids = cc (f .rest) in (ap (λ (l : List ℕ). 1 + length l) same, ap (sets (e .args .ids .now) 1) same);
     }
 
 longest-requires : tie.Need-longest-requires Inv-loop μ-loop
@@ -137,7 +137,7 @@ loop-again c =
       all =
           λ xs g.
           let r = h .loop .inv .all xs g in
-          (omega (arith, r .0, ap length (t .2)), rw one (r .1 ∙ ap (sets (h .loop .ids) n) (t .2)))
+          (omega (arith, r .0, ap length (t .2)), rw one (r .1 ∙ ap (sets (h .loop .ids) n) (t .2)));
     }
 
 same-length-2 : tie.Need-same-length-2 Inv-loop μ-loop

@@ -1,0 +1,25 @@
+-- `wordpiece::checked::too_long` meets its contract: a text has no more characters than bytes. Assumes nothing.
+use mathlib.Core.Path.{_≡_, sym, ap, _∙_}
+use Prim.Native.Nat.{ℕ, _≤_}
+use native.Mathlib.Omega.{arith}
+use borrow.Author.Needs.{needs}
+use borrow.Author.Tests.{le-ltb}
+use lib.Dec.{ltb}
+use Rattle.text.specs.Text.{characters}
+use Rattle.text.proofs.Boundaries.{characters-le}
+use Rattle.wordpiece.proofs.checked.too_long.Statement.{statement}
+use Rattle.wordpiece.proofs.checked.too_long.Tie as tie
+
+returns : tie.Need-returns
+returns c =
+    let a = c .before .before .args in
+    sym (le-ltb (a .limit) (characters (a .w .now)) (omega (arith, c .if1 .taken, characters-le (a .w .now))))
+
+characters-requires : tie.Need-characters-requires
+characters-requires c κs = search needs
+
+returns-2 : tie.Need-returns-2
+returns-2 c = ap (ltb (c .before .before .before .args .limit)) (c .characters .ensures)
+
+pub too-long-spec : {M : Type 1} → statement M
+too-long-spec = tie.close (tie.spec returns characters-requires returns-2)
