@@ -1,11 +1,11 @@
 -- A well-formed text is characters, end to end: `Chars s`. It holds exactly where `wellFormed` does. Characters in front pass through
 -- `validUpTo` (`valid-over`), from which come concatenation, the longest prefix, and the turns of the loop that finds it. Assumes nothing.
 use mathlib.Core.Path.{_≡_, refl, sym, ap, _∙_}
-use mathlib.Core.Bool.{true}
+use mathlib.Core.Bool.{true, false}
 use mathlib.Core.List.{List, [], _++_, append-nil}
 use Prim.Native.Nat.{ℕ, zero, suc, _+_, _≤_, _<_}
 use native.Mathlib.Omega.{arith}
-use borrow.Author.Tests.{eq-eqb, eqb-true}
+use borrow.Author.Tests.{eq-eqb, ne-eqb, eqb-true}
 use lib.Dec.{eqb, eqb·suc-zero}
 use lib.ListN.{length, take, drop, length-append, length-drop, take-append-drop, drop-of-length-le}
 use lib.Seq.{take-add, take-length, drop-at, drop-append-le, drop-drop, length-take-le}
@@ -150,6 +150,15 @@ well-by-valid s = refl
 pub well-valid : (s : List ℕ) → wellFormed s ≡ true → validUpTo s ≡ length s
 unfolding wellFormed
 well-valid s e = eqb-true (validUpTo s) (length s) e
+
+-- valid up to less than the end, or up to the end
+pub short-ill : (s : List ℕ) → validUpTo s < length s → wellFormed s ≡ false
+short-ill s h = well-by-valid s ∙ ne-eqb (validUpTo s) (length s) (λ e. omega arith)
+
+pub whole-well : (s : List ℕ) → length s ≤ validUpTo s → wellFormed s ≡ true
+whole-well s h =
+    let e : validUpTo s ≡ length s = omega (arith, valid-le s) in
+    well-by-valid s ∙ eq-eqb (validUpTo s) (length s) e
 
 pub well-chars : (s : List ℕ) → wellFormed s ≡ true → Chars s
 well-chars s e = rw (well-valid s e, take-length) at (valid-prefix s)

@@ -2,4 +2,5 @@
 pub mod Longest
 pub mod Rest
 pub mod Plans
+pub mod Faults
 pub mod Determinacy

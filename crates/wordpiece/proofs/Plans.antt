@@ -1,7 +1,7 @@
 -- What is to be written for a word, by what was found of it: a miss at any place makes it one unknown; else the first piece's id and then those
 -- of the rest, at most one a character. Assumes nothing.
 use mathlib.Core.Path.{_≡_, refl, sym, ap, _∙_}
-use mathlib.Core.Bool.{Bool, true, false}
+use mathlib.Core.Bool.{Bool, true, false, cond}
 use mathlib.Core.List.{List, [], _∷_, _++_}
 use mathlib.Core.Option.{Option, none, some}
 use Prim.Native.Nat.{ℕ, suc, _+_, _≤_, _<_}
@@ -25,11 +25,11 @@ use Rattle.wordpiece.proofs.Rest.{none-some, Ends, longest-ends, pieces
 module _ (t : Trie) (unknown maxChars : ℕ) (prefix w : List ℕ) where
   pub ids-long : ltb maxChars (characters w) ≡ true → idsOf t unknown maxChars prefix w ≡ unknown ∷ []
   unfolding idsOf
-  ids-long e = rw (idsOf, e)
+  ids-long e = ap (λ (b : Bool). cond b (unknown ∷ []) (orUnknown unknown (piecesOf t prefix w))) e
 
   pub ids-short : ltb maxChars (characters w) ≡ false → idsOf t unknown maxChars prefix w ≡ orUnknown unknown (piecesOf t prefix w)
   unfolding idsOf
-  ids-short e = rw (idsOf, e)
+  ids-short e = ap (λ (b : Bool). cond b (unknown ∷ []) (orUnknown unknown (piecesOf t prefix w))) e
 
   pub ids-empty : length w ≡ 0 → idsOf t unknown maxChars prefix w ≡ []
   unfolding orUnknown

@@ -5,9 +5,12 @@ use mathlib.Core.Bool.{Bool, true, false}
 use mathlib.Core.List.{List, [], _∷_}
 use mathlib.Core.Option.{Option, none, some}
 use lib.ListN.{length}
+use Rattle.refusal.specs.declared.Fault.{Fault}
 use Rattle.text.specs.Text.{wellFormed, characters}
 use Rattle.trie.specs.Trie.{Trie}
 use Rattle.trie.specs.Sound.{Sound}
+use Rattle.wordpiece.specs.declared.Judged.{Judged}
+use Rattle.wordpiece.specs.declared.Judged.the-variants as judged-is
 use Rattle.wordpiece.specs.declared.checked.Match.{Match}
 use Rattle.wordpiece.specs.declared.checked.Match.the-variants as match-is
 use Rattle.wordpiece.specs.declared.checked.Count.{Count}
@@ -84,3 +87,8 @@ pub record Ready (t : Trie) (w ids : List ℕ) : Type 0 where
   pub parts : Sound t
   pub well : wellFormed w ≡ true
   pub room : characters w ≤ length ids
+
+-- the fault that was found
+abbrev pub faultIn : Judged → Option Fault
+faultIn judged-is.Fine = none
+faultIn (judged-is.Bad f) = some f

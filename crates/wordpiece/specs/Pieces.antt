@@ -58,7 +58,5 @@ orUnknown unknown (some ids) = ids
 -- "More than `max_chars` characters: one unknown id." An empty word has no pieces, with an absent prefix too: "We give none."
 unfoldable pub idsOf : Trie → ℕ → ℕ → List ℕ → List ℕ → List ℕ
 idsOf t unknown maxChars prefix w =
-    elim (ltb maxChars (characters w)) [
-      | true ↦ unknown ∷ []
-      | false ↦ orUnknown unknown (piecesOf t prefix w)
-    ]
+    let ids = orUnknown unknown (piecesOf t prefix w) in
+    cond (ltb maxChars (characters w)) (unknown ∷ []) ids

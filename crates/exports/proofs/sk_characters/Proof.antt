@@ -1,25 +1,14 @@
--- `exports::sk_characters` meets its contract: what is valid up to its end is text (`well-by-valid`), and nothing else. Assumes nothing.
+-- `exports::sk_characters` meets its contract: what is valid up to its end is text (`whole-well`), and nothing else. Assumes nothing.
 use mathlib.Core.Path.{_≡_, refl, sym, ap, _∙_}
 use mathlib.Core.Bool.{Bool, true, false, cond}
 use mathlib.Core.List.{List}
-use Prim.Native.Nat.{ℕ, _≤_, _<_}
+use Prim.Native.Nat.{ℕ}
 use native.Mathlib.Omega.{arith}
 use borrow.Author.Needs.{needs}
-use borrow.Author.Tests.{eq-eqb, ne-eqb}
-use lib.ListN.{length}
-use Rattle.text.specs.Text.{wellFormed, validUpTo, characters}
-use Rattle.text.proofs.Valid.{well-by-valid, valid-le}
+use Rattle.text.specs.Text.{wellFormed, characters}
+use Rattle.text.proofs.Valid.{short-ill, whole-well}
 use Rattle.exports.proofs.sk_characters.Statement.{statement}
 use Rattle.exports.proofs.sk_characters.Tie as tie
-
--- valid up to less than the end, or up to the end
-not-well : (s : List ℕ) → validUpTo s < length s → wellFormed s ≡ false
-not-well s h = well-by-valid s ∙ ne-eqb (validUpTo s) (length s) (λ e. omega arith)
-
-well : (s : List ℕ) → length s ≤ validUpTo s → wellFormed s ≡ true
-well s h =
-    let e : validUpTo s ≡ length s = omega (arith, valid-le s) in
-    well-by-valid s ∙ eq-eqb (validUpTo s) (length s) e
 
 abbrev text : tie.After-valid-up-to → List ℕ
 text c = c .before .before .args .s .now
@@ -33,16 +22,16 @@ valid-up-to-requires c κs = search needs
 returns : tie.Need-returns
 returns c =
     let s = text (c .before) in
-    counted s false 0 (not-well s (omega (arith, c .before .valid-up-to .ensures, c .if1 .taken))) refl
+    counted s false 0 (short-ill s (omega (arith, c .before .valid-up-to .ensures, c .if1 .taken))) refl
 
 characters-requires : tie.Need-characters-requires
-characters-requires c κs = well (text (c .before)) (omega (arith, c .before .valid-up-to .ensures, c .if1 .left))
+characters-requires c κs = whole-well (text (c .before)) (omega (arith, c .before .valid-up-to .ensures, c .if1 .left))
 
 returns-2 : tie.Need-returns-2
 returns-2 c =
     let judged = c .before in
     let s = text (judged .before) in
-    counted s true (c .characters .result) (well s (omega (arith, judged .before .valid-up-to .ensures, judged .if1 .left))) (sym (c .characters .ensures))
+    counted s true (c .characters .result) (whole-well s (omega (arith, judged .before .valid-up-to .ensures, judged .if1 .left))) (sym (c .characters .ensures))
 
 pub sk-characters-spec : {M : Type 1} → statement M
 sk-characters-spec =

@@ -1,0 +1,2 @@
+-- Laws of refusals that the layers above cite.
+pub mod Tests
