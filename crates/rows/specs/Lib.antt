@@ -2,3 +2,4 @@
 pub mod Rows
 pub mod Columns
 pub mod Scores
+pub mod Answers
