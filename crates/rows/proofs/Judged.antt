@@ -3,11 +3,11 @@
 use mathlib.Core.Path.{_≡_, refl, sym, ap, _∙_}
 use mathlib.Core.Bool.{Bool, true, false, not, _||_, cond}
 use mathlib.Core.List.{List}
-use mathlib.Core.Logic.{_↔_}
+use mathlib.Core.Logic.{_↔_, _⊎_, inl, inr, ⊎-elim}
 use mathlib.Core.Option.{Option, none, some}
 use Prim.Native.Nat.{ℕ, _+_, _≤_, _<_}
 use native.Mathlib.Omega.{arith}
-use borrow.Author.Tests.{lt-ltb, le-ltb, ltb-false, not-false}
+use borrow.Author.Tests.{lt-ltb, le-ltb, ltb-true, ltb-false, not-false}
 use lib.Dec.{ltb}
 use lib.ListN.{length, getD}
 use Rattle.refusal.specs.declared.Fault.{Fault}
@@ -28,7 +28,7 @@ use Rattle.rows.specs.Columns.{Columns, rowAt, rowsOf, level, columnsFau
 use Rattle.rows.specs.Answers.{reasonIn}
 use Rattle.rows.proofs.RowFaults.{passed, found, not-found, fine-inside, fine-short, fine-token-length, fine-text, fine-worth, fine-score, fine-id}
 use Rattle.rows.proofs.RowLists.{rows-length, rows-at}
-use Rattle.rows.proofs.FirstBad.{IsFirstBad, first-bad-exactly, none-bad-says, none-bad-found}
+use Rattle.rows.proofs.FirstBad.{IsFirstBad, first-bad-says, first-bad-exactly, none-bad-says, none-bad-found}
 
 -- ---- which fault
 
@@ -246,6 +246,33 @@ module _ (kind : Kind) (tab : List ℕ) (c : Columns) (f : Fault) (i : ℕ) wher
 
   pub row-exactly : (columnsFault kind tab c ≡ some (reason.Row f i)) ↔ (Sized tab c × IsBadRow kind tab c f i)
   row-exactly = (row-says, λ p. row-found (p .0) (p .1))
+
+-- a size is wrong
+abbrev pub Oversized : List ℕ → Columns → Type 0
+Oversized tab c = (maxRows < length (c .off)) ⊎ ((maxTable < length tab) ⊎ (level c ≡ false))
+
+module _ (kind : Kind) (tab : List ℕ) (c : Columns) where
+  -- 1 is given exactly where a size is wrong
+  pub size-says : columnsFault kind tab c ≡ some (reason.Call fault.Size) → Oversized tab c
+  size-says e = go (many kind tab c) (large kind tab c) (level c) refl refl refl
+    where
+      go : (s t u : Bool) → many kind tab c ≡ s → large kind tab c ≡ t → level c ≡ u → Oversized tab c
+      go true t u p q r = inl (ltb-true maxRows (length (c .off)) p)
+      go false true u p q r = inr (inl (ltb-true maxTable (length tab) q))
+      go false false false p q r = inr (inr r)
+      go false false true p q r =
+          let fits : Sized tab c =
+          record { few = ltb-false maxRows (length (c .off)) p; small = ltb-false maxTable (length tab) q; flat = r } in
+          let w = first-bad-says kind tab (rowAt c 0) 0 (rowsOf c) (reason.Call fault.Size) (sym (within kind tab c fits) ∙ e) in
+          let named : reason.Call fault.Size ≡ reason.Row (w .0) (0 + w .1) = w .2 in
+          let z : _≡_ {A = ℕ} 0 1 = cc in
+          absurd (omega arith)
+
+  pub size-found : Oversized tab c → columnsFault kind tab c ≡ some (reason.Call fault.Size)
+  size-found o = ⊎-elim (too-many kind tab c) (λ p. ⊎-elim (too-large kind tab c) (uneven kind tab c) p) o
+
+  pub size-exactly : (columnsFault kind tab c ≡ some (reason.Call fault.Size)) ↔ Oversized tab c
+  size-exactly = (size-says, size-found)
 
 -- ---- the answer
 

@@ -6,15 +6,17 @@ use mathlib.Core.Logic.{_⊎_, inl, inr, ⊎-elim}
 use Prim.Native.Nat.{ℕ, zero, suc, _-_, _≤_, _<_}
 use native.Mathlib.Omega.{arith}
 use lib.Dec.{T}
-use lib.Ieee.{Float, nan}
-use lib.ListN.{length, getD, take, drop, drop-of-length-le}
+use lib.Ieee.{Float, nan, binary64, fits}
+use lib.ListN.{length, getD, take, drop, drop-of-length-le, length-map}
 use lib.Seq.{drop-cons, take-all}
 use Rattle.doubles.specs.Double.{Double, plusZero, minusTen, sum, atMost, isNumber, isFinite, isDouble, lowerOf}
 use Rattle.doubles.specs.Units.{units}
 use Rattle.doubles.proofs.Order.{lower-is-one, lower-at-most, at-most-refl, at-most-trans}
 use Rattle.doubles.proofs.Sums.{finite-is-number}
 use Rattle.doubles.proofs.Largest.{minus-ten-finite}
+use Rattle.doubles.proofs.Floats.{units-is-double}
 use Rattle.rows.specs.Scores.{lowest, unknownScore}
+use Rattle.rows.proofs.RowLists.{getD-map-inside}
 
 -- ---- a loop over the scores: the lowest of the first and the rest is that of what was found and what is left
 
@@ -43,13 +45,39 @@ unknown-some (x ∷ score) f = rw (take-all (length (x ∷ score) - 1) score (om
 
 -- ---- the lowest is one of the scores, and at most each
 
-pub lowest-in : (x : Double) (xs : List Double) (P : Double → Type 0) → P x → ((k : ℕ) → k < length xs → P (getD xs k plusZero)) → P (lowest x xs)
+-- what holds of two scores holds of the lower
+lower-in : (P : Double → Type 0) (x y : Double) → P x → P y → P (lowerOf x y)
+lower-in P x y p q = ⊎-elim (λ e. subst P (sym e) p) (λ e. subst P (sym e) q) (lower-is-one x y)
+
+-- what holds of x and of each score holds of the lowest
+pub lowest-in : (P : Double → Type 0) (x : Double) (xs : List Double) → P x → ((k : ℕ) → k < length xs → P (getD xs k plusZero)) → P (lowest x xs)
 unfolding lowest
-lowest-in x [] P p ps = p
-lowest-in x (y ∷ ys) P p ps =
-    lowest-in (lowerOf x y) ys P
-    (⊎-elim (λ e. subst P (sym e) p) (λ e. subst P (sym e) (ps 0 (omega arith))) (lower-is-one x y))
-    (λ k h. ps (suc k) (omega arith))
+lowest-in P x [] p ps = p
+lowest-in P x (y ∷ ys) p ps = lowest-in P (lowerOf x y) ys (lower-in P x y p (ps 0 (omega arith))) (λ k h. ps (suc k) (omega arith))
+
+abbrev Numbers : List Double → Type 0
+Numbers xs = (k : ℕ) → k < length xs → T (isNumber (getD xs k plusZero))
+
+abbrev Number : Double → Type 0
+Number x = T (isNumber x)
+
+pub lowest-at-most : (x : Double) (xs : List Double) → T (isNumber x) → Numbers xs → T (atMost (lowest x xs) x)
+unfolding lowest
+lowest-at-most x [] p ps = at-most-refl x p
+lowest-at-most x (y ∷ ys) p ps =
+    let q : Number y = ps 0 (omega arith) in
+    let low : T (isNumber (lowerOf x y)) = lower-in Number x y p q in
+    at-most-trans (lowest (lowerOf x y) ys) (lowerOf x y) x (lowest-at-most (lowerOf x y) ys low (λ k h. ps (suc k) (omega arith))) (lower-at-most x y p q .0)
+
+pub lowest-at-most-each : (x : Double) (xs : List Double) → T (isNumber x) → Numbers xs → (k : ℕ) → k < length xs → T (atMost (lowest x xs) (getD xs k plusZero))
+unfolding lowest
+lowest-at-most-each x [] p ps k h = absurd (omega arith)
+lowest-at-most-each x (y ∷ ys) p ps zero h =
+    let q : Number y = ps 0 (omega arith) in
+    let low : T (isNumber (lowerOf x y)) = lower-in Number x y p q in
+    at-most-trans (lowest (lowerOf x y) ys) (lowerOf x y) y (lowest-at-most (lowerOf x y) ys low (λ k h. ps (suc k) (omega arith))) (lower-at-most x y p q .1)
+lowest-at-most-each x (y ∷ ys) p ps (suc k) h =
+    lowest-at-most-each (lowerOf x y) ys (lower-in Number x y p (ps 0 (omega arith))) (λ j l. ps (suc j) (omega arith)) k (omega arith)
 
 -- ---- what is finite
 
@@ -57,9 +85,23 @@ lowest-in x (y ∷ ys) P p ps =
 abbrev pub Scored : Double → Type 0
 Scored x = T (isDouble x) × T (isFinite x)
 
+-- the unknown score of finite doubles is finite
 pub unknown-finite : (xs : List Double) → ((k : ℕ) → k < length xs → Scored (getD xs k plusZero)) → T (isFinite (unknownScore xs))
 unfolding unknownScore isFinite
 unknown-finite [] h = tt
 unknown-finite (x ∷ xs) h =
-    let s : Scored (lowest x xs) = lowest-in x xs Scored (h 0 (omega arith)) (λ k l. h (suc k) (omega arith)) in
+    let s : Scored (lowest x xs) = lowest-in Scored x xs (h 0 (omega arith)) (λ k l. h (suc k) (omega arith)) in
     minus-ten-finite (lowest x xs) (s .0) (s .1)
+
+-- of a lent column of finite scores
+pub unknown-finite-floats :
+    (score : List Float)
+    → ((k : ℕ) → k < length score → T (fits binary64 (getD score k nan)))
+    → ((k : ℕ) → k < length score → T (isFinite (units (getD score k nan))))
+    → T (isFinite (unknownScore (map units score)))
+unknown-finite-floats score good fine =
+    unknown-finite (map units score)
+    (λ k h.
+    let inside : k < length score = omega (arith, length-map score units) in
+    subst Scored (sym (getD-map-inside units score k nan plusZero inside))
+    (units-is-double (getD score k nan) (good k inside), fine k inside))

@@ -30,10 +30,10 @@ flat : (c : tie.Else3) → level (given (sized (c .before))) ≡ true
 flat c = sym (c .before .is-level .ensures) ∙ not-false _ (c .if3 .left)
 
 returns : tie.Need-returns
-returns c = let s = start (c .before) in sym (too-many (s .args .kind) (s .args .tab .now) (given s) (c .if1 .taken))
+returns c = let s = start (c .before) in sym (too-many (s .args .kind) (s .args .tab .now) (given s) (omega arith))
 
 returns-2 : tie.Need-returns-2
-returns-2 c = let s = start (c .before .before) in sym (too-large (s .args .kind) (s .args .tab .now) (given s) (c .if2 .taken))
+returns-2 c = let s = start (c .before .before) in sym (too-large (s .args .kind) (s .args .tab .now) (given s) (omega arith))
 
 is-level-requires : tie.Need-is-level-requires
 is-level-requires c κs = search needs
