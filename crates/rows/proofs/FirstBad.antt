@@ -68,7 +68,9 @@ module _ (kind : Kind) (tab : List ℕ) where
     abbrev Found : ℕ → List Row → Reason → Type 0
     Found n rs w = (f : Fault) × (k : ℕ) × (w ≡ reason.Row f (n + k)) × IsFirstBad kind tab d rs f k
 
-    here : (n : ℕ) (r : Row) (rs : List Row) (w : Reason) (f : Fault) → firstBad kind tab n (r ∷ rs) ≡ some w → rowFault kind tab r ≡ some f → Found n (r ∷ rs) w
+    here :
+        (n : ℕ) (r : Row) (rs : List Row) (w : Reason) (f : Fault)
+        → firstBad kind tab n (r ∷ rs) ≡ some w → rowFault kind tab r ≡ some f → Found n (r ∷ rs) w
     here n r rs w f e p =
         let named : w ≡ reason.Row f n = cc (bad-here n r rs f p) in
         let at : n ≡ n + 0 = omega arith in (
@@ -88,7 +90,9 @@ module _ (kind : Kind) (tab : List ℕ) where
         )
 
     -- what is found first names the lowest row with a fault, and that fault
-    pub first-bad-says : (n : ℕ) (rs : List Row) (w : Reason) → firstBad kind tab n rs ≡ some w → (f : Fault) × (k : ℕ) × (w ≡ reason.Row f (n + k)) × IsFirstBad kind tab d rs f k
+    pub first-bad-says :
+        (n : ℕ) (rs : List Row) (w : Reason)
+        → firstBad kind tab n rs ≡ some w → (f : Fault) × (k : ℕ) × (w ≡ reason.Row f (n + k)) × IsFirstBad kind tab d rs f k
     unfolding firstBad
     first-bad-says n [] w e = let z : _≡_ {A = ℕ} 0 1 = cc in absurd (omega arith)
     first-bad-says n (r ∷ rs) w e = go (λ a. first-bad-says (suc n) rs w a) (rowFault kind tab r) refl

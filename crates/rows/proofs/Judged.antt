@@ -23,7 +23,7 @@ use Rattle.rows.specs.declared.Kind.{Kind}
 use Rattle.rows.specs.declared.Kind.the-variants.{Unigram, WordPiece}
 use Rattle.rows.specs.declared.columns.RowsAnswer.{RowsAnswer}
 use Rattle.rows.specs.declared.columns.RowsAnswer.the-variants as rows-are
-use Rattle.rows.specs.Rows.{Worth, Row, score, id, rowFault, firstBad}
+use Rattle.rows.specs.Rows.{score, id, rowFault, firstBad}
 use Rattle.rows.specs.Columns.{Columns, rowAt, rowsOf, level, columnsFault}
 use Rattle.rows.specs.Answers.{reasonIn}
 use Rattle.rows.proofs.RowFaults.{passed, found, not-found, fine-inside, fine-short, fine-token-length, fine-text, fine-worth, fine-score, fine-id}

@@ -1,8 +1,8 @@
 -- The lowest score is one of the scores and at most each of them, so it is finite where they all are; 10 less is finite too, for a finite
 -- double. Assumes nothing.
-use mathlib.Core.Path.{_≡_, refl, sym, ap, _∙_, subst}
+use mathlib.Core.Path.{_≡_, refl, sym, ap, subst}
 use mathlib.Core.List.{List, [], _∷_, map}
-use mathlib.Core.Logic.{_⊎_, inl, inr, ⊎-elim}
+use mathlib.Core.Logic.{⊎-elim}
 use Prim.Native.Nat.{ℕ, zero, suc, _-_, _≤_, _<_}
 use native.Mathlib.Omega.{arith}
 use lib.Dec.{T}
@@ -12,7 +12,6 @@ use lib.Seq.{drop-cons, take-all}
 use Rattle.doubles.specs.Double.{Double, plusZero, minusTen, sum, atMost, isNumber, isFinite, isDouble, lowerOf}
 use Rattle.doubles.specs.Units.{units}
 use Rattle.doubles.proofs.Order.{lower-is-one, lower-at-most, at-most-refl, at-most-trans}
-use Rattle.doubles.proofs.Sums.{finite-is-number}
 use Rattle.doubles.proofs.Largest.{minus-ten-finite}
 use Rattle.doubles.proofs.Floats.{units-is-double}
 use Rattle.rows.specs.Scores.{lowest, unknownScore}
@@ -21,7 +20,9 @@ use Rattle.rows.proofs.RowLists.{getD-map-inside}
 -- ---- a loop over the scores: the lowest of the first and the rest is that of what was found and what is left
 
 module _ (score : List Float) where
-  pub low-turn : (low : Double) (i : ℕ) → i < length score → lowest low (map units (drop i score)) ≡ lowest (lowerOf low (units (getD score i nan))) (map units (drop (suc i) score))
+  pub low-turn :
+      (low : Double) (i : ℕ) → i < length score
+      → lowest low (map units (drop i score)) ≡ lowest (lowerOf low (units (getD score i nan))) (map units (drop (suc i) score))
   unfolding lowest
   low-turn low i h = ap (λ (l : List Float). lowest low (map units l)) (drop-cons score i nan h)
 
@@ -69,7 +70,9 @@ lowest-at-most x (y ∷ ys) p ps =
     let low : T (isNumber (lowerOf x y)) = lower-in Number x y p q in
     at-most-trans (lowest (lowerOf x y) ys) (lowerOf x y) x (lowest-at-most (lowerOf x y) ys low (λ k h. ps (suc k) (omega arith))) (lower-at-most x y p q .0)
 
-pub lowest-at-most-each : (x : Double) (xs : List Double) → T (isNumber x) → Numbers xs → (k : ℕ) → k < length xs → T (atMost (lowest x xs) (getD xs k plusZero))
+pub lowest-at-most-each :
+    (x : Double) (xs : List Double) → T (isNumber x) → Numbers xs
+    → (k : ℕ) → k < length xs → T (atMost (lowest x xs) (getD xs k plusZero))
 unfolding lowest
 lowest-at-most-each x [] p ps k h = absurd (omega arith)
 lowest-at-most-each x (y ∷ ys) p ps zero h =

@@ -1,18 +1,17 @@
 -- One row: which test gives which fault, and what a row without a fault says. The first test that finds a fault decides, so a fault of a
 -- later test is given only where each test before it found nothing. Assumes nothing.
-use mathlib.Core.Path.{_≡_, refl, sym, ap, _∙_}
+use mathlib.Core.Path.{_≡_, refl, ap, _∙_}
 use mathlib.Core.Bool.{Bool, true, false, not}
 use mathlib.Core.List.{List}
 use mathlib.Core.Option.{Option, none, some}
 use Prim.Native.Nat.{ℕ, _+_, _≤_, _<_}
 use native.Mathlib.Omega.{arith}
 use borrow.Author.Tests.{lt-ltb, le-ltb, ltb-false, eq-eqb, ne-eqb, eqb-false, not-false}
-use lib.Dec.{ltb, eqb}
+use lib.Dec.{ltb}
 use lib.Ieee.{Float}
 use lib.ListN.{length, length-take, length-drop}
 use Rattle.doubles.specs.Double.{Double, isFinite}
 use Rattle.doubles.specs.Units.{units}
-use Rattle.refusal.specs.declared.Fault.{Fault}
 use Rattle.refusal.specs.declared.Fault.the-variants as fault
 use Rattle.refusal.specs.Sizes.{maxToken, noId}
 use Rattle.refusal.specs.Refusal.{refuse}

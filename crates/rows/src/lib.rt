@@ -1,6 +1,7 @@
 // The rows of a vocabulary: a token's span in the string table and its worth, and which row is the first bad one.
 use refusal::Fault;
 
+pub mod checked;
 pub mod columns;
 pub mod scores;
 

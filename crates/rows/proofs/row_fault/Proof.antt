@@ -3,8 +3,6 @@
 use mathlib.Core.Path.{_≡_, sym, ap, _∙_}
 use native.Mathlib.Omega.{arith}
 use borrow.Author.Needs.{needs}
-use lib.ListN.{length}
-use Prim.Native.Nat.{_+_, _≤_}
 use Rattle.text.specs.Text.{validUpTo}
 use Rattle.text.specs.Span.{spanOf}
 use Rattle.text.proofs.Spans.{part-is}

@@ -1,5 +1,5 @@
 -- `rows::columns::judge` meets its contract: each return is what its test finds, and past the sizes the first bad row decides. Assumes nothing.
-use mathlib.Core.Path.{_≡_, sym, ap, _∙_}
+use mathlib.Core.Path.{_≡_, sym, _∙_}
 use mathlib.Core.Bool.{true}
 use native.Mathlib.Omega.{arith}
 use borrow.Author.Needs.{needs}
@@ -18,8 +18,11 @@ start c =
     let two = four .before .before in
     two .before .before
 
+abbrev few : tie.After-is-level → tie.Else1
+few c = c .before .before
+
 abbrev sized : tie.After-is-level → tie.Start
-sized c = let fits = c .before in start (fits .before .before)
+sized c = start (few c .before)
 
 -- the lent lists
 abbrev given : tie.Start → Columns

@@ -2,7 +2,7 @@
 -- measure is what is left of the length. Assumes nothing.
 use mathlib.Core.Path.{_≡_, refl, sym, ap, _∙_}
 use mathlib.Core.List.{List, map}
-use Prim.Native.Nat.{ℕ, suc, _+_, _-_, _≤_, _<_}
+use Prim.Native.Nat.{ℕ, suc, _-_, _≤_, _<_}
 use native.Mathlib.Numerals.{add-one}
 use native.Mathlib.Omega.{arith}
 use borrow.Author.Needs.{needs}
@@ -23,8 +23,11 @@ abbrev μ-loop : tie.MeasureT-loop
 μ-loop x score low₀ i₀ low i = length score - i
 
 -- the way back from a turn's call to the loop's head, and the lent scores
+abbrev turn : tie.After-lower Inv-loop μ-loop → tie.In-loop Inv-loop μ-loop
+turn c = c .before .before
+
 abbrev head : tie.After-lower Inv-loop μ-loop → tie.At-loop Inv-loop μ-loop
-head c = let turn = c .before in turn .before .before
+head c = turn c .before
 
 abbrev scores : tie.At-loop Inv-loop μ-loop → List Float
 scores h = h .before .before .args .score .now

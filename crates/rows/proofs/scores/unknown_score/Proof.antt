@@ -1,8 +1,7 @@
 -- `rows::scores::unknown_score` meets its contract: 10 less than 0 with no scores, else than the lowest of the first and the others. Assumes nothing.
-use mathlib.Core.Path.{_≡_, sym, ap, _∙_}
+use mathlib.Core.Path.{sym, ap, _∙_}
 use borrow.Author.Needs.{needs}
 use Rattle.doubles.specs.Double.{Double, minusTen, sum}
-use Rattle.doubles.specs.Units.{units}
 use Rattle.doubles.proofs.Patterns.{zero-units}
 use Rattle.rows.proofs.LowestScores.{unknown-none, unknown-some}
 use Rattle.rows.proofs.scores.unknown_score.Statement.{statement}

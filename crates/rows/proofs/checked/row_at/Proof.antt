@@ -1,9 +1,9 @@
--- `rows::columns::row_at` meets its contract: the places at i are inside their lists, so what is read there is what the definition reads.
+-- `rows::checked::row_at` meets its contract: the places at i are inside their lists, so what is read there is what the definition reads.
 -- Assumes nothing.
 use borrow.Author.Needs.{needs}
 use Rattle.rows.proofs.RowLists.{row-scored, row-numbered}
-use Rattle.rows.proofs.columns.row_at.Statement.{statement}
-use Rattle.rows.proofs.columns.row_at.Tie as tie
+use Rattle.rows.proofs.checked.row_at.Statement.{statement}
+use Rattle.rows.proofs.checked.row_at.Tie as tie
 
 shared-slice-read-if1 : tie.Need-shared-slice-read-if1
 shared-slice-read-if1 c = search needs

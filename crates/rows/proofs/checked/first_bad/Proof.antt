@@ -1,18 +1,17 @@
--- `rows::columns::first_bad` meets its contract. The loop's invariant: what is first bad of all rows is what is first bad from row i on. The measure
+-- `rows::checked::first_bad` meets its contract. The loop's invariant: what is first bad of all rows is what is first bad from row i on. The measure
 -- is what is left of the rows. Assumes nothing.
-use mathlib.Core.Path.{_≡_, refl, sym, ap, _∙_}
-use mathlib.Core.List.{List}
-use Prim.Native.Nat.{ℕ, suc, _+_, _-_, _≤_, _<_}
+use mathlib.Core.Path.{_≡_, sym, ap, _∙_}
+use Prim.Native.Nat.{_-_, _≤_}
 use native.Mathlib.Numerals.{add-one}
 use native.Mathlib.Omega.{arith}
 use borrow.Author.Needs.{needs}
 use lib.ListN.{length}
-use Rattle.rows.specs.Rows.{Row, rowFault, firstBad}
+use Rattle.rows.specs.Rows.{rowFault, firstBad}
 use Rattle.rows.specs.Columns.{Columns, rowAt, rowsOf}
 use Rattle.rows.specs.Answers.{columns, faultIn}
 use Rattle.rows.proofs.FirstBad.{badFrom, bad-start, bad-turn, bad-found, bad-stop}
-use Rattle.rows.proofs.columns.first_bad.Statement.{statement}
-use Rattle.rows.proofs.columns.first_bad.Tie as tie
+use Rattle.rows.proofs.checked.first_bad.Statement.{statement}
+use Rattle.rows.proofs.checked.first_bad.Tie as tie
 
 abbrev Inv-loop : tie.InvT-loop
 Inv-loop kind tab off len scored score id i₀ i =
@@ -29,8 +28,11 @@ start c =
     let two = four .before .before in
     two .before .before
 
+abbrev tested : tie.After-row-fault Inv-loop μ-loop → tie.In-loop Inv-loop μ-loop
+tested c = c .before .before
+
 abbrev head : tie.After-row-fault Inv-loop μ-loop → tie.At-loop Inv-loop μ-loop
-head c = let made = c .before in made .before .before
+head c = tested c .before
 
 -- the lent lists
 abbrev given : tie.Start Inv-loop μ-loop → Columns
