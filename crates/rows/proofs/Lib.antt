@@ -8,5 +8,7 @@ pub mod RowLists
 pub mod FirstBad
 -- the lowest score, and the unknown score
 pub mod LowestScores
--- a row list as a whole: the sizes, then the first bad row
+-- a row list as a whole: the sizes, then the first bad row, and what a list without a fault says
+pub mod ListFaults
+-- which reason is given, exactly when, and that the answer is determined
 pub mod Judged

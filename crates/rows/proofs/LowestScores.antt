@@ -56,28 +56,29 @@ unfolding lowest
 lowest-in P x [] p ps = p
 lowest-in P x (y ∷ ys) p ps = lowest-in P (lowerOf x y) ys (lower-in P x y p (ps 0 (omega arith))) (λ k h. ps (suc k) (omega arith))
 
-abbrev Numbers : List Double → Type 0
-Numbers xs = (k : ℕ) → k < length xs → T (isNumber (getD xs k plusZero))
-
-abbrev Number : Double → Type 0
+-- no NaN
+abbrev pub Number : Double → Type 0
 Number x = T (isNumber x)
 
-pub lowest-at-most : (x : Double) (xs : List Double) → T (isNumber x) → Numbers xs → T (atMost (lowest x xs) x)
+abbrev pub Numbers : List Double → Type 0
+Numbers xs = (k : ℕ) → k < length xs → Number (getD xs k plusZero)
+
+pub lowest-at-most : (x : Double) (xs : List Double) → Number x → Numbers xs → T (atMost (lowest x xs) x)
 unfolding lowest
 lowest-at-most x [] p ps = at-most-refl x p
 lowest-at-most x (y ∷ ys) p ps =
     let q : Number y = ps 0 (omega arith) in
-    let low : T (isNumber (lowerOf x y)) = lower-in Number x y p q in
+    let low : Number (lowerOf x y) = lower-in Number x y p q in
     at-most-trans (lowest (lowerOf x y) ys) (lowerOf x y) x (lowest-at-most (lowerOf x y) ys low (λ k h. ps (suc k) (omega arith))) (lower-at-most x y p q .0)
 
 pub lowest-at-most-each :
-    (x : Double) (xs : List Double) → T (isNumber x) → Numbers xs
+    (x : Double) (xs : List Double) → Number x → Numbers xs
     → (k : ℕ) → k < length xs → T (atMost (lowest x xs) (getD xs k plusZero))
 unfolding lowest
 lowest-at-most-each x [] p ps k h = absurd (omega arith)
 lowest-at-most-each x (y ∷ ys) p ps zero h =
     let q : Number y = ps 0 (omega arith) in
-    let low : T (isNumber (lowerOf x y)) = lower-in Number x y p q in
+    let low : Number (lowerOf x y) = lower-in Number x y p q in
     at-most-trans (lowest (lowerOf x y) ys) (lowerOf x y) y (lowest-at-most (lowerOf x y) ys low (λ k h. ps (suc k) (omega arith))) (lower-at-most x y p q .1)
 lowest-at-most-each x (y ∷ ys) p ps (suc k) h =
     lowest-at-most-each (lowerOf x y) ys (lower-in Number x y p (ps 0 (omega arith))) (λ j l. ps (suc j) (omega arith)) k (omega arith)

@@ -33,7 +33,7 @@ fn is_level(off: &[u32], len: &[u32], scored: &[bool], score: &[f64], id: &[u32]
     id.len() == n
 }
 
-// The sizes, 1, then the first bad row.
+// Whether every row is fine. Refused with 1 for too many rows, too large a table or lists of unequal length; then the first bad row decides.
 pub fn judge(
     kind: Kind,
     tab: &[u8],

@@ -7,7 +7,7 @@ use borrow.Author.Tests.{not-true, not-false}
 use Rattle.rows.specs.Columns.{Columns, level}
 use Rattle.rows.specs.Answers.{columns}
 use Rattle.rows.proofs.RowLists.{lists-level}
-use Rattle.rows.proofs.Judged.{too-many, too-large, uneven, within-sizes}
+use Rattle.rows.proofs.ListFaults.{too-many, too-large, uneven, within-sizes}
 use Rattle.rows.proofs.columns.judge.Statement.{statement}
 use Rattle.rows.proofs.columns.judge.Tie as tie
 
