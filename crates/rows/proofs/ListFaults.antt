@@ -26,9 +26,9 @@ use Rattle.rows.specs.declared.Kind.the-variants.{Unigram, WordPiece}
 use Rattle.rows.specs.Rows.{score, id, rowFault, firstBad}
 use Rattle.rows.specs.Columns.{Columns, rowAt, rowsOf, level, columnsFault}
 use Rattle.rows.specs.Scores.{unknownScore}
-use Rattle.rows.specs.Answers.{columns}
+use Rattle.rows.specs.Answers.{columns, Level}
 use Rattle.rows.proofs.RowFaults.{passed, found, not-found, fine-inside, fine-short, fine-token-length, fine-text, fine-worth, fine-score, fine-id}
-use Rattle.rows.proofs.RowLists.{rows-length, rows-at, level-score, getD-map-inside}
+use Rattle.rows.proofs.RowLists.{rows-length, rows-at, level-score, lists-level, getD-map-inside}
 use Rattle.rows.proofs.FirstBad.{none-bad-says, none-bad-found}
 use Rattle.rows.proofs.LowestScores.{Scored, unknown-finite}
 
@@ -190,6 +190,10 @@ module _ (tab : List ℕ) (c : Columns) (i : ℕ) (h : i < length (c .off)) wher
     pub unigram-finite : isFinite (getD (c .score) i plusZero) ≡ true
     unigram-finite = unigram-worth .1
 
+    pub unigram-row : rowAt c i .worth ≡ score (getD (c .score) i plusZero)
+    unfolding rowAt
+    unigram-row = rw unigram-scored
+
   -- a WordPiece row has an id that is not the mark for none
   module _ (fine : columnsFault WordPiece tab c ≡ none) where
     wordpiece-worth : (getD (c .scored) i false ≡ false) × (getD (c .id) i 0 ≡ noId → ⊥)
@@ -204,6 +208,19 @@ module _ (tab : List ℕ) (c : Columns) (i : ℕ) (h : i < length (c .off)) wher
 
     pub wordpiece-id : getD (c .id) i 0 ≡ noId → ⊥
     wordpiece-id = wordpiece-worth .1
+
+    pub wordpiece-row : rowAt c i .worth ≡ id (getD (c .id) i 0)
+    unfolding rowAt
+    wordpiece-row = rw wordpiece-numbered
+
+-- ---- what it says of the lent lists
+
+-- they have one length, as the functions of `checked` ask
+pub lists-fine :
+    (kind : Kind) (tab off len : List ℕ) (scored : List Bool) (scores : List Float) (ids : List ℕ)
+    → columnsFault kind tab (columns off len scored scores ids) ≡ none → Level off len scored scores ids
+lists-fine kind tab off len scored scores ids fine =
+    lists-level off len scored scores ids (columns-level kind tab (columns off len scored scores ids) fine)
 
 -- the unknown score of a Unigram list without a fault is finite
 module _
