@@ -8,6 +8,7 @@ use refusal::Reason;
 ghost use mathlib.Core.Path.{_≡_};
 ghost use Prim.Native.Nat.{_<_, _≤_};
 ghost use lib.ListN.{length};
+ghost use Rattle.refusal.specs.Sizes.{maxRows};
 ghost use Rattle.rows.specs.Rows.{rowIs, firstBad};
 ghost use Rattle.rows.specs.Columns.{rowAt, rowsOf};
 ghost use Rattle.rows.specs.Answers.{columns, reasonIn, Level};
@@ -43,7 +44,7 @@ pub fn first_bad(
     id: &[u32],
 ) -> RowsAnswer
     requires { ⌜ Level (now off) (now len) (now scored) (now score) (now id) ⌝ }
-    requires { ⌜ length (now off) ≤ 1_048_576 ⌝ }
+    requires { ⌜ length (now off) ≤ maxRows ⌝ }
     ensures { λ r. ⌜ reasonIn r ≡ firstBad kind (now (tab .entry)) 0 (rowsOf (columns (now (off .entry)) (now (len .entry)) (now (scored .entry)) (now (score .entry)) (now (id .entry)))) ⌝ }
 {
     let mut i: usize = 0;
