@@ -4,7 +4,7 @@ use mathlib.Core.Bool.{cond}
 use mathlib.Core.List.{List, [], _∷_, map}
 use mathlib.Core.Option.{Option, none, some}
 use lib.ListN.{getD}
-use Rattle.doubles.specs.Double.{Double, plusZero, minusTen, sum, lowerOf}
+use Rattle.doubles.specs.Double.{Double, plusZero}
 use Rattle.trie.specs.Trie.{Trie}
 use Rattle.rows.specs.Rows.{Row, Worth, score, id, tokenOf}
 use Rattle.build.specs.Names.{same, place, names}
@@ -29,16 +29,6 @@ scoresOf rows = map (λ r. scoreOf (r .worth)) rows
 unfoldable pub nodeScore : List Double → Option ℕ → Double
 nodeScore scores none = plusZero
 nodeScore scores (some i) = getD scores i plusZero
-
--- the lowest of x and some scores
-unfoldable pub lowest : Double → List Double → Double
-lowest x [] = x
-lowest x (y ∷ ys) = lowest (lowerOf x y) ys
-
--- "The unknown score is the lowest score of all rows, repeats included, minus 10, rounded once; with no rows, -10."
-unfoldable pub unknownScore : List Double → Double
-unknownScore [] = minusTen
-unknownScore (x ∷ xs) = sum (lowest x xs) minusTen
 
 unfoldable pub tokensOf : List ℕ → List Row → List (List ℕ)
 tokensOf tab rows = map (tokenOf tab) rows

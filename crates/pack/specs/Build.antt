@@ -19,8 +19,9 @@ use Rattle.trie.specs.Trie.{Trie}
 use Rattle.rows.specs.declared.Kind.{Kind}
 use Rattle.rows.specs.declared.Kind.the-variants.{Unigram, WordPiece}
 use Rattle.rows.specs.Rows.{firstBad}
+use Rattle.rows.specs.Scores.{unknownScore}
 use Rattle.build.specs.Names.{names}
-use Rattle.build.specs.Rules.{tokensOf, scoresOf, unknownScore, unigramTrie, unigramScores, wordpieceTrie}
+use Rattle.build.specs.Rules.{tokensOf, scoresOf, unigramTrie, unigramScores, wordpieceTrie}
 use Rattle.build.specs.Memory.{Memory, noScoredRoom, cleared, holding, zeroScores, leaves}
 use Rattle.pack.specs.declared.PackAnswer.{PackAnswer}
 use Rattle.pack.specs.declared.PackAnswer.the-variants as answer-is

@@ -13,7 +13,8 @@ use Rattle.refusal.specs.Sizes.{above}
 use Rattle.text.specs.Ascii.{ascii}
 use Rattle.rows.specs.declared.Kind.{Kind}
 use Rattle.rows.specs.declared.Kind.the-variants.{Unigram, WordPiece}
-use Rattle.build.specs.Rules.{scoresOf, unknownScore}
+use Rattle.rows.specs.Scores.{unknownScore}
+use Rattle.build.specs.Rules.{scoresOf}
 use Rattle.build.specs.Memory.{Memory}
 use Rattle.unigram.specs.Pieces as unigram
 use Rattle.unigram.specs.Segment.{Scratch, segmentFault}

@@ -1,4 +1,20 @@
 // The rows of a vocabulary: a token's span in the string table and its worth, and which row is the first bad one.
+use refusal::Fault;
+
+pub mod checked;
+pub mod columns;
+pub mod scores;
+
+ghost use mathlib.Core.Path.{_≡_};
+ghost use Rattle.rows.specs.Rows.{worthIs, rowIs, worthFault, rowFault};
+ghost use Rattle.rows.specs.Answers.{faultIn};
+ghost use Rattle.rows.specs.declared.Kind.the-variants.{Unigram, WordPiece};
+
+// The longest token, in bytes.
+pub const MAX_TOKEN: u32 = 1_024;
+
+// The mark for no id, which no row may give.
+pub const NO_ID: u32 = 4_294_967_295;
 
 // Which of the two a vocabulary is for.
 pub enum Kind {
@@ -17,4 +33,59 @@ pub struct Row {
     pub off: u32,
     pub len: u32,
     pub worth: Worth,
+}
+
+// What is found of one row.
+pub enum RowAnswer {
+    Fine,
+    Bad(Fault),
+}
+
+// A Unigram row's worth is a score, and finite.
+fn score_fault(worth: Worth) -> RowAnswer
+    ensures { λ r. ⌜ faultIn r ≡ worthFault Unigram (worthIs worth) ⌝ }
+{
+    let Worth::Score(x) = worth else {
+        return RowAnswer::Bad(Fault::Score);
+    };
+    if doubles::is_finite(x) {
+        return RowAnswer::Fine;
+    }
+    RowAnswer::Bad(Fault::Score)
+}
+
+// A WordPiece row's worth is an id, and not the mark for none.
+fn id_fault(worth: Worth) -> RowAnswer
+    ensures { λ r. ⌜ faultIn r ≡ worthFault WordPiece (worthIs worth) ⌝ }
+{
+    let Worth::Id(i) = worth else {
+        return RowAnswer::Bad(Fault::Id);
+    };
+    if i == NO_ID {
+        return RowAnswer::Bad(Fault::Id);
+    }
+    RowAnswer::Fine
+}
+
+// One row's fault: its span, its length, its text, then its worth.
+pub fn row_fault(kind: Kind, tab: &[u8], row: Row) -> RowAnswer
+    ensures { λ r. ⌜ faultIn r ≡ rowFault kind (now (tab .entry)) (rowIs row) ⌝ }
+{
+    let start = row.off as usize;
+    let len = row.len;
+    let end = start + len as usize;
+    if tab.len() < end {
+        return RowAnswer::Bad(Fault::Span);
+    }
+    if MAX_TOKEN < len {
+        return RowAnswer::Bad(Fault::Token);
+    }
+    if text::utf8::valid_up_to(&tab[start..end]) < end - start {
+        return RowAnswer::Bad(Fault::Text);
+    }
+    let worth = row.worth;
+    match kind {
+        Kind::Unigram => score_fault(worth),
+        Kind::WordPiece => id_fault(worth),
+    }
 }

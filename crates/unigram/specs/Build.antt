@@ -14,8 +14,9 @@ use Rattle.refusal.specs.Places.{filled}
 use Rattle.rows.specs.declared.Kind.the-variants as kind
 use Rattle.rows.specs.Rows.{Row}
 use Rattle.rows.specs.Columns.{Columns, rowsOf, columnsFault}
+use Rattle.rows.specs.Scores.{unknownScore}
 use Rattle.build.specs.Names.{names}
-use Rattle.build.specs.Rules.{tokensOf, scoresOf, unknownScore, unigramTrie, unigramScores}
+use Rattle.build.specs.Rules.{tokensOf, scoresOf, unigramTrie, unigramScores}
 use Rattle.build.specs.Memory.{Memory, noScoredRoom, cleared, holding, zeroScores, leaves}
 use Rattle.unigram.specs.declared.BuildAnswer.{BuildAnswer}
 use Rattle.unigram.specs.declared.BuildAnswer.the-variants as answer-is

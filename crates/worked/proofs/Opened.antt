@@ -10,6 +10,7 @@ use Rattle.text.specs.Ascii as ascii
 use Rattle.trie.specs.Trie as trie
 use Rattle.trie.specs.Sound as sound
 use Rattle.rows.specs.Rows as rows
+use Rattle.rows.specs.Scores as scores
 use Rattle.build.specs.Names as names
 use Rattle.build.specs.Parts as parts
 use Rattle.build.specs.Rules as rules
@@ -39,7 +40,7 @@ unfolding trie.seek trie.step trie.walk trie.idAt trie.idFrom trie.idOf sound.ev
 trie-opened = tt
 
 unfoldable pub build-opened : Unit {0}
-unfolding rows.worthFault rows.rowFault rows.firstBad names.same names.later names.place names.prefixes names.add names.enter names.names parts.edge parts.edgesFrom parts.edgesOf parts.starts parts.lay parts.trieOf rules.firstRow rules.scoreOf rules.scoresOf rules.nodeScore rules.lowest rules.unknownScore rules.tokensOf rules.unigramTrie rules.unigramScores rules.idOfWorth rules.lastOf rules.lastId rules.wordpieceTrie memory.anyBelow memory.noRoom memory.noScoredRoom
+unfolding rows.worthFault rows.rowFault rows.firstBad scores.lowest scores.unknownScore names.same names.later names.place names.prefixes names.add names.enter names.names parts.edge parts.edgesFrom parts.edgesOf parts.starts parts.lay parts.trieOf rules.firstRow rules.scoreOf rules.scoresOf rules.nodeScore rules.tokensOf rules.unigramTrie rules.unigramScores rules.idOfWorth rules.lastOf rules.lastId rules.wordpieceTrie memory.anyBelow memory.noRoom memory.noScoredRoom
 build-opened = tt
 
 unfoldable pub unigram-opened : Unit {0}

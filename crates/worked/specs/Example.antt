@@ -8,8 +8,9 @@ use Rattle.doubles.specs.Double.{Double, plusZero, same}
 use Rattle.rows.specs.declared.Kind.{Kind}
 use Rattle.rows.specs.declared.Kind.the-variants.{Unigram, WordPiece}
 use Rattle.rows.specs.Rows.{Row, Worth, firstBad}
+use Rattle.rows.specs.Scores.{unknownScore}
 use Rattle.build.specs.Names as names
-use Rattle.build.specs.Rules.{scoresOf, unknownScore, unigramTrie, unigramScores, wordpieceTrie}
+use Rattle.build.specs.Rules.{scoresOf, unigramTrie, unigramScores, wordpieceTrie}
 use Rattle.unigram.specs.Records.{scoreOf, best}
 use Rattle.unigram.specs.Pieces as unigram
 use Rattle.unigram.specs.Segment.{Scratch, segmentFault}

@@ -1,0 +1,241 @@
+-- A row list as a whole: 1 for its sizes, then the first bad row. A list without a fault is within its sizes and each of its rows is fine, so its
+-- tokens are short text inside the table and its worths are finite scores, or real ids. Assumes nothing.
+use mathlib.Core.Path.{_≡_, refl, sym, ap, _∙_, subst}
+use mathlib.Core.Bool.{Bool, true, false, not, _||_, cond}
+use mathlib.Core.List.{List, map}
+use mathlib.Core.Logic.{_↔_}
+use mathlib.Core.Option.{Option, none, some}
+use Prim.Native.Nat.{ℕ, _+_, _≤_, _<_}
+use native.Mathlib.Omega.{arith}
+use borrow.Author.Tests.{lt-ltb, le-ltb, ltb-false, not-false}
+use lib.Dec.{T, ltb}
+use lib.Ieee.{Float, nan, binary64, fits}
+use lib.ListN.{length, getD, length-map}
+use Rattle.doubles.specs.Double.{Double, plusZero, isFinite, isDouble}
+use Rattle.doubles.specs.Units.{units}
+use Rattle.doubles.proofs.Floats.{units-is-double}
+use Rattle.refusal.specs.declared.Fault.the-variants as fault
+use Rattle.refusal.specs.declared.Reason.{Reason}
+use Rattle.refusal.specs.declared.Reason.the-variants as reason
+use Rattle.refusal.specs.Sizes.{maxRows, maxTable, maxToken, noId}
+use Rattle.refusal.specs.Refusal.{refuse}
+use Rattle.text.specs.Text.{wellFormed}
+use Rattle.text.specs.Span.{spanOf}
+use Rattle.rows.specs.declared.Kind.{Kind}
+use Rattle.rows.specs.declared.Kind.the-variants.{Unigram, WordPiece}
+use Rattle.rows.specs.Rows.{score, id, rowFault, firstBad}
+use Rattle.rows.specs.Columns.{Columns, rowAt, rowsOf, level, columnsFault}
+use Rattle.rows.specs.Scores.{unknownScore}
+use Rattle.rows.specs.Answers.{columns, Level}
+use Rattle.rows.proofs.RowFaults.{passed, found, not-found, fine-inside, fine-short, fine-token-length, fine-text, fine-worth, fine-score, fine-id}
+use Rattle.rows.proofs.RowLists.{rows-length, rows-at, level-score, lists-level, getD-map-inside}
+use Rattle.rows.proofs.FirstBad.{none-bad-says, none-bad-found}
+use Rattle.rows.proofs.LowestScores.{Scored, unknown-finite}
+
+-- ---- which fault
+
+either-left : (a b : Bool) → a ≡ true → (a || b) ≡ true
+either-left a b e = rw e
+
+either-right : (a b : Bool) → b ≡ true → (a || b) ≡ true
+either-right true b e = refl
+either-right false b e = e
+
+neither : (a b : Bool) → a ≡ false → b ≡ false → (a || b) ≡ false
+neither a b e f = rw (e, f)
+
+neither-says : (a b : Bool) → (a || b) ≡ false → (a ≡ false) × (b ≡ false)
+neither-says true b e = (cc, cc)
+neither-says false b e = (refl, e)
+
+module _ (kind : Kind) (tab : List ℕ) (c : Columns) where
+  -- the tests of the sizes, and what is left once they find nothing
+  abbrev pub many : Bool
+  many = ltb maxRows (length (c .off))
+
+  abbrev pub large : Bool
+  large = ltb maxTable (length tab)
+
+  abbrev pub size : Bool
+  size = many || large || not (level c)
+
+  abbrev pub rows-left : Option Reason
+  rows-left = firstBad kind tab 0 (rowsOf c)
+
+  pub sizes-first : columnsFault kind tab c ≡ refuse size (reason.Call fault.Size) rows-left
+  unfolding columnsFault
+  sizes-first = refl
+
+  pub too-many : maxRows < length (c .off) → columnsFault kind tab c ≡ some (reason.Call fault.Size)
+  too-many h =
+      sizes-first
+      ∙ found size _ _ (either-left (many || large) (not (level c)) (either-left many large (lt-ltb maxRows (length (c .off)) h)))
+
+  pub too-large : maxTable < length tab → columnsFault kind tab c ≡ some (reason.Call fault.Size)
+  too-large h =
+      sizes-first ∙ found size _ _ (either-left (many || large) (not (level c)) (either-right many large (lt-ltb maxTable (length tab) h)))
+
+  pub uneven : level c ≡ false → columnsFault kind tab c ≡ some (reason.Call fault.Size)
+  uneven e = sizes-first ∙ found size _ _ (either-right (many || large) (not (level c)) (ap not e))
+
+  pub within-sizes : length (c .off) ≤ maxRows → length tab ≤ maxTable → level c ≡ true → columnsFault kind tab c ≡ firstBad kind tab 0 (rowsOf c)
+  within-sizes m n e =
+      sizes-first
+      ∙ not-found size _ _
+      (neither (many || large) (not (level c)) (neither many large (le-ltb maxRows (length (c .off)) m) (le-ltb maxTable (length tab) n)) (ap not e))
+
+-- ---- what a list without a fault says
+
+-- the list is within its sizes
+pub record Sized (tab : List ℕ) (c : Columns) : Type 0 where
+  pub few : length (c .off) ≤ maxRows
+  pub small : length tab ≤ maxTable
+  pub flat : level c ≡ true
+
+-- the list is within its sizes, and no row has a fault
+pub record AllFine (kind : Kind) (tab : List ℕ) (c : Columns) : Type 0 where
+  pub sized : Sized tab c
+  pub row : (i : ℕ) → i < length (c .off) → rowFault kind tab (rowAt c i) ≡ none
+
+module _ (kind : Kind) (tab : List ℕ) (c : Columns) where
+  -- past the tests of the sizes
+  pub unsized : size kind tab c ≡ false → Sized tab c
+  unsized e =
+      let both = neither-says (many kind tab c || large kind tab c) (not (level c)) e in
+      let two = neither-says (many kind tab c) (large kind tab c) (both .0) in
+      record {
+        few = ltb-false maxRows (length (c .off)) (two .0);
+        small = ltb-false maxTable (length tab) (two .1);
+        flat = not-false (level c) (both .1);
+      }
+
+  pub within : Sized tab c → columnsFault kind tab c ≡ firstBad kind tab 0 (rowsOf c)
+  within s = within-sizes kind tab c (s .few) (s .small) (s .flat)
+
+  row-fine : firstBad kind tab 0 (rowsOf c) ≡ none → (i : ℕ) → i < length (c .off) → rowFault kind tab (rowAt c i) ≡ none
+  row-fine e i h =
+      ap (rowFault kind tab) (sym (rows-at c (rowAt c i) i h))
+      ∙ none-bad-says kind tab (rowAt c i) 0 (rowsOf c) e i (omega (arith, rows-length c))
+
+  pub none-says : columnsFault kind tab c ≡ none → AllFine kind tab c
+  none-says e =
+      let p = passed _ _ _ (sym (sizes-first kind tab c) ∙ e) in
+      record { sized = unsized (p .0); row = row-fine (p .1) }
+
+  pub none-found : AllFine kind tab c → columnsFault kind tab c ≡ none
+  none-found a =
+      within (a .sized)
+      ∙ none-bad-found kind tab (rowAt c 0) 0 (rowsOf c)
+      (λ k h.
+      let inside : k < length (c .off) = omega (arith, rows-length c) in
+      ap (rowFault kind tab) (rows-at c (rowAt c 0) k inside) ∙ a .row k inside)
+
+  -- no fault exactly where the sizes and all rows are fine
+  pub none-exactly : (columnsFault kind tab c ≡ none) ↔ AllFine kind tab c
+  none-exactly = (none-says, none-found)
+
+  module _ (fine : columnsFault kind tab c ≡ none) where
+    pub rows-few : length (c .off) ≤ maxRows
+    rows-few = none-says fine .sized .few
+
+    pub table-small : length tab ≤ maxTable
+    table-small = none-says fine .sized .small
+
+    pub columns-level : level c ≡ true
+    columns-level = none-says fine .sized .flat
+
+    module _ (i : ℕ) (h : i < length (c .off)) where
+      pub row-has-none : rowFault kind tab (rowAt c i) ≡ none
+      row-has-none = none-says fine .row i h
+
+      -- its token's span lies inside the table
+      pub row-inside : getD (c .off) i 0 + getD (c .len) i 0 ≤ length tab
+      unfolding rowAt
+      row-inside = fine-inside kind tab (rowAt c i) row-has-none
+
+      pub row-short : getD (c .len) i 0 ≤ maxToken
+      unfolding rowAt
+      row-short = fine-short kind tab (rowAt c i) row-has-none
+
+      pub row-token-length : length (spanOf tab (getD (c .off) i 0) (getD (c .len) i 0)) ≡ getD (c .len) i 0
+      unfolding rowAt
+      row-token-length = fine-token-length kind tab (rowAt c i) row-has-none
+
+      pub row-text : wellFormed (spanOf tab (getD (c .off) i 0) (getD (c .len) i 0)) ≡ true
+      unfolding rowAt
+      row-text = fine-text kind tab (rowAt c i) row-has-none
+
+-- a worth picked by a bool that is a score, or an id
+picked-score : (t : Bool) (x : Double) (n : ℕ) (y : Double) → cond t (score x) (id n) ≡ score y → (t ≡ true) × (x ≡ y)
+picked-score true x n y e = (refl, cc)
+picked-score false x n y e = (cc, cc)
+
+picked-id : (t : Bool) (x : Double) (n : ℕ) (m : ℕ) → cond t (score x) (id n) ≡ id m → (t ≡ false) × (n ≡ m)
+picked-id true x n m e = (cc, cc)
+picked-id false x n m e = (refl, cc)
+
+module _ (tab : List ℕ) (c : Columns) (i : ℕ) (h : i < length (c .off)) where
+  -- a Unigram row has a finite score
+  module _ (fine : columnsFault Unigram tab c ≡ none) where
+    unigram-worth : (getD (c .scored) i false ≡ true) × (isFinite (getD (c .score) i plusZero) ≡ true)
+    unfolding rowAt
+    unigram-worth =
+        let w = fine-score (rowAt c i .worth) (fine-worth Unigram tab (rowAt c i) (row-has-none Unigram tab c fine i h)) in
+        let p = picked-score (getD (c .scored) i false) (getD (c .score) i plusZero) (getD (c .id) i 0) (w .0) (w .1) in
+        (p .0, ap isFinite (p .1) ∙ w .2)
+
+    pub unigram-scored : getD (c .scored) i false ≡ true
+    unigram-scored = unigram-worth .0
+
+    pub unigram-finite : isFinite (getD (c .score) i plusZero) ≡ true
+    unigram-finite = unigram-worth .1
+
+    pub unigram-row : rowAt c i .worth ≡ score (getD (c .score) i plusZero)
+    unfolding rowAt
+    unigram-row = rw unigram-scored
+
+  -- a WordPiece row has an id that is not the mark for none
+  module _ (fine : columnsFault WordPiece tab c ≡ none) where
+    wordpiece-worth : (getD (c .scored) i false ≡ false) × (getD (c .id) i 0 ≡ noId → ⊥)
+    unfolding rowAt
+    wordpiece-worth =
+        let w = fine-id (rowAt c i .worth) (fine-worth WordPiece tab (rowAt c i) (row-has-none WordPiece tab c fine i h)) in
+        let p = picked-id (getD (c .scored) i false) (getD (c .score) i plusZero) (getD (c .id) i 0) (w .0) (w .1) in
+        (p .0, λ e. w .2 (sym (p .1) ∙ e))
+
+    pub wordpiece-numbered : getD (c .scored) i false ≡ false
+    wordpiece-numbered = wordpiece-worth .0
+
+    pub wordpiece-id : getD (c .id) i 0 ≡ noId → ⊥
+    wordpiece-id = wordpiece-worth .1
+
+    pub wordpiece-row : rowAt c i .worth ≡ id (getD (c .id) i 0)
+    unfolding rowAt
+    wordpiece-row = rw wordpiece-numbered
+
+-- ---- what it says of the lent lists
+
+-- they have one length, as the functions of `checked` ask
+pub lists-fine :
+    (kind : Kind) (tab off len : List ℕ) (scored : List Bool) (scores : List Float) (ids : List ℕ)
+    → columnsFault kind tab (columns off len scored scores ids) ≡ none → Level off len scored scores ids
+lists-fine kind tab off len scored scores ids fine =
+    lists-level off len scored scores ids (columns-level kind tab (columns off len scored scores ids) fine)
+
+-- the unknown score of a Unigram list without a fault is finite
+module _
+    (tab off len : List ℕ) (scored : List Bool) (scores : List Float) (ids : List ℕ)
+    (fine : columnsFault Unigram tab (columns off len scored scores ids) ≡ none)
+    (good : (k : ℕ) → k < length scores → T (fits binary64 (getD scores k nan)))
+  where
+    each : (k : ℕ) → k < length (map units scores) → Scored (getD (map units scores) k plusZero)
+    each k h =
+        let c = columns off len scored scores ids in
+        let inside : k < length scores = omega (arith, length-map scores units) in
+        let row : k < length off = omega (arith, level-score c (columns-level Unigram tab c fine)) in (
+          subst (λ (x : Double). T (isDouble x)) (sym (getD-map-inside units scores k nan plusZero inside)) (units-is-double (getD scores k nan) (good k inside)),
+          subst T (sym (unigram-finite tab c k row fine)) tt,
+        )
+
+    pub unknown-fine : T (isFinite (unknownScore (map units scores)))
+    unknown-fine = unknown-finite (map units scores) each

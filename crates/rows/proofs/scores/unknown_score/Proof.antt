@@ -1,0 +1,59 @@
+-- `rows::scores::unknown_score` meets its contract: 10 less than 0 with no scores, else than the lowest of the first and the others. Assumes nothing.
+use mathlib.Core.Path.{sym, ap, _∙_}
+use borrow.Author.Needs.{needs}
+use Rattle.doubles.specs.Double.{Double, minusTen, sum}
+use Rattle.doubles.proofs.Patterns.{zero-units}
+use Rattle.rows.proofs.LowestScores.{unknown-none, unknown-some}
+use Rattle.rows.proofs.scores.unknown_score.Statement.{statement}
+use Rattle.rows.proofs.scores.unknown_score.Tie as tie
+
+minus-ten-requires : tie.Need-minus-ten-requires
+minus-ten-requires c κs = search needs
+
+returns : tie.Need-returns
+returns c =
+    let tested = c .before in
+    c .minus-ten .ensures
+    ∙ ap (λ (x : Double). sum x minusTen) zero-units
+    ∙ sym (unknown-none (tested .before .before .args .score .now) (tested .if1 .taken))
+
+shared-slice-read-lowest : tie.Need-shared-slice-read-lowest
+shared-slice-read-lowest c = search needs
+
+sub-lowest : tie.Need-sub-lowest
+sub-lowest c = search needs
+
+part-lowest-start : tie.Need-part-lowest-start
+part-lowest-start c = search needs
+
+part-lowest-end : tie.Need-part-lowest-end
+part-lowest-end c = search needs
+
+lowest-requires : tie.Need-lowest-requires
+lowest-requires c κs = search needs
+
+minus-ten-requires-2 : tie.Need-minus-ten-requires-2
+minus-ten-requires-2 c κs = search needs
+
+returns-2 : tie.Need-returns-2
+returns-2 c =
+    let found = c .before in
+    let read = found .before .before in
+    let tested = read .before in
+    c .minus-ten2 .ensures
+    ∙ ap (λ (x : Double). sum x minusTen) (found .lowest .ensures)
+    ∙ sym (unknown-some (tested .before .before .args .score .now) (search needs))
+
+pub unknown-score-spec : {M : Type 1} → statement M
+unknown-score-spec =
+    tie.close
+    (tie.spec
+    minus-ten-requires
+    returns
+    shared-slice-read-lowest
+    sub-lowest
+    part-lowest-start
+    part-lowest-end
+    lowest-requires
+    minus-ten-requires-2
+    returns-2)

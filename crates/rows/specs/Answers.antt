@@ -1,0 +1,37 @@
+-- What the answers about rows say, and the columns of a row list as one value. Definitions only; assumes nothing.
+use mathlib.Core.Path.{_≡_}
+use Prim.Native.Nat.{ℕ}
+use mathlib.Core.Bool.{Bool}
+use mathlib.Core.List.{List, map}
+use mathlib.Core.Option.{Option, none, some}
+use lib.Ieee.{Float}
+use lib.ListN.{length}
+use Rattle.doubles.specs.Units.{units}
+use Rattle.refusal.specs.declared.Fault.{Fault}
+use Rattle.refusal.specs.declared.Reason.{Reason}
+use Rattle.rows.specs.declared.RowAnswer.{RowAnswer}
+use Rattle.rows.specs.declared.RowAnswer.the-variants as row-is
+use Rattle.rows.specs.declared.columns.RowsAnswer.{RowsAnswer}
+use Rattle.rows.specs.declared.columns.RowsAnswer.the-variants as rows-are
+use Rattle.rows.specs.Columns.{Columns}
+
+-- the fault that an answer about a row names
+abbrev pub faultIn : RowAnswer → Option Fault
+faultIn row-is.Fine = none
+faultIn (row-is.Bad f) = some f
+
+-- the reason that an answer about a row list names
+abbrev pub reasonIn : RowsAnswer → Option Reason
+reasonIn rows-are.Fine = none
+reasonIn (rows-are.Refused r) = some r
+
+-- the lent lists as columns
+abbrev pub columns : List ℕ → List ℕ → List Bool → List Float → List ℕ → Columns
+columns off len scored score id = record { off = off; len = len; scored = scored; score = map units score; id = id }
+
+-- the lists have one length
+pub record Level (off len : List ℕ) (scored : List Bool) (score : List Float) (id : List ℕ) : Type 0 where
+  pub len-level : length len ≡ length off
+  pub scored-level : length scored ≡ length off
+  pub score-level : length score ≡ length off
+  pub id-level : length id ≡ length off

@@ -1,0 +1,28 @@
+// The unknown score of a row list, from its column of scores.
+ghost use mathlib.Core.Path.{_≡_};
+ghost use mathlib.Core.List.{map};
+ghost use Rattle.doubles.specs.Units.{units};
+ghost use Rattle.rows.specs.Scores.{lowest, unknownScore};
+
+// The lowest of x and the scores.
+fn lowest(x: f64, score: &[f64]) -> f64
+    ensures { λ r. ⌜ units r ≡ lowest (units x) (map units (now (score .entry))) ⌝ }
+{
+    let mut low = x;
+    let mut i: usize = 0;
+    while i < score.len() {
+        low = doubles::lower(low, score[i]);
+        i += 1;
+    }
+    low
+}
+
+// The lowest score of all rows minus 10, rounded once; -10 where there are none.
+pub fn unknown_score(score: &[f64]) -> f64
+    ensures { λ r. ⌜ units r ≡ unknownScore (map units (now (score .entry))) ⌝ }
+{
+    if score.len() == 0 {
+        return doubles::minus_ten(0.0);
+    }
+    doubles::minus_ten(lowest(score[0], &score[1..]))
+}
