@@ -20,7 +20,7 @@ use Rattle.rows.specs.declared.columns.RowsAnswer.the-variants as rows-a
 use Rattle.rows.specs.Rows.{rowFault}
 use Rattle.rows.specs.Columns.{Columns, rowAt, rowsOf, level, columnsFault}
 use Rattle.rows.specs.Answers.{reasonIn}
-use Rattle.rows.proofs.RowFaults.{found}
+use Rattle.refusal.proofs.Tests.{found}
 use Rattle.rows.proofs.RowLists.{rows-length, rows-at}
 use Rattle.rows.proofs.FirstBad.{IsFirstBad, first-bad-says, first-bad-exactly}
 use Rattle.rows.proofs.ListFaults.{many, large, size, rows-left, sizes-first, too-many, too-large, uneven, Sized, unsized, within}

@@ -27,7 +27,8 @@ use Rattle.rows.specs.Rows.{score, id, rowFault, firstBad}
 use Rattle.rows.specs.Columns.{Columns, rowAt, rowsOf, level, columnsFault}
 use Rattle.rows.specs.Scores.{unknownScore}
 use Rattle.rows.specs.Answers.{columns, Level}
-use Rattle.rows.proofs.RowFaults.{passed, found, not-found, fine-inside, fine-short, fine-token-length, fine-text, fine-worth, fine-score, fine-id}
+use Rattle.refusal.proofs.Tests.{passed, found, not-found}
+use Rattle.rows.proofs.RowFaults.{fine-inside, fine-short, fine-token-length, fine-text, fine-worth, fine-score, fine-id}
 use Rattle.rows.proofs.RowLists.{rows-length, rows-at, level-score, lists-level, getD-map-inside}
 use Rattle.rows.proofs.FirstBad.{none-bad-says, none-bad-found}
 use Rattle.rows.proofs.LowestScores.{Scored, unknown-finite}

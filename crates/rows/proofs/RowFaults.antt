@@ -15,6 +15,7 @@ use Rattle.doubles.specs.Units.{units}
 use Rattle.refusal.specs.declared.Fault.the-variants as fault
 use Rattle.refusal.specs.Sizes.{maxToken, noId}
 use Rattle.refusal.specs.Refusal.{refuse}
+use Rattle.refusal.proofs.Tests.{passed, found, not-found}
 use Rattle.text.specs.Text.{validUpTo, wellFormed}
 use Rattle.text.proofs.Valid.{valid-le, well-by-valid}
 use Rattle.rows.specs.declared.Kind.{Kind}
@@ -22,21 +23,6 @@ use Rattle.rows.specs.declared.Kind.the-variants.{Unigram, WordPiece}
 use Rattle.rows.specs.declared.Worth as code-worth
 use Rattle.rows.specs.declared.Worth.the-variants as code-worth-is
 use Rattle.rows.specs.Rows.{Worth, score, id, Row, worthIs, tokenOf, worthFault, rowFault}
-
--- nothing is refused where no test finds anything, and then no test did
-pub passed : {A : Type 0} (t : Bool) (f : A) (later : Option A) → refuse t f later ≡ none → (t ≡ false) × (later ≡ none)
-unfolding refuse
-passed true f later e = (cc, cc)
-passed false f later e = (refl, e)
-
--- a test that finds something decides
-pub found : {A : Type 0} (t : Bool) (f : A) (later : Option A) → t ≡ true → refuse t f later ≡ some f
-unfolding refuse
-found t f later e = rw e
-
-pub not-found : {A : Type 0} (t : Bool) (f : A) (later : Option A) → t ≡ false → refuse t f later ≡ later
-unfolding refuse
-not-found t f later e = rw e
 
 -- ---- the worth, as the code holds it
 

@@ -14,6 +14,7 @@ use Rattle.refusal.specs.declared.Fault.{Fault}
 use Rattle.refusal.specs.declared.Fault.the-variants.{Size, Span, Text}
 use Rattle.refusal.specs.Sizes.{maxTable}
 use Rattle.refusal.specs.Refusal.{refuse}
+use Rattle.refusal.proofs.Tests.{passed}
 use Rattle.text.specs.declared.SpanAnswer.{SpanAnswer}
 use Rattle.text.specs.declared.SpanAnswer.the-variants.{Accepted, Refused}
 use Rattle.text.specs.Text.{validUpTo, wellFormed}
@@ -21,12 +22,6 @@ use Rattle.text.specs.Span.{spanOf, spanFault, answerOf, givenFor, TextA
 use Rattle.text.proofs.Valid.{valid-le}
 
 -- ---- which fault
-
--- nothing is refused where no test finds anything, and then no test did
-passed : (t : Bool) (f : Fault) (later : Option Fault) → refuse t f later ≡ none → (t ≡ false) × (later ≡ none)
-unfolding refuse
-passed true f later e = (cc, cc)
-passed false f later e = (refl, e)
 
 -- the part from a start to an end is the span
 pub part-is : (tab : List ℕ) (off len : ℕ) → take (off + len - off) (drop off tab) ≡ spanOf tab off len

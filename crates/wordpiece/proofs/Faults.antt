@@ -13,7 +13,7 @@ use Rattle.refusal.specs.declared.Fault.the-variants as fault
 use Rattle.refusal.specs.Places.{overlay}
 use Rattle.refusal.specs.Sizes.{maxText, maxPrefix}
 use Rattle.refusal.specs.Refusal.{refuse}
-use Rattle.refusal.proofs.Tests.{found, passed, none-here}
+use Rattle.refusal.proofs.Tests.{found, not-found, passed}
 use Rattle.text.specs.Text.{wellFormed, characters}
 use Rattle.trie.specs.Trie.{Trie}
 use Rattle.trie.specs.Sound.{sound}
@@ -32,13 +32,13 @@ neither {b = b} e f = ap (λ (x : Bool). x || b) e ∙ f
 module _ (t : Trie) (prefix w ids : List ℕ) where
   pub fault-word : maxText < length w → encodeFault t prefix w ids ≡ some fault.Size
   unfolding encodeFault
-  fault-word h = found fault.Size _ (either (ltb maxPrefix (length prefix)) (lt-ltb maxText (length w) h))
+  fault-word h = found _ fault.Size _ (either (ltb maxPrefix (length prefix)) (lt-ltb maxText (length w) h))
 
   module _ (word-fits : length w ≤ maxText) where
     pub fault-prefix : maxPrefix < length prefix → encodeFault t prefix w ids ≡ some fault.Size
     unfolding encodeFault
     fault-prefix h =
-        found fault.Size _
+        found _ fault.Size _
         (ap (λ (b : Bool). ltb maxText (length w) || b) (lt-ltb maxPrefix (length prefix) h) ∙ or-true (ltb maxText (length w)))
 
     module _ (prefix-fits : length prefix ≤ maxPrefix) where
@@ -47,45 +47,45 @@ module _ (t : Trie) (prefix w ids : List ℕ) where
 
       pub fault-trie : sound t ≡ false → encodeFault t prefix w ids ≡ some fault.Trie
       unfolding encodeFault
-      fault-trie e = passed fault.Size sizes (found fault.Trie _ (ap not e))
+      fault-trie e = not-found _ fault.Size _ sizes ∙ (found _ fault.Trie _ (ap not e))
 
       module _ (parts : sound t ≡ true) where
         pub fault-text : wellFormed w ≡ false → encodeFault t prefix w ids ≡ some fault.Text
         unfolding encodeFault
-        fault-text e = passed fault.Size sizes (passed fault.Trie (ap not parts) (found fault.Text _ (ap not e)))
+        fault-text e = not-found _ fault.Size _ sizes ∙ (not-found _ fault.Trie _ (ap not parts) ∙ (found _ fault.Text _ (ap not e)))
 
         module _ (well : wellFormed w ≡ true) where
           pub fault-mark : wellFormed prefix ≡ false → encodeFault t prefix w ids ≡ some fault.Text
           unfolding encodeFault
           fault-mark e =
-              passed fault.Size sizes (passed fault.Trie (ap not parts) (passed fault.Text (ap not well) (found fault.Text _ (ap not e))))
+              not-found _ fault.Size _ sizes ∙ (not-found _ fault.Trie _ (ap not parts) ∙ (not-found _ fault.Text _ (ap not well) ∙ (found _ fault.Text _ (ap not e))))
 
           module _ (marked : wellFormed prefix ≡ true) where
             pub fault-ids : length ids < characters w → encodeFault t prefix w ids ≡ some fault.Ids
             unfolding encodeFault
             fault-ids h =
-                passed fault.Size sizes
-                (passed fault.Trie (ap not parts)
-                (passed fault.Text (ap not well)
-                (passed fault.Text (ap not marked) (found fault.Ids none (lt-ltb (length ids) (characters w) h)))))
+                not-found _ fault.Size _ sizes ∙
+                (not-found _ fault.Trie _ (ap not parts) ∙
+                (not-found _ fault.Text _ (ap not well) ∙
+                (not-found _ fault.Text _ (ap not marked) ∙ (found _ fault.Ids none (lt-ltb (length ids) (characters w) h)))))
 
             pub fault-none : characters w ≤ length ids → encodeFault t prefix w ids ≡ none
             unfolding encodeFault
             fault-none h =
-                passed fault.Size sizes
-                (passed fault.Trie (ap not parts)
-                (passed fault.Text (ap not well)
-                (passed fault.Text (ap not marked) (passed fault.Ids (le-ltb (length ids) (characters w) h) refl))))
+                not-found _ fault.Size _ sizes ∙
+                (not-found _ fault.Trie _ (ap not parts) ∙
+                (not-found _ fault.Text _ (ap not well) ∙
+                (not-found _ fault.Text _ (ap not marked) ∙ (not-found _ fault.Ids none (le-ltb (length ids) (characters w) h)))))
 
   -- what is known of a call without a fault
   pub ready : encodeFault t prefix w ids ≡ none → Ready t w ids
   unfolding encodeFault
   ready e =
-      let a = none-here _ fault.Size _ e in
-      let b = none-here _ fault.Trie _ (a .1) in
-      let c = none-here _ fault.Text _ (b .1) in
-      let d = none-here _ fault.Text _ (c .1) in
-      let f = none-here _ fault.Ids _ (d .1) in
+      let a = passed _ fault.Size _ e in
+      let b = passed _ fault.Trie _ (a .1) in
+      let c = passed _ fault.Text _ (b .1) in
+      let d = passed _ fault.Text _ (c .1) in
+      let f = passed _ fault.Ids _ (d .1) in
       record {
         parts = sound-of t (not-false (sound t) (b .0));
         well = not-false (wellFormed w) (c .0);
