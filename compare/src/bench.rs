@@ -4,8 +4,8 @@ use std::hint::black_box;
 use std::time::Instant;
 
 use crate::random::Random;
-use crate::tokie::Lattice;
-use crate::{large, port, text};
+use crate::tokie::{Lattice, VocabTrie};
+use crate::{large, port, text, wordpieces};
 
 /// Nanoseconds a call: the least of some runs of many calls, so that other work on the machine counts little.
 pub fn nanoseconds<R>(mut call: impl FnMut() -> R) -> f64 {
@@ -58,5 +58,33 @@ pub fn tries() {
     println!("|---|---|---|---|---|");
     for (name, ns) in [("WordPiece, `sound`", plain), ("Unigram, `sound_scored`", scored)] {
         println!("| {name} | {nodes} | {edges} | {:.0} | {:.2} |", ns / 1000.0, ns / nodes as f64);
+    }
+}
+
+/// 10,000 words, core against core: the parts are tested once, outside.
+pub fn wordpieces() {
+    let mut r = Random::new(1);
+    let trie = VocabTrie::build(&wordpieces::real(&mut r));
+    let parts = trie.parts();
+    let tested = port::Tested::new(&parts);
+    let given = port::Given { unknown: 0, max_chars: 100, prefix: b"##" };
+    let kinds: [(&str, Box<dyn Fn(&mut Random) -> String>); 3] = [
+        ("in the vocabulary, mostly", Box::new(|r: &mut Random| large::word(r))),
+        ("of several pieces", Box::new(|r: &mut Random| large::word(r) + &large::word(r) + &large::word(r))),
+        ("with a late miss", Box::new(|r: &mut Random| large::word(r) + &large::word(r) + "€")),
+    ];
+    println!("| 10,000 words | Rust, ns a word | port, ns a word | ratio |");
+    println!("|---|---|---|---|");
+    for (name, make) in kinds {
+        let words: Vec<String> = (0..10_000).map(|_| make(&mut r)).collect();
+        let mut out = Vec::new();
+        let rust = nanoseconds(|| {
+            out.clear();
+            words.iter().for_each(|w| trie.encode_into(w, 100, &mut out));
+            out.len()
+        });
+        let mut ids = vec![0u32; 256];
+        let port = nanoseconds(|| words.iter().map(|w| tested.encode(given, w, &mut ids)).sum::<usize>());
+        println!("| {name} | {:.0} | {:.0} | {:.2} |", rust / 10_000.0, port / 10_000.0, port / rust);
     }
 }

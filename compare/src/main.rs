@@ -8,7 +8,8 @@
 //!
 //!   compare text [SEED] [--quick]              RFC 3629 against Rust's library, spans against tokie's
 //!   compare tries [SEED] [--quick]             soundness against an independent test, look-ups against tokie's
-//!   compare bench-text, bench-tries            times
+//!   compare wordpieces [SEED] [--quick]        `encode` against tokie's
+//!   compare bench-text, bench-tries, bench-wordpieces   times
 //!
 //! Run from anywhere; the repository is the folder above this package.
 
@@ -28,6 +29,8 @@ mod text;
 mod tokie;
 #[cfg(feature = "port")]
 mod tries;
+#[cfg(feature = "port")]
+mod wordpieces;
 
 use std::path::Path;
 use std::process::ExitCode;
@@ -50,6 +53,13 @@ fn main() -> ExitCode {
         #[cfg(feature = "port")]
         Some("tries") => tries::run(seed, quick),
         #[cfg(feature = "port")]
+        Some("wordpieces") => wordpieces::run(seed, quick),
+        #[cfg(feature = "port")]
+        Some("bench-wordpieces") => {
+            bench::wordpieces();
+            true
+        }
+        #[cfg(feature = "port")]
         Some("bench-text") => {
             bench::texts();
             true
@@ -61,7 +71,7 @@ fn main() -> ExitCode {
         }
         _ => {
             eprintln!(
-                "usage: compare examples | sums [--print] | definitions [SEED..] [--cases N] | text [SEED] [--quick] | tries [SEED] [--quick] | bench-text | bench-tries"
+                "usage: compare examples | sums [--print] | definitions [SEED..] [--cases N] | text [SEED] [--quick] | tries [SEED] [--quick] | wordpieces [SEED] [--quick] | bench-text | bench-tries | bench-wordpieces"
             );
             return ExitCode::from(2);
         }

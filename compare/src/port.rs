@@ -67,6 +67,46 @@ mod c {
             s: *const u8,
             s_len: usize,
         ) -> u64;
+        pub fn sk_encode(
+            edge_at: *const u32,
+            edge_at_len: usize,
+            edge_n: *const u16,
+            edge_n_len: usize,
+            id: *const u32,
+            id_len: usize,
+            byte: *const u8,
+            byte_len: usize,
+            to: *const u32,
+            to_len: usize,
+            unknown: u32,
+            max_chars: u32,
+            prefix: *const u8,
+            prefix_len: usize,
+            word: *const u8,
+            word_len: usize,
+            ids: *mut u32,
+            ids_len: usize,
+        ) -> usize;
+        pub fn sk_encode_checked(
+            edge_at: *const u32,
+            edge_at_len: usize,
+            edge_n: *const u16,
+            edge_n_len: usize,
+            id: *const u32,
+            id_len: usize,
+            byte: *const u8,
+            byte_len: usize,
+            to: *const u32,
+            to_len: usize,
+            unknown: u32,
+            max_chars: u32,
+            prefix: *const u8,
+            prefix_len: usize,
+            word: *const u8,
+            word_len: usize,
+            ids: *mut u32,
+            ids_len: usize,
+        ) -> usize;
     }
 }
 
@@ -132,4 +172,39 @@ pub fn text(tab: &[u8], off: u32, len: u32) -> u32 {
 /// The length of the part that the span check gives back.
 pub fn text_len(tab: &[u8], off: u32, len: u32) -> usize {
     unsafe { c::sk_text_len(tab.as_ptr(), tab.len(), off, len) }
+}
+
+/// What `encode` is given beside the parts and the word.
+#[derive(Clone, Copy, Debug)]
+pub struct Given<'a> {
+    pub unknown: u32,
+    pub max_chars: u32,
+    pub prefix: &'a [u8],
+}
+
+/// How many ids, or the number of the refusal.
+pub fn encode(p: &Parts, g: Given, word: &[u8], ids: &mut [u32]) -> Result<usize, u32> {
+    let (u, m, pre) = (g.unknown, g.max_chars, g.prefix);
+    let (w, out) = ((word.as_ptr(), word.len()), (ids.as_mut_ptr(), ids.len()));
+    let n = call!(sk_encode(p.edge_at, p.edge_n, p.id, p.byte, p.to; u, m, pre.as_ptr(), pre.len(), w.0, w.1, out.0, out.1));
+    n.checked_sub(1 << 32).map_or(Ok(n), |number| Err(number as u32))
+}
+
+/// The core behind it, for parts that were tested once.
+pub struct Tested<'a>(&'a Parts);
+
+impl<'a> Tested<'a> {
+    pub fn new(p: &'a Parts) -> Self {
+        assert!(sound(p));
+        Tested(p)
+    }
+
+    /// The word is text, so that what is left to test is the room.
+    pub fn encode(&self, g: Given, word: &str, ids: &mut [u32]) -> usize {
+        assert!(word.len() <= ids.len() && word.len() <= 65_536 && g.prefix.len() <= 64);
+        let p = self.0;
+        let (u, m, pre) = (g.unknown, g.max_chars, g.prefix);
+        let (w, out) = ((word.as_ptr(), word.len()), (ids.as_mut_ptr(), ids.len()));
+        call!(sk_encode_checked(p.edge_at, p.edge_n, p.id, p.byte, p.to; u, m, pre.as_ptr(), pre.len(), w.0, w.1, out.0, out.1))
+    }
 }

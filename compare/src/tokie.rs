@@ -114,8 +114,13 @@ impl VocabTrie {
     /// id, and the port none.
     pub fn encode(&self, word: &str, max_chars: u32) -> Vec<u32> {
         let mut ids = Vec::new();
-        self.trie.encode(word, self.unknown, max_chars as usize, &self.prefix, &mut ids);
+        self.encode_into(word, max_chars, &mut ids);
         ids
+    }
+
+    /// The same, after what `out` holds.
+    pub fn encode_into(&self, word: &str, max_chars: u32, out: &mut Vec<u32>) {
+        self.trie.encode(word, self.unknown, max_chars as usize, &self.prefix, out);
     }
 }
 

@@ -8,6 +8,8 @@ use Rattle.refusal.specs.Refusal.{number}
 use Rattle.text.specs.Text.{wellFormed, characters}
 use Rattle.trie.specs.declared.LookupAnswer.{LookupAnswer}
 use Rattle.trie.specs.declared.LookupAnswer.the-variants.{Found, Absent, Refused}
+use Rattle.wordpiece.specs.declared.EncodeAnswer.{EncodeAnswer}
+use Rattle.wordpiece.specs.declared.EncodeAnswer.the-variants as encode-is
 
 -- 0 where there is no fault, else the paper's number
 abbrev pub status : Option Fault → ℕ
@@ -23,3 +25,8 @@ abbrev pub lookupNumber : LookupAnswer → ℕ
 lookupNumber (Found i) = i
 lookupNumber Absent = 2 ^ 32
 lookupNumber (Refused f) = 2 ^ 32 + number f
+
+-- how many ids; or 2 ^ 32 and the number of the fault
+abbrev pub encodeNumber : EncodeAnswer → ℕ
+encodeNumber (encode-is.Ids n) = n
+encodeNumber (encode-is.Refused f) = 2 ^ 32 + number f

@@ -2,6 +2,7 @@
 // it passes what the parameters' types say.
 use text::SpanAnswer;
 use trie::LookupAnswer;
+use wordpiece::EncodeAnswer;
 ghost use mathlib.Core.Path.{_≡_};
 ghost use mathlib.Core.List.{map};
 ghost use lib.ListN.{length};
@@ -11,7 +12,11 @@ ghost use Rattle.text.specs.Span.{spanFault, spanOf, givenFor};
 ghost use Rattle.trie.specs.Trie.{partsOf, idOf};
 ghost use Rattle.trie.specs.Sound.{sound, soundScored};
 ghost use Rattle.trie.specs.Lookup.{lookupFault, lookupAnswer};
-ghost use Rattle.exports.specs.Flat.{status, charactersOf, lookupNumber};
+ghost use Rattle.wordpiece.specs.Pieces.{idsOf};
+ghost use Rattle.wordpiece.specs.Encode.{encodeFault, encodeAnswer, encodeLeaves};
+ghost use Rattle.wordpiece.specs.Checked.{Ready};
+ghost use Rattle.refusal.specs.Places.{overlay};
+ghost use Rattle.exports.specs.Flat.{status, charactersOf, lookupNumber, encodeNumber};
 
 // The length of the longest prefix made of whole well-formed characters.
 #[no_mangle]
@@ -138,4 +143,75 @@ pub extern "C" fn sk_exact_unscored(
     ensures { λ r. ⌜ (let t = partsOf (now («edge_at» .entry)) (now («edge_n» .entry)) (now (id .entry)) (now (byte .entry)) (now (to .entry)) in r ≡ lookupNumber (lookupAnswer (lookupFault (sound t) (now (s .entry))) (idOf t (now (s .entry))))) ⌝ }
 {
     lookup_number(trie::exact_unscored(edge_at, edge_n, id, byte, to, s))
+}
+
+// An answer of `encode` as one number.
+fn encode_number(a: EncodeAnswer) -> usize
+    ensures { λ r. ⌜ r ≡ encodeNumber a ⌝ }
+{
+    match a {
+        EncodeAnswer::Ids(n) => n,
+        EncodeAnswer::Refused(f) => 4_294_967_296 + refusal::number(f) as usize,
+    }
+}
+
+// The ids of a word: how many, or 2^32 and 1, 8, 4 or 10.
+#[no_mangle]
+pub extern "C" fn sk_encode(
+    edge_at: &[u32],
+    edge_n: &[u16],
+    id: &[u32],
+    byte: &[u8],
+    to: &[u32],
+    unknown: u32,
+    max_chars: u32,
+    prefix: &[u8],
+    word: &[u8],
+    ids: &mut [u32],
+) -> usize
+    ensures { λ r. ⌜ (let t = partsOf (now («edge_at» .entry)) (now («edge_n» .entry)) (now (id .entry)) (now (byte .entry)) (now (to .entry)) in let all = idsOf t unknown «max_chars» (now (prefix .entry)) (now (word .entry)) in let fault = encodeFault t (now (prefix .entry)) (now (word .entry)) (now (ids .entry)) in (r ≡ encodeNumber (encodeAnswer fault (length all))) × (now (ids .exit) ≡ encodeLeaves fault all (now (ids .entry)))) ⌝ }
+{
+    encode_number(wordpiece::encode(
+        edge_at,
+        edge_n,
+        id,
+        byte,
+        to,
+        unknown,
+        max_chars,
+        prefix,
+        word,
+        ids,
+    ))
+}
+
+// The same for a caller that has tested the parts, the word and the room, and calls it for many words.
+#[no_mangle]
+pub extern "C" fn sk_encode_checked(
+    edge_at: &[u32],
+    edge_n: &[u16],
+    id: &[u32],
+    byte: &[u8],
+    to: &[u32],
+    unknown: u32,
+    max_chars: u32,
+    prefix: &[u8],
+    word: &[u8],
+    ids: &mut [u32],
+) -> usize
+    requires { ⌜ Ready (partsOf (now «edge_at») (now «edge_n») (now id) (now byte) (now to)) (now word) (now ids) ⌝ }
+    ensures { λ r. ⌜ (let all = idsOf (partsOf (now («edge_at» .entry)) (now («edge_n» .entry)) (now (id .entry)) (now (byte .entry)) (now (to .entry))) unknown «max_chars» (now (prefix .entry)) (now (word .entry)) in (r ≡ length all) × (now (ids .exit) ≡ overlay all (now (ids .entry)))) ⌝ }
+{
+    wordpiece::checked::encode(
+        edge_at,
+        edge_n,
+        id,
+        byte,
+        to,
+        unknown,
+        max_chars,
+        prefix,
+        word,
+        ids,
+    )
 }
