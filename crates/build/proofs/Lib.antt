@@ -1,0 +1,4 @@
+-- The laws of tries and their builds, by subject.
+pub mod Strings
+pub mod Places
+pub mod Grown
