@@ -2,3 +2,5 @@
 pub mod Strings
 pub mod Places
 pub mod Grown
+pub mod Named
+pub mod Edges
