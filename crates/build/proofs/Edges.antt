@@ -135,3 +135,17 @@ target-edges (suc m) ns s b a l h =
 pub target-of : (ns : List²) (s : List ℕ) (a : ℕ) → a < 256 → target (edgesOf ns s) a ≡ place ns (s ++ (a ∷ []))
 unfolding edgesOf
 target-of ns s a h = target-edges 256 ns s 0 a (omega arith) h
+
+target-above : (m : ℕ) (ns : List²) (s : List ℕ) (b a : ℕ) → b + m ≤ a → target (edgesFrom ns s b m) a ≡ none
+unfolding target
+target-above zero ns s b a h = ap (λ (es : List Edge). target es a) (edges-end ns s b)
+target-above (suc m) ns s b a h =
+    ⊎-elim (λ e. ap (λ (es : List Edge). target es a) (edges-miss ns s b m e) ∙ target-above m ns s (suc b) a (omega arith))
+    (λ w. ap (λ (es : List Edge). target es a) (edges-hit ns s b m (w .0) (w .1))
+      ∙ target-miss b (w .0) (edgesFrom ns s (suc b) m) a (λ z. omega arith) ∙ target-above m ns s (suc b) a (omega arith))
+    (found? (place ns (s ++ (b ∷ []))))
+
+-- no edge is by more than a byte
+pub target-no-byte : (ns : List²) (s : List ℕ) (a : ℕ) → 256 ≤ a → target (edgesOf ns s) a ≡ none
+unfolding edgesOf
+target-no-byte ns s a h = target-above 256 ns s 0 a h

@@ -4,3 +4,5 @@ pub mod Places
 pub mod Grown
 pub mod Named
 pub mod Edges
+pub mod Laid
+pub mod Counted
