@@ -77,7 +77,7 @@ rising-edges (suc m) ns s b =
     ⊎-elim
     (λ e. subst (Rising (length ns) b) (sym (edges-miss ns s b m e)) (rising-down (rising-edges m ns s (suc b)) b (omega arith)))
     (λ w. subst (Rising (length ns) b) (sym (edges-hit ns s b m (w .0) (w .1)))
-      (next (record { byte = b; to = w .0 }) (omega arith) (place-below ns (s ++ (b ∷ [])) (w .0) (w .1)) (rising-edges m ns s (suc b))))
+    (next (record { byte = b; to = w .0 }) (omega arith) (place-below ns (s ++ (b ∷ [])) (w .0) (w .1)) (rising-edges m ns s (suc b))))
     (found? (place ns (s ++ (b ∷ []))))
 
 pub edges-few : (m : ℕ) (ns : List²) (s : List ℕ) (b : ℕ) → length (edgesFrom ns s b m) ≤ m
@@ -120,16 +120,16 @@ target-edges zero ns s b a l h = absurd (omega arith)
 target-edges (suc m) ns s b a l h =
     ⊎-elim
     (λ (q : b ≡ a). ⊎-elim
-      (λ e. ap (λ (es : List Edge). target es a) (edges-miss ns s b m e)
-        ∙ target-before (rising-edges m ns s (suc b)) a (omega arith) ∙ sym e ∙ ap (λ (x : ℕ). place ns (s ++ (x ∷ []))) q)
-      (λ w. ap (λ (es : List Edge). target es a) (edges-hit ns s b m (w .0) (w .1))
-        ∙ target-hit b (w .0) (edgesFrom ns s (suc b) m) a q ∙ sym (w .1) ∙ ap (λ (x : ℕ). place ns (s ++ (x ∷ []))) q)
-      (found? (place ns (s ++ (b ∷ [])))))
+    (λ e. ap (λ (es : List Edge). target es a) (edges-miss ns s b m e)
+    ∙ target-before (rising-edges m ns s (suc b)) a (omega arith) ∙ sym e ∙ ap (λ (x : ℕ). place ns (s ++ (x ∷ []))) q)
+    (λ w. ap (λ (es : List Edge). target es a) (edges-hit ns s b m (w .0) (w .1))
+    ∙ target-hit b (w .0) (edgesFrom ns s (suc b) m) a q ∙ sym (w .1) ∙ ap (λ (x : ℕ). place ns (s ++ (x ∷ []))) q)
+    (found? (place ns (s ++ (b ∷ [])))))
     (λ (q : b < a). ⊎-elim
-      (λ e. ap (λ (es : List Edge). target es a) (edges-miss ns s b m e) ∙ target-edges m ns s (suc b) a q (omega arith))
-      (λ w. ap (λ (es : List Edge). target es a) (edges-hit ns s b m (w .0) (w .1))
-        ∙ target-miss b (w .0) (edgesFrom ns s (suc b) m) a (λ z. omega arith) ∙ target-edges m ns s (suc b) a q (omega arith))
-      (found? (place ns (s ++ (b ∷ [])))))
+    (λ e. ap (λ (es : List Edge). target es a) (edges-miss ns s b m e) ∙ target-edges m ns s (suc b) a q (omega arith))
+    (λ w. ap (λ (es : List Edge). target es a) (edges-hit ns s b m (w .0) (w .1))
+    ∙ target-miss b (w .0) (edgesFrom ns s (suc b) m) a (λ z. omega arith) ∙ target-edges m ns s (suc b) a q (omega arith))
+    (found? (place ns (s ++ (b ∷ [])))))
     (at-or-above b a l)
 
 pub target-of : (ns : List²) (s : List ℕ) (a : ℕ) → a < 256 → target (edgesOf ns s) a ≡ place ns (s ++ (a ∷ []))
@@ -142,7 +142,7 @@ target-above zero ns s b a h = ap (λ (es : List Edge). target es a) (edges-end 
 target-above (suc m) ns s b a h =
     ⊎-elim (λ e. ap (λ (es : List Edge). target es a) (edges-miss ns s b m e) ∙ target-above m ns s (suc b) a (omega arith))
     (λ w. ap (λ (es : List Edge). target es a) (edges-hit ns s b m (w .0) (w .1))
-      ∙ target-miss b (w .0) (edgesFrom ns s (suc b) m) a (λ z. omega arith) ∙ target-above m ns s (suc b) a (omega arith))
+    ∙ target-miss b (w .0) (edgesFrom ns s (suc b) m) a (λ z. omega arith) ∙ target-above m ns s (suc b) a (omega arith))
     (found? (place ns (s ++ (b ∷ []))))
 
 -- no edge is by more than a byte

@@ -65,10 +65,11 @@ unfolding starts flatten
 laid-from [] pre k h = absurd (omega arith)
 laid-from (p ∷ ps) pre zero h = (flatten ps, drop-append-seam pre (p ++ flatten ps))
 laid-from (p ∷ ps) pre (suc k) h =
-    let w = laid-from ps (pre ++ p) k (omega arith) in
-    (w .0,
+    let w = laid-from ps (pre ++ p) k (omega arith) in (
+      w .0,
       ap (λ (x : ℕ). drop (getD (starts x (map length ps)) k 0) (pre ++ (p ++ flatten ps))) (sym (length-append pre p))
-      ∙ ap (drop (getD (starts (length (pre ++ p)) (map length ps)) k 0)) (sym (append-assoc pre p (flatten ps))) ∙ w .1)
+          ∙ ap (drop (getD (starts (length (pre ++ p)) (map length ps)) k 0)) (sym (append-assoc pre p (flatten ps))) ∙ w .1,
+    )
 
 pub laid-at :
     (parts : List (List Edge)) (k : ℕ) → k < length parts
@@ -102,14 +103,15 @@ seek-target (e ∷ es) l post b at h =
     let to = map-head (λ x. x .to) l at e (es ++ post) h in
     ⊎-elim
     (λ (q : e .byte ≡ b).
-      seek-hit (map (λ x. x .byte) l) (map (λ x. x .to) l) b at (length es) (byte ∙ q) ∙ ap some to ∙ sym (hit q))
+    seek-hit (map (λ x. x .byte) l) (map (λ x. x .to) l) b at (length es) (byte ∙ q) ∙ ap some to ∙ sym (hit q))
     (λ (q : e .byte ≡ b → ⊥).
-      seek-miss (map (λ x. x .byte) l) (map (λ x. x .to) l) b at (length es) (λ p. q (sym byte ∙ p))
-      ∙ seek-target es l post b (suc at) (drop-head l at e (es ++ post) h) ∙ sym (miss q))
+    seek-miss (map (λ x. x .byte) l) (map (λ x. x .to) l) b at (length es) (λ p. q (sym byte ∙ p))
+    ∙ seek-target es l post b (suc at) (drop-head l at e (es ++ post) h) ∙ sym (miss q))
     (same? (e .byte) b)
   where
     hit : e .byte ≡ b → cond (eqb (e .byte) b) (some (e .to)) (target es b) ≡ some (e .to)
     hit q = rw (eq-eqb (e .byte) b q)
+
     miss : (e .byte ≡ b → ⊥) → cond (eqb (e .byte) b) (some (e .to)) (target es b) ≡ target es b
     miss q = rw (ne-eqb (e .byte) b q)
 
@@ -123,7 +125,7 @@ module _ (rule : List ℕ → Option ℕ) (ns : List²) (g : Grown ns) where
       go (yes h) = target-of ns s b h
       go (no h) =
           let away : place ns (s ++ (b ∷ [])) ≡ none =
-              missing (place ns (s ++ (b ∷ []))) (λ k e. omega (arith, grown-parent g s b k e .3)) in
+          missing (place ns (s ++ (b ∷ []))) (λ k e. omega (arith, grown-parent g s b k e .3)) in
           target-no-byte ns s b (omega arith) ∙ sym away
 
   -- "Edges stand node after node": a step from the node s by b is the place of s ++ [b]
@@ -134,13 +136,13 @@ module _ (rule : List ℕ → Option ℕ) (ns : List²) (g : Grown ns) where
       let inside : k < length ns = place-below ns s k e in
       let inside-parts : k < length parts = omega (arith, length-map ns (edgesOf ns)) in
       let here : getD parts k [] ≡ edgesOf ns s =
-          getD-map-of (edgesOf ns) ns k [] [] inside ∙ ap (edgesOf ns) (place-at ns s k e) in
+      getD-map-of (edgesOf ns) ns k [] [] inside ∙ ap (edgesOf ns) (place-at ns s k e) in
       let n : getD (map length parts) k 0 ≡ length (edgesOf ns s) =
-          getD-map-of length parts k [] 0 inside-parts ∙ ap length here in
+      getD-map-of length parts k [] 0 inside-parts ∙ ap length here in
       let w = laid-at parts k inside-parts in
       ap (seek (map (λ e. e .byte) (flatten parts)) (map (λ e. e .to) (flatten parts)) b (getD (starts 0 (map length parts)) k 0)) n
       ∙ seek-target (edgesOf ns s) (flatten parts) (w .0) b (getD (starts 0 (map length parts)) k 0)
-        (w .1 ∙ ap (λ (x : List Edge). x ++ w .0) here)
+      (w .1 ∙ ap (λ (x : List Edge). x ++ w .0) here)
       ∙ target-is s b
 
   walk-from : (s p : List ℕ) (k : ℕ) → place ns p ≡ some k → walk (lay rule ns) k s ≡ place ns (p ++ s)
@@ -149,12 +151,12 @@ module _ (rule : List ℕ → Option ℕ) (ns : List²) (g : Grown ns) where
   walk-from (b ∷ s) p k e =
       ⊎-elim
       (λ (q : place ns (p ++ (b ∷ [])) ≡ none).
-        let away : place ns (p ++ (b ∷ s)) ≡ none =
-            missing (place ns (p ++ (b ∷ s)))
-            (λ j f. none-some (sym q ∙ grown-begins g (p ++ (b ∷ [])) s j (ap (place ns) (snoc-append p b s) ∙ f) .1)) in
-        rw (step-built p k b e ∙ q, walk) (sym away))
+      let away : place ns (p ++ (b ∷ s)) ≡ none =
+      missing (place ns (p ++ (b ∷ s)))
+      (λ j f. none-some (sym q ∙ grown-begins g (p ++ (b ∷ [])) s j (ap (place ns) (snoc-append p b s) ∙ f) .1)) in
+      rw (step-built p k b e ∙ q, walk) (sym away))
       (λ (w : (j : ℕ) × (place ns (p ++ (b ∷ [])) ≡ some j)).
-        rw (step-built p k b e ∙ w .1, walk) (walk-from s (p ++ (b ∷ [])) (w .0) (w .1) ∙ ap (place ns) (snoc-append p b s)))
+      rw (step-built p k b e ∙ w .1, walk) (walk-from s (p ++ (b ∷ [])) (w .0) (w .1) ∙ ap (place ns) (snoc-append p b s)))
       (found? (place ns (p ++ (b ∷ []))))
 
   -- the walk over s ends at the place of s
@@ -166,8 +168,8 @@ module _ (rule : List ℕ → Option ℕ) (ns : List²) (g : Grown ns) where
   unfolding idAt lay
   id-built s k e small =
       let stands : getD (map (λ x. Option·getD (rule x) noId) ns) k noId ≡ Option·getD (rule s) noId =
-          getD-map-of (λ x. Option·getD (rule x) noId) ns k [] noId (place-below ns s k e)
-          ∙ ap (λ (x : List ℕ). Option·getD (rule x) noId) (place-at ns s k e) in
+      getD-map-of (λ x. Option·getD (rule x) noId) ns k [] noId (place-below ns s k e)
+      ∙ ap (λ (x : List ℕ). Option·getD (rule x) noId) (place-at ns s k e) in
       ap (λ (i : ℕ). cond (eqb i noId) none (some i)) stands ∙ read (rule s) small
     where
       read : (o : Option ℕ) → ((i : ℕ) → o ≡ some i → i ≡ noId → ⊥) → cond (eqb (Option·getD o noId) noId) none (some (Option·getD o noId)) ≡ o
@@ -183,6 +185,6 @@ module _ (rule : List ℕ → Option ℕ) (ns : List²) (g : Grown ns) where
       ⊎-elim
       (λ (q : place ns s ≡ none). let e : walk (lay rule ns) 0 s ≡ none = walk-built s ∙ q in rw (e, idFrom) (sym (within s q)))
       (λ (w : (k : ℕ) × (place ns s ≡ some k)).
-        let e : walk (lay rule ns) 0 s ≡ some (w .0) = walk-built s ∙ w .1 in
-        rw (e, idFrom) (id-built s (w .0) (w .1) (small s)))
+      let e : walk (lay rule ns) 0 s ≡ some (w .0) = walk-built s ∙ w .1 in
+      rw (e, idFrom) (id-built s (w .0) (w .1) (small s)))
       (found? (place ns s))

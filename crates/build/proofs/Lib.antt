@@ -6,3 +6,5 @@ pub mod Named
 pub mod Edges
 pub mod Laid
 pub mod Counted
+pub mod Sounds
+pub mod Lookups

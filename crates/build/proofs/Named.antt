@@ -90,10 +90,10 @@ prefixes-from (b ∷ t) p ns s k e =
     let q = p ++ (b ∷ []) in
     ⊎-elim
     (λ (w : (j : ℕ) × (place (add ns q) s ≡ some j)). ⊎-elim
-      (λ n. ⊎-elim (λ o. inl (w .0, o)) (λ o. inr (t, sym (snoc-append p b t) ∙ ap (λ (x : List ℕ). x ++ t) (sym (o .0))))
-        (place-more ns q s (w .0) n (ap (λ (x : List²). place x s) (sym (add-new ns q n)) ∙ w .1)))
-      (λ m. inl (w .0, ap (λ (x : List²). place x s) (sym (add-there ns q (m .0) (m .1))) ∙ w .1))
-      (found? (place ns q)))
+    (λ n. ⊎-elim (λ o. inl (w .0, o)) (λ o. inr (t, sym (snoc-append p b t) ∙ ap (λ (x : List ℕ). x ++ t) (sym (o .0))))
+    (place-more ns q s (w .0) n (ap (λ (x : List²). place x s) (sym (add-new ns q n)) ∙ w .1)))
+    (λ m. inl (w .0, ap (λ (x : List²). place x s) (sym (add-there ns q (m .0) (m .1))) ∙ w .1))
+    (found? (place ns q)))
     (λ (w : (r : List ℕ) × (q ++ t ≡ s ++ r)). inr (w .0, sym (snoc-append p b t) ∙ w .1))
     (prefixes-from t q (add ns q) s k e)
 
@@ -103,7 +103,7 @@ tokens-from [] ns s k e = inl (k, ap (λ (x : List²). place x s) (sym (entered-
 tokens-from (t ∷ ts) ns s k e =
     ⊎-elim
     (λ (w : (j : ℕ) × (place (enter ns (prefixes [] t)) s ≡ some j)). ⊎-elim (λ v. inl v) (λ v. inr (0, v .0, omega arith, v .1))
-      (prefixes-from t [] ns s (w .0) (w .1)))
+    (prefixes-from t [] ns s (w .0) (w .1)))
     (λ (w : Begins ts s). inr (suc (w .0), w .1, omega (arith, w .2), w .3))
     (tokens-from ts (enter ns (prefixes [] t)) s k (ap (λ (x : List²). place x s) (sym (entered-one ns t ts)) ∙ e))
 
@@ -116,6 +116,7 @@ name-begins tokens s k e =
     nil-or : (s : List ℕ) → (s ≡ [] → ⊥) ⊎ ([] ≡ s)
     nil-or [] = inr refl
     nil-or (b ∷ s) = inl (λ q. let z : _≡_ {A = ℕ} 0 1 = cc in omega arith)
+
     no-place : {s : List ℕ} → (j : ℕ) × (place ([] ∷ []) s ≡ some j) → (s ≡ [] → ⊥) → ⊥
     no-place {s} w v = none-some (sym (place-other [] [] s v ∙ place-empty s) ∙ w .1)
 
