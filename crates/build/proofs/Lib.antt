@@ -7,4 +7,5 @@ pub mod Edges
 pub mod Laid
 pub mod Counted
 pub mod Sounds
+pub mod Ruled
 pub mod Lookups

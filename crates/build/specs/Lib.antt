@@ -4,4 +4,5 @@ pub mod Grown
 pub mod Links
 pub mod Parts
 pub mod Rules
+pub mod Given
 pub mod Memory
