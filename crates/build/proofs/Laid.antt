@@ -85,7 +85,7 @@ seek-hit : (bytes tos : List ℕ) (b at n : ℕ) → getD bytes at 0 ≡ b → s
 unfolding seek
 seek-hit bytes tos b at n h = rw (eq-eqb (getD bytes at 0) b h)
 
-same? : (a b : ℕ) → (a ≡ b) ⊎ (a ≡ b → ⊥)
+pub same? : (a b : ℕ) → (a ≡ b) ⊎ (a ≡ b → ⊥)
 same? a b = go (decLt a b) (decLt b a)
   where
     go : Dec (a < b) → Dec (b < a) → (a ≡ b) ⊎ (a ≡ b → ⊥)

@@ -9,3 +9,4 @@ pub mod Counted
 pub mod Sounds
 pub mod Ruled
 pub mod Lookups
+pub mod Linking
