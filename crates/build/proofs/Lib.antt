@@ -10,3 +10,4 @@ pub mod Sounds
 pub mod Ruled
 pub mod Lookups
 pub mod Linking
+pub mod Seeking

@@ -5,4 +5,5 @@ pub mod Links
 pub mod Parts
 pub mod Rules
 pub mod Given
+pub mod Held
 pub mod Memory
