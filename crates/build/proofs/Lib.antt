@@ -11,3 +11,4 @@ pub mod Ruled
 pub mod Lookups
 pub mod Linking
 pub mod Seeking
+pub mod Holding

@@ -5,10 +5,10 @@ use mathlib.Core.Bool.{Bool, true}
 use mathlib.Core.List.{List, [], _∷_, _++_}
 use mathlib.Core.Option.{Option, none, some, Option·getD}
 use Prim.Native.Nat.{ℕ, suc, _+_, _*_, _≤_, _<_}
-use lib.ListN.{length, getD}
+use lib.ListN.{length, getD, set}
 use Rattle.refusal.specs.Sizes.{noId}
 use Rattle.build.specs.Names.{place, prefixes, add, enter}
-use Rattle.build.specs.Links.{Slot, Linked, Spelled}
+use Rattle.build.specs.Links.{Slot, Linked, Spelled, linkedWork}
 
 -- every place from n on is zero
 abbrev pub ZeroFrom : ℕ → List ℕ → Type 0
@@ -48,3 +48,46 @@ pub record Chained (edgeN work : List ℕ) (node : ℕ) : Type 0 where
 -- `at` has the link to the first child of `node` by b or a later byte
 pub record Sought (edgeN work : List ℕ) (node b at : ℕ) : Type 0 where
   pub slot : (ns : List (List ℕ)) (s : List ℕ) → Linked ns work → Spelled ns 0 edgeN → place ns s ≡ some node → Slot ns s b at
+
+-- ---- one node more
+
+-- node n may be put behind the link at `at`
+pub record Linkable (edgeN id work : List ℕ) (at n : ℕ) : Type 0 where
+  pub before : at < 2 * n
+  pub nodes : n < length edgeN
+  pub ids : n < length id
+  pub links : 2 * n + 1 < length work
+  pub small : n < 4_294_967_295
+
+-- Node n, by the byte b, stands behind the link at `at`: it leads on to what that led to, and has no id yet and no child.
+pub record NodeLinked (edgeN id work edgeN′ id′ work′ : List ℕ) (at n b : ℕ) : Type 0 where
+  pub byte : edgeN′ ≡ set edgeN n b
+  pub bare : id′ ≡ set id n noId
+  pub links : work′ ≡ linkedWork work at n
+
+-- ---- one byte more
+
+-- a token has come to `node` of n nodes, and room is left for as many as `room` says
+pub record Enterable (edgeN id work : List ℕ) (room node n : ℕ) : Type 0 where
+  pub names : List (List ℕ)
+  pub rule : List ℕ → Option ℕ
+  pub string : List ℕ
+  pub held : Held names rule edgeN id work
+  pub count : n ≡ length names
+  pub here : place names string ≡ some node
+  pub roomy : Roomy room edgeN id work
+  pub fits : n ≤ room
+
+-- what the byte b makes of the nodes ns at the node s: `node` is the child, `room` where it is not there and no room is left for it
+pub record ByteDone (ns : List (List ℕ)) (rule : List ℕ → Option ℕ) (s : List ℕ) (b room : ℕ) (edgeN id work : List ℕ) (node n : ℕ) : Type 0 where
+  pub node-fits : node ≤ room
+  pub full : node ≡ room → room < length (add ns (s ++ (b ∷ [])))
+  pub fits : (node ≡ room → ⊥) → n ≤ room
+  pub count : (node ≡ room → ⊥) → n ≡ length (add ns (s ++ (b ∷ [])))
+  pub here : (node ≡ room → ⊥) → place (add ns (s ++ (b ∷ []))) (s ++ (b ∷ [])) ≡ some node
+  pub held : (node ≡ room → ⊥) → Held (add ns (s ++ (b ∷ []))) rule edgeN id work
+
+pub record ByteEntered (edgeN id work edgeN′ id′ work′ : List ℕ) (room node n b node′ n′ : ℕ) : Type 0 where
+  pub entered :
+      (ns : List (List ℕ)) (rule : List ℕ → Option ℕ) (s : List ℕ) → Held ns rule edgeN id work → n ≡ length ns → place ns s ≡ some node
+      → ByteDone ns rule s b room edgeN′ id′ work′ node′ n′

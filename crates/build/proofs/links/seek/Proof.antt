@@ -56,9 +56,10 @@ mul-at c = let p = c .pre in omega (arith, p .links .room, place-below (p .names
 
 loop-holds : tie.Need-loop-holds Inv-loop μ-loop
 loop-holds c =
-    let p = c .pre in
-    (omega (arith, p .links .room, place-below (p .names) (p .string) (c .args .node) (p .here)),
-      λ ns s l sp h. (0, omega arith, seek-start ns (c .args .edge-n .now) (c .args .work .now) l sp s (c .args .node) h))
+    let p = c .pre in (
+      omega (arith, p .links .room, place-below (p .names) (p .string) (c .args .node) (p .here)),
+      λ ns s l sp h. (0, omega arith, seek-start ns (c .args .edge-n .now) (c .args .work .now) l sp s (c .args .node) h),
+    )
 
 mul-k : tie.Need-mul-k Inv-loop μ-loop
 mul-k c = search needs
@@ -74,9 +75,9 @@ returns c =
     let h = c .before .before in
     record {
       slot = λ ns s l sp e.
-        let w = h .loop .inv .1 ns s l sp e in
-        seek-end ns (edges h) (works h) l sp s (h .before .args .node) e (w .0) (h .loop .at) (w .2) (h .before .args .b) (w .1)
-        (omega arith) (c .if1 .taken);
+          let w = h .loop .inv .1 ns s l sp e in
+          seek-end ns (edges h) (works h) l sp s (h .before .args .node) e (w .0) (h .loop .at) (w .2) (h .before .args .b) (w .1)
+          (omega arith) (c .if1 .taken);
     }
 
 mul-if2 : tie.Need-mul-if2 Inv-loop μ-loop
@@ -91,9 +92,9 @@ returns-2 c =
     let h = t .before .before in
     record {
       slot = λ ns s l sp e.
-        let w = h .loop .inv .1 ns s l sp e in
-        seek-stop ns (edges h) (works h) l sp s (h .before .args .node) e (w .0) (h .loop .at) (w .2) (t .if1 .left) (h .before .args .b) (w .1)
-        (c .if2 .taken);
+          let w = h .loop .inv .1 ns s l sp e in
+          seek-stop ns (edges h) (works h) l sp s (h .before .args .node) e (w .0) (h .loop .at) (w .2) (t .if1 .left) (h .before .args .b) (w .1)
+          (c .if2 .taken);
     }
 
 mul-at-2 : tie.Need-mul-at-2 Inv-loop μ-loop
@@ -114,12 +115,15 @@ loop-less c =
 loop-again : tie.Need-loop-again Inv-loop μ-loop
 loop-again c =
     let t = c .before .before in
-    let h = t .before .before in
-    (below h (t .if1 .left) .1,
+    let h = t .before .before in (
+      below h (t .if1 .left) .1,
       λ ns s l sp e.
-        let w = h .loop .inv .1 ns s l sp e in
-        (suc (getD (edges h) (child h) 0), c .if2 .left,
-          seek-on ns (edges h) (works h) l sp s (h .before .args .node) e (w .0) (h .loop .at) (w .2) (t .if1 .left)))
+          let w = h .loop .inv .1 ns s l sp e in (
+            suc (getD (edges h) (child h) 0),
+            c .if2 .left,
+            seek-on ns (edges h) (works h) l sp s (h .before .args .node) e (w .0) (h .loop .at) (w .2) (t .if1 .left),
+          ),
+    )
 
 pub seek-spec : {M : Type 1} → statement M
 seek-spec =
