@@ -10,7 +10,7 @@ use lib.Seq.{getD-set-same, getD-set-other}
 use Rattle.refusal.specs.Sizes.{noId}
 use Rattle.build.specs.Names.{place, add}
 use Rattle.build.specs.Links.{Clear, Least, Slot, Linked, Spelled, linkedWork}
-use Rattle.build.specs.Held.{ZeroFrom, Identified, Held, Roomy, ByteDone}
+use Rattle.build.specs.Held.{ZeroFrom, Identified, Held, Roomy, Done}
 use Rattle.build.proofs.Places.{none-some, found?, missing, place-below, place-kept, place-end, place-more, add-there, add-new, length-more}
 use Rattle.build.proofs.Grown.{List²}
 use Rattle.build.proofs.Linking.{linked-more, spelled-more}
@@ -52,12 +52,11 @@ module _ (ns : List²) (rule : List ℕ → Option ℕ) (edgeN id work : List �
   abbrev t : List ℕ
   t = s ++ (b ∷ [])
 
-  pub byte-there : (k : ℕ) → place ns t ≡ some k → ByteDone ns rule s b room edgeN id work k n
+  pub byte-there : (k : ℕ) → place ns t ≡ some k → Done (add ns t) rule t room edgeN id work k n
   byte-there k e =
       let same = add-there ns t k e in
       let low : k < length ns = place-below ns t k e in
       record {
-        node-fits = omega arith;
         full = λ z. absurd (omega arith);
         fits = λ z. fits;
         count = λ z. count ∙ ap length (sym same);
@@ -65,10 +64,9 @@ module _ (ns : List²) (rule : List ℕ → Option ℕ) (edgeN id work : List �
         held = λ z. subst (λ (x : List²). Held x rule edgeN id work) (sym same) h;
       }
 
-  pub byte-full : place ns t ≡ none → n ≡ room → (edgeN′ id′ work′ : List ℕ) → ByteDone ns rule s b room edgeN′ id′ work′ room n
+  pub byte-full : place ns t ≡ none → n ≡ room → (edgeN′ id′ work′ : List ℕ) → Done (add ns t) rule t room edgeN′ id′ work′ room n
   byte-full e z edgeN′ id′ work′ =
       record {
-        node-fits = omega arith;
         full = λ y. omega (arith, ap length (add-new ns t e), length-more ns t);
         fits = λ y. absurd (y refl);
         count = λ y. absurd (y refl);
@@ -106,11 +104,10 @@ module _ (ns : List²) (rule : List ℕ → Option ℕ) (edgeN id work : List �
 
     pub byte-made :
         (edgeN′ id′ work′ : List ℕ) → edgeN′ ≡ set edgeN n b → id′ ≡ set id n noId → work′ ≡ linkedWork work at n
-        → ByteDone ns rule s b room edgeN′ id′ work′ n (n + 1)
+        → Done (add ns t) rule t room edgeN′ id′ work′ n (n + 1)
     byte-made edgeN′ id′ work′ p q r =
         let same = add-new ns t new in
         record {
-          node-fits = omega arith;
           full = λ z. absurd (omega arith);
           fits = λ z. omega arith;
           count = λ z. omega (arith, ap length same, length-more ns t);

@@ -12,3 +12,4 @@ pub mod Lookups
 pub mod Linking
 pub mod Seeking
 pub mod Holding
+pub mod Entering

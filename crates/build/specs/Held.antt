@@ -8,6 +8,7 @@ use Prim.Native.Nat.{ℕ, suc, _+_, _*_, _≤_, _<_}
 use lib.ListN.{length, getD, set}
 use Rattle.refusal.specs.Sizes.{noId}
 use Rattle.build.specs.Names.{place, prefixes, add, enter}
+use Rattle.build.specs.Given.{marked}
 use Rattle.build.specs.Links.{Slot, Linked, Spelled, linkedWork}
 
 -- every place from n on is zero
@@ -67,7 +68,7 @@ pub record NodeLinked (edgeN id work edgeN′ id′ work′ : List ℕ) (at n b 
 
 -- ---- one byte more
 
--- a token has come to `node` of n nodes, and room is left for as many as `room` says
+-- a string has come to `node`, one of n, and there is room for `room` nodes
 pub record Enterable (edgeN id work : List ℕ) (room node n : ℕ) : Type 0 where
   pub names : List (List ℕ)
   pub rule : List ℕ → Option ℕ
@@ -78,16 +79,39 @@ pub record Enterable (edgeN id work : List ℕ) (room node n : ℕ) : Type 0 whe
   pub roomy : Roomy room edgeN id work
   pub fits : n ≤ room
 
--- what the byte b makes of the nodes ns at the node s: `node` is the child, `room` where it is not there and no room is left for it
-pub record ByteDone (ns : List (List ℕ)) (rule : List ℕ → Option ℕ) (s : List ℕ) (b room : ℕ) (edgeN id work : List ℕ) (node n : ℕ) : Type 0 where
-  pub node-fits : node ≤ room
-  pub full : node ≡ room → room < length (add ns (s ++ (b ∷ [])))
+-- The nodes are now ms, and the string t has come to `node`, one of n. The node is `room` where there is no room for t.
+pub record Done (ms : List (List ℕ)) (rule : List ℕ → Option ℕ) (t : List ℕ) (room : ℕ) (edgeN id work : List ℕ) (node n : ℕ) : Type 0 where
+  pub full : node ≡ room → room < length ms
   pub fits : (node ≡ room → ⊥) → n ≤ room
-  pub count : (node ≡ room → ⊥) → n ≡ length (add ns (s ++ (b ∷ [])))
-  pub here : (node ≡ room → ⊥) → place (add ns (s ++ (b ∷ []))) (s ++ (b ∷ [])) ≡ some node
-  pub held : (node ≡ room → ⊥) → Held (add ns (s ++ (b ∷ []))) rule edgeN id work
+  pub count : (node ≡ room → ⊥) → n ≡ length ms
+  pub here : (node ≡ room → ⊥) → place ms t ≡ some node
+  pub held : (node ≡ room → ⊥) → Held ms rule edgeN id work
 
 pub record ByteEntered (edgeN id work edgeN′ id′ work′ : List ℕ) (room node n b node′ n′ : ℕ) : Type 0 where
   pub entered :
       (ns : List (List ℕ)) (rule : List ℕ → Option ℕ) (s : List ℕ) → Held ns rule edgeN id work → n ≡ length ns → place ns s ≡ some node
-      → ByteDone ns rule s b room edgeN′ id′ work′ node′ n′
+      → Done (add ns (s ++ (b ∷ []))) rule (s ++ (b ∷ [])) room edgeN′ id′ work′ node′ n′
+
+-- ---- one token more
+
+pub record TokenEntered (edgeN id work edgeN′ id′ work′ : List ℕ) (room n : ℕ) (t : List ℕ) (node′ n′ : ℕ) : Type 0 where
+  pub entered :
+      (ns : List (List ℕ)) (rule : List ℕ → Option ℕ) → Held ns rule edgeN id work → n ≡ length ns
+      → Done (enter ns (prefixes [] t)) rule t room edgeN′ id′ work′ node′ n′
+
+-- ---- one row more
+
+-- where the first id is kept, no id is the mark for none
+abbrev pub Unmarked : Bool → (List ℕ → Option ℕ) → Type 0
+Unmarked first rule = first ≡ true → (s : List ℕ) (i : ℕ) → rule s ≡ some i → i < noId
+
+-- The nodes are now ms, n of them, with these ids; or n is above `room`, and so are they.
+pub record RowDone (ms : List (List ℕ)) (rule : List ℕ → Option ℕ) (room : ℕ) (edgeN id work : List ℕ) (n : ℕ) : Type 0 where
+  pub full : room < n → room < length ms
+  pub count : n ≤ room → n ≡ length ms
+  pub held : n ≤ room → Held ms rule edgeN id work
+
+pub record RowEntered (edgeN id work edgeN′ id′ work′ : List ℕ) (first : Bool) (room n : ℕ) (t : List ℕ) (v n′ : ℕ) : Type 0 where
+  pub entered :
+      (ns : List (List ℕ)) (rule : List ℕ → Option ℕ) → Held ns rule edgeN id work → n ≡ length ns → Unmarked first rule
+      → RowDone (enter ns (prefixes [] t)) (marked first t v rule) room edgeN′ id′ work′ n′
