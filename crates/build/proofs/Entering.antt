@@ -51,7 +51,7 @@ prefixes-one : (p : List ℕ) (b : ℕ) (s : List ℕ) (ns : List²) → enter n
 unfolding prefixes enter
 prefixes-one p b s ns = refl
 
-prefixes-none : (p : List ℕ) (ns : List²) → enter ns (prefixes p []) ≡ ns
+pub prefixes-none : (p : List ℕ) (ns : List²) → enter ns (prefixes p []) ≡ ns
 unfolding prefixes enter
 prefixes-none p ns = refl
 

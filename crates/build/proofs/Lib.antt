@@ -13,3 +13,4 @@ pub mod Linking
 pub mod Seeking
 pub mod Holding
 pub mod Entering
+pub mod Marking

@@ -3,13 +3,10 @@ use crate::NO_ID;
 use crate::links::Reached;
 use crate::links::child;
 ghost use mathlib.Core.Path.{_≡_};
-ghost use mathlib.Core.Bool.{cond, true};
-ghost use Prim.Native.Nat.{_+_, _*_, _≤_, _<_};
-ghost use lib.Dec.{eqb};
-ghost use lib.ListN.{length, getD, set};
-ghost use Rattle.refusal.specs.Sizes.{noId};
+ghost use Prim.Native.Nat.{_+_, _≤_, _<_};
+ghost use lib.ListN.{length};
 ghost use Rattle.text.specs.Span.{spanOf};
-ghost use Rattle.build.specs.Held.{Enterable, TokenEntered, RowEntered};
+ghost use Rattle.build.specs.Held.{Enterable, TokenEntered, markedIds, RowEntered};
 
 // The token of `len` bytes at `off`, from the root on: its last node, and how many nodes there are. The node is `room` where no room is left.
 pub fn enter(
@@ -42,7 +39,7 @@ pub fn enter(
 // The id v for `node`: always, or where the first id is kept only if it has none yet.
 pub fn mark(id: &mut [u32], node: usize, first: bool, v: u32)
     requires { ⌜ node < length (now id) ⌝ }
-    ensures { λ _. ⌜ now (id .exit) ≡ cond first (cond (eqb (getD (now (id .entry)) node 0) noId) (set (now (id .entry)) node v) (now (id .entry))) (set (now (id .entry)) node v) ⌝ }
+    ensures { λ _. ⌜ now (id .exit) ≡ markedIds first (now (id .entry)) node v ⌝ }
 {
     if first {
         if id[node] != NO_ID {
@@ -50,4 +47,34 @@ pub fn mark(id: &mut [u32], node: usize, first: bool, v: u32)
         }
     }
     id[node] = v;
+}
+
+// A token that is given the id v: how many nodes there are then, more than `room` where no room is left. An empty token does nothing.
+pub fn enter_token(
+    tab: &[u8],
+    off: usize,
+    len: usize,
+    first: bool,
+    v: u32,
+    edge_n: &mut [u16],
+    id: &mut [u32],
+    work: &mut [u32],
+    room: usize,
+    n: usize,
+) -> usize
+    requires { ⌜ (off + len ≤ length (now tab)) × Enterable (now «edge_n») (now id) (now work) room 0 n ⌝ }
+    ensures { λ r.
+        ⌜ RowEntered (now («edge_n» .entry)) (now (id .entry)) (now (work .entry))
+        (now («edge_n» .exit)) (now (id .exit)) (now (work .exit)) first room n (spanOf (now (tab .entry)) off len) v r ⌝ }
+{
+    if len == 0 {
+        return n;
+    }
+    let end = enter(tab, off, len, edge_n, id, work, room, n);
+    let node = end.node;
+    if node == room {
+        return room + 1;
+    }
+    mark(id, node, first, v);
+    end.n
 }
