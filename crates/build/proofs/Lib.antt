@@ -14,3 +14,4 @@ pub mod Seeking
 pub mod Holding
 pub mod Entering
 pub mod Marking
+pub mod Rowing

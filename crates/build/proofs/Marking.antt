@@ -14,7 +14,7 @@ use Rattle.refusal.specs.Sizes.{noId}
 use Rattle.text.specs.Span.{spanOf}
 use Rattle.build.specs.Names.{place, prefixes, enter}
 use Rattle.build.specs.Given.{kept, marked}
-use Rattle.build.specs.Held.{ZeroFrom, Identified, Held, Done, markedIds, Unmarked, RowDone}
+use Rattle.build.specs.Held.{ZeroFrom, Identified, Held, Done, markedIds, Unmarked, RowDone, RowEntered}
 use Rattle.build.proofs.Strings.{equal?}
 use Rattle.build.proofs.Places.{none-some, found?, place-below, place-one, place-same}
 use Rattle.build.proofs.Grown.{List²}
@@ -115,3 +115,10 @@ module _ (first : Bool) (v : ℕ) (ms : List²) (rule : List ℕ → Option ℕ)
             });
           };
         }
+
+-- the same for an id that is the same
+pub row-valued :
+    {edgeN id work edgeN′ id′ work′ : List ℕ} {first : Bool} {room n : ℕ} {t : List ℕ} {v w n′ : ℕ} → v ≡ w
+    → RowEntered edgeN id work edgeN′ id′ work′ first room n t v n′ → RowEntered edgeN id work edgeN′ id′ work′ first room n t w n′
+row-valued {edgeN} {id} {work} {edgeN′} {id′} {work′} {first} {room} {n} {t} {v} {w} {n′} e r =
+    subst (λ (x : ℕ). RowEntered edgeN id work edgeN′ id′ work′ first room n t x n′) e r

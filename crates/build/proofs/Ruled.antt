@@ -115,7 +115,7 @@ unfolding valueOf
 value-last i r = refl
 
 -- what row i makes of a string that it spells, and of any other
-marked-hit :
+pub marked-hit :
     (first : Bool) (t : List ℕ) (v : ℕ) (rule : List ℕ → Option ℕ) (b : ℕ) (s : List ℕ) → (b ∷ s) ≡ t
     → marked first t v rule (b ∷ s) ≡ kept first (rule (b ∷ s)) v
 marked-hit first t v rule b s q =

@@ -9,7 +9,7 @@ use lib.Dec.{eqb}
 use lib.ListN.{length, getD, set}
 use Rattle.refusal.specs.Sizes.{noId, maxRows}
 use Rattle.build.specs.Names.{place, prefixes, add, enter}
-use Rattle.build.specs.Given.{marked}
+use Rattle.build.specs.Given.{marked, noRule}
 use Rattle.build.specs.Links.{Slot, Linked, Spelled, linkedWork}
 
 -- every place from n on is zero
@@ -145,3 +145,9 @@ pub record Ready (edgeN id work : List ℕ) (room : ℕ) : Type 0 where
   pub roomy : Roomy room edgeN id work
   pub nodes : ZeroFrom 0 edgeN
   pub ids : ZeroFrom 0 id
+
+-- the root stands alone
+pub record Planted (edgeN id work : List ℕ) (room : ℕ) : Type 0 where
+  pub roomy : Roomy room edgeN id work
+  pub some-room : 1 ≤ room
+  pub held : Held ([] ∷ []) noRule edgeN id work
