@@ -15,3 +15,4 @@ pub mod Holding
 pub mod Entering
 pub mod Marking
 pub mod Rowing
+pub mod Children

@@ -6,4 +6,5 @@ pub mod Parts
 pub mod Rules
 pub mod Given
 pub mod Held
+pub mod Laying
 pub mod Memory

@@ -1,4 +1,5 @@
 // The core of both builds: tokens entered in lent columns, their children linked in lent work places, laid out as trie parts.
+pub mod lay;
 pub mod links;
 pub mod tokens;
 pub mod vocabulary;
