@@ -16,3 +16,4 @@ pub mod Entering
 pub mod Marking
 pub mod Rowing
 pub mod Children
+pub mod Out

@@ -46,3 +46,50 @@ pub record ChildrenLaid (edgeN work byte to byte′ to′ : List ℕ) (node at e
   pub laid :
       (ns : List (List ℕ)) (s : List ℕ) → Linked ns work → Spelled ns node edgeN → place ns s ≡ some node
       → ChildrenDone ns s byte to byte′ to′ at end
+
+-- ---- one node
+
+-- `node` is the next to be laid out, and there is room for its edges from `at` on
+pub record NodeReady (edgeAt edgeN byte to work : List ℕ) (node at : ℕ) : Type 0 where
+  pub names : List (List ℕ)
+  pub links : Linked names work
+  pub bytes : Spelled names node edgeN
+  pub there : node < length names
+  pub small : length names ≤ 4_294_967_295
+  pub room-at : length names ≤ length edgeAt
+  pub room-byte : at + length (edgesOf names (getD names node [])) ≤ length byte
+  pub room-to : at + length (edgesOf names (getD names node [])) ≤ length to
+  pub few : at ≤ 4_294_967_295
+
+pub record NodeDone (ns : List (List ℕ)) (edgeAt edgeN byte to edgeAt′ edgeN′ byte′ to′ : List ℕ) (node at end : ℕ) : Type 0 where
+  pub begun : edgeAt′ ≡ set edgeAt node at
+  pub counted : edgeN′ ≡ set edgeN node (length (edgesOf ns (getD ns node [])))
+  pub children : ChildrenDone ns (getD ns node []) byte to byte′ to′ at end
+
+pub record NodeLaid (edgeAt edgeN byte to work edgeAt′ edgeN′ byte′ to′ : List ℕ) (node at end : ℕ) : Type 0 where
+  pub laid :
+      (ns : List (List ℕ)) → Linked ns work → Spelled ns node edgeN → node < length ns
+      → NodeDone ns edgeAt edgeN byte to edgeAt′ edgeN′ byte′ to′ node at end
+
+-- ---- all nodes
+
+-- n nodes are linked, and there is room for them and their edges
+pub record AllReady (edgeAt edgeN byte to work : List ℕ) (n : ℕ) : Type 0 where
+  pub names : List (List ℕ)
+  pub links : Linked names work
+  pub bytes : Spelled names 0 edgeN
+  pub count : n ≡ length names
+  pub small : n ≤ 4_294_967_295
+  pub room-at : n ≤ length edgeAt
+  pub room-byte : n ≤ length byte + 1
+  pub room-to : n ≤ length to + 1
+
+pub record AllDone (ns : List (List ℕ)) (edgeAt edgeN byte to edgeAt′ edgeN′ byte′ to′ : List ℕ) : Type 0 where
+  pub begun : edgeAt′ ≡ sets edgeAt 0 (starts 0 (countsOf ns ns))
+  pub counted : edgeN′ ≡ sets edgeN 0 (countsOf ns ns)
+  pub written : byte′ ≡ sets byte 0 (bytesOf (allEdges ns ns))
+  pub led : to′ ≡ sets to 0 (targetsOf (allEdges ns ns))
+
+pub record AllLaid (edgeAt edgeN byte to work edgeAt′ edgeN′ byte′ to′ : List ℕ) (n : ℕ) : Type 0 where
+  pub laid :
+      (ns : List (List ℕ)) → Linked ns work → Spelled ns 0 edgeN → n ≡ length ns → AllDone ns edgeAt edgeN byte to edgeAt′ edgeN′ byte′ to′
