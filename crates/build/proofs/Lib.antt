@@ -17,3 +17,4 @@ pub mod Marking
 pub mod Rowing
 pub mod Children
 pub mod Out
+pub mod Zeros
