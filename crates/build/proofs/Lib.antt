@@ -18,3 +18,4 @@ pub mod Rowing
 pub mod Children
 pub mod Out
 pub mod Zeros
+pub mod Filled

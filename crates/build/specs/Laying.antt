@@ -6,9 +6,11 @@ use mathlib.Core.Option.{Option, some}
 use Prim.Native.Nat.{ℕ, _+_, _≤_, _<_}
 use lib.ListN.{length, getD, set, drop}
 use lib.Seq.{sets}
+use Rattle.refusal.specs.Places.{zeroed, filled}
 use Rattle.build.specs.Names.{place}
 use Rattle.build.specs.Parts.{Edge, edgesOf, starts}
 use Rattle.build.specs.Links.{Linked, Spelled}
+use Rattle.build.specs.Held.{ZeroFrom}
 
 abbrev pub bytesOf : List Edge → List ℕ
 bytesOf es = map (λ e. e .byte) es
@@ -93,3 +95,21 @@ pub record AllDone (ns : List (List ℕ)) (edgeAt edgeN byte to edgeAt′ edgeN�
 pub record AllLaid (edgeAt edgeN byte to work edgeAt′ edgeN′ byte′ to′ : List ℕ) (n : ℕ) : Type 0 where
   pub laid :
       (ns : List (List ℕ)) → Linked ns work → Spelled ns 0 edgeN → n ≡ length ns → AllDone ns edgeAt edgeN byte to edgeAt′ edgeN′ byte′ to′
+
+-- ---- the parts
+
+-- n nodes were entered, and there is room for them and their edges
+pub record OutReady (edgeAt edgeN byte to work : List ℕ) (n : ℕ) : Type 0 where
+  pub ready : AllReady edgeAt edgeN byte to work n
+  pub past : ZeroFrom n edgeN
+
+pub record OutDone (ns : List (List ℕ)) (edgeAt edgeN byte to work edgeAt′ edgeN′ byte′ to′ work′ : List ℕ) : Type 0 where
+  pub begun : edgeAt′ ≡ filled 0 (starts 0 (countsOf ns ns)) edgeAt
+  pub counted : edgeN′ ≡ filled 0 (countsOf ns ns) edgeN
+  pub written : byte′ ≡ filled 0 (bytesOf (allEdges ns ns)) byte
+  pub led : to′ ≡ filled 0 (targetsOf (allEdges ns ns)) to
+  pub unlinked : work′ ≡ zeroed 0 work
+
+pub record LaidOut (edgeAt edgeN byte to work edgeAt′ edgeN′ byte′ to′ work′ : List ℕ) (n : ℕ) : Type 0 where
+  pub laid :
+      (ns : List (List ℕ)) → Linked ns work → Spelled ns 0 edgeN → n ≡ length ns → OutDone ns edgeAt edgeN byte to work edgeAt′ edgeN′ byte′ to′ work′

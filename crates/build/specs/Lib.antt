@@ -8,3 +8,4 @@ pub mod Given
 pub mod Held
 pub mod Laying
 pub mod Memory
+pub mod Core

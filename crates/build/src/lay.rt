@@ -1,6 +1,8 @@
 // The linked nodes laid out as parts: "Edges stand node after node, by rising byte." A node's children have larger numbers, so their bytes
 // are read from their `edge_n` places before those take their own counts.
-ghost use Rattle.build.specs.Laying.{ChildrenReady, ChildrenLaid, NodeReady, NodeLaid, AllReady, AllLaid};
+use crate::zero::zero8;
+use crate::zero::zero32;
+ghost use Rattle.build.specs.Laying.{ChildrenReady, ChildrenLaid, NodeReady, NodeLaid, AllReady, AllLaid, OutReady, LaidOut};
 
 // The edges of `node`, from edge number `from` on: the edge number after them.
 fn lay_children(
@@ -49,7 +51,7 @@ fn lay_node(
 }
 
 // All n nodes.
-pub fn lay_out(
+fn lay_all(
     edge_at: &mut [u32],
     edge_n: &mut [u16],
     byte: &mut [u8],
@@ -68,4 +70,25 @@ pub fn lay_out(
         at = lay_node(edge_at, edge_n, byte, to, work, k, at);
         k += 1;
     }
+}
+
+// The n nodes that were entered, into columns that may hold anything, and the work places made zero.
+pub fn lay_out(
+    edge_at: &mut [u32],
+    edge_n: &mut [u16],
+    byte: &mut [u8],
+    to: &mut [u32],
+    work: &mut [u32],
+    n: usize,
+)
+    requires { ⌜ OutReady (now «edge_at») (now «edge_n») (now byte) (now to) (now work) n ⌝ }
+    ensures { λ _.
+        ⌜ LaidOut (now («edge_at» .entry)) (now («edge_n» .entry)) (now (byte .entry)) (now (to .entry)) (now (work .entry))
+        (now («edge_at» .exit)) (now («edge_n» .exit)) (now (byte .exit)) (now (to .exit)) (now (work .exit)) n ⌝ }
+{
+    zero32(edge_at);
+    zero8(byte);
+    zero32(to);
+    lay_all(edge_at, edge_n, byte, to, work, n);
+    zero32(work);
 }

@@ -1,6 +1,8 @@
 // The rows entered in order. Unigram keeps a token's first row and gives it the row's index, WordPiece its last and the id that the row has.
 use crate::NO_ID;
 use crate::tokens::enter_token;
+use crate::zero::zero16;
+use crate::zero::zero32;
 ghost use mathlib.Core.Path.{_≡_};
 ghost use mathlib.Core.Bool.{false};
 ghost use Prim.Native.Nat.{_≤_, _<_};
@@ -10,7 +12,7 @@ ghost use Rattle.text.specs.Span.{spanOf};
 ghost use Rattle.build.specs.Names.{names};
 ghost use Rattle.build.specs.Rules.{tokensOf};
 ghost use Rattle.build.specs.Given.{given, rulesFrom, noRule};
-ghost use Rattle.build.specs.Held.{RowEntered, RowDone, Judged, valueGiven, RowReady, Ready, Planted};
+ghost use Rattle.build.specs.Held.{RowEntered, RowDone, Judged, valueGiven, RowReady, Roomy, Ready, Planted};
 
 // The root, alone: it has no id and no child.
 fn plant(id: &mut [u32], work: &mut [u32])
@@ -98,8 +100,8 @@ fn enter_on(
     n
 }
 
-// The same into columns that are zero, where the root needs room too.
-pub fn enter_rows(
+// The same into columns that are zero; the root needs room too.
+fn enter_zeroed(
     first: bool,
     tab: &[u8],
     off: &[u32],
@@ -121,4 +123,27 @@ pub fn enter_rows(
     }
     plant(id, work);
     enter_on(first, tab, off, len, ids, edge_n, id, work, room)
+}
+
+// The same into columns that may hold anything.
+pub fn enter_rows(
+    first: bool,
+    tab: &[u8],
+    off: &[u32],
+    len: &[u32],
+    ids: &[u32],
+    edge_n: &mut [u16],
+    id: &mut [u32],
+    work: &mut [u32],
+    room: usize,
+) -> usize
+    requires { ⌜ Judged first (now tab) (now off) (now len) (now ids) × Roomy room (now «edge_n») (now id) (now work) ⌝ }
+    ensures { λ r.
+        ⌜ RowDone (names (tokensOf (now (tab .entry)) (given (now (off .entry)) (now (len .entry)) (now (ids .entry)))))
+        (rulesFrom first (now (tab .entry)) noRule 0 (given (now (off .entry)) (now (len .entry)) (now (ids .entry))))
+        room (now («edge_n» .exit)) (now (id .exit)) (now (work .exit)) r ⌝ }
+{
+    zero16(edge_n);
+    zero32(id);
+    enter_zeroed(first, tab, off, len, ids, edge_n, id, work, room)
 }

@@ -1,172 +1,102 @@
--- `build::lay::lay_out` meets its contract. The loop's invariant: the first k nodes are laid out, and `at` is the number of their edges.
--- The measure is what is left of the nodes. Assumes nothing.
-use mathlib.Core.Path.{_≡_, refl, _∙_}
-use mathlib.Core.List.{List}
-use Prim.Native.Nat.{ℕ, _+_, _-_, _≤_, _<_}
-use native.Mathlib.Omega.{arith}
-use lib.ListN.{length}
-use Rattle.build.specs.Links.{Linked, Spelled}
-use Rattle.build.specs.Laying.{NodeDone}
-use Rattle.build.proofs.Out.{LaidTo, laid-start, laid-few, laid-turn, laid-end}
+-- `build::lay::lay_out` meets its contract: the columns are made zero, the nodes laid out, the work places made zero. Assumes nothing.
+use borrow.Author.Needs.{needs}
+use Rattle.build.proofs.Filled.{ready-again, out-done}
 use Rattle.build.proofs.lay.lay_out.Statement.{statement}
 use Rattle.build.proofs.lay.lay_out.Tie as tie
 
--- the columns keep their lengths
-pub record Kept (edgeAt₀ edgeN₀ byte₀ to₀ edgeAt edgeN byte to : List ℕ) : Type 0 where
-  pub starts : length edgeAt ≡ length edgeAt₀
-  pub counts : length edgeN ≡ length edgeN₀
-  pub bytes : length byte ≡ length byte₀
-  pub targets : length to ≡ length to₀
+-- ---- the ways back: column by column to the start, from the call of `lay_all` and from what follows it
 
-abbrev Inv-loop : tie.InvT-loop
-Inv-loop edge-at₀ edge-n₀ byte₀ to₀ work n at₀ k₀ edge-at edge-n byte to at k =
-    (k ≤ n) × Kept edge-at₀ edge-n₀ byte₀ to₀ edge-at edge-n byte to
-    × ((ns : List (List ℕ)) → Linked ns work → Spelled ns 0 edge-n₀ → n ≡ length ns
-    → LaidTo ns edge-at₀ edge-n₀ byte₀ to₀ edge-at edge-n byte to k at)
+abbrev work-lent : tie.After-zero323 → tie.After-slice-known11
+work-lent c = let k = c .before .before in k .before .before
 
-abbrev μ-loop : tie.MeasureT-loop
-μ-loop edge-at₀ edge-n₀ byte₀ to₀ work n at₀ k₀ edge-at edge-n byte to at k = n - k
+abbrev byte-back : tie.After-slice-known11 → tie.After-slice-known9
+byte-back c = let k = c .before .before in k .before .before
 
--- ---- the ways back: to the function's start from the loop's head, to the loop's head from the call of `lay_node` and from what follows it
+abbrev laid : tie.After-zero323 → tie.After-lay-all
+laid c = byte-back (work-lent c) .before .before
 
-abbrev Head : Type 0
-Head = tie.At-loop Inv-loop μ-loop
+abbrev lent : tie.After-lay-all-arg5 → tie.After-lay-all-arg
+lent c = let k = c .before .before in k .before .before
 
-abbrev lent : tie.After-shared-slice-known Inv-loop μ-loop → tie.After-slice-known2 Inv-loop μ-loop
-lent c = let k = c .before .before in k .before
+abbrev to-zero : tie.After-lay-all-arg5 → tie.After-zero322
+to-zero c = let k = lent c .before .before in k .before
 
-abbrev start : tie.After-shared-slice-known Inv-loop μ-loop → tie.Start Inv-loop μ-loop
-start c = lent c .before .before
+abbrev byte-zero : tie.After-zero322 → tie.After-zero8
+byte-zero c = let k = c .before .before in k .before .before
 
-abbrev entry : Head → tie.Start Inv-loop μ-loop
-entry h = start (h .before)
+abbrev starts-zero : tie.After-zero8 → tie.After-zero32
+starts-zero c = let k = c .before .before in k .before .before
 
-abbrev turn : tie.After-lay-node-arg4 Inv-loop μ-loop → tie.In-loop Inv-loop μ-loop
-turn c = let p = c .before .before in p .before .before
+abbrev known : tie.After-zero32 → tie.After-slice-known3
+known c = let k = c .before .before in k .before .before
 
-abbrev byte-back : tie.After-slice-known8 Inv-loop μ-loop → tie.After-slice-known6 Inv-loop μ-loop
-byte-back c = let b = c .before .before in b .before .before
+abbrev entry : tie.After-zero32 → tie.Start
+entry c = let k = known c .before .before in k .before
 
-abbrev called : tie.After-slice-known8 Inv-loop μ-loop → tie.After-lay-node Inv-loop μ-loop
-called c = let n = byte-back c .before .before in n .before .before
+zero32-requires : tie.Need-zero32-requires
+zero32-requires c κs = search needs
 
--- ---- what is known there
+zero8-requires : tie.Need-zero8-requires
+zero8-requires c κs = search needs
 
-abbrev starts : tie.After-lay-node Inv-loop μ-loop → List ℕ
-starts f = f .lay-node .last .0
+zero32-requires-2 : tie.Need-zero32-requires-2
+zero32-requires-2 c κs = search needs
 
-abbrev counts : tie.After-lay-node Inv-loop μ-loop → List ℕ
-counts f = f .lay-node .last .1 .0
+lay-all-requires : tie.Need-lay-all-requires
+lay-all-requires c κs =
+    let t = to-zero c in
+    let b = byte-zero t in
+    let e = starts-zero b in
+    let a = entry e .args in
+    ready-again (a .edge-at .now) (a .edge-n .now) (a .byte .now) (a .to .now) (a .work .now) (a .n) (e .zero32 .last .0) (b .zero8 .last .0)
+    (t .zero322 .last .0) (entry e .pre .ready) (e .zero32 .ensures) (b .zero8 .ensures) (t .zero322 .ensures)
 
-abbrev bytes : tie.After-lay-node Inv-loop μ-loop → List ℕ
-bytes f = f .lay-node .last .1 .1 .0
+zero32-requires-3 : tie.Need-zero32-requires-3
+zero32-requires-3 c κs = search needs
 
-abbrev targets : tie.After-lay-node Inv-loop μ-loop → List ℕ
-targets f = f .lay-node .last .1 .1 .1 .0
+same-length : tie.Need-same-length
+same-length c = search needs
 
-kept :
-    (f : tie.After-lay-node Inv-loop μ-loop)
-    → (let a = entry (turn (f .before) .before) .args in
-    Kept (a .edge-at .now) (a .edge-n .now) (a .byte .now) (a .to .now) (starts f) (counts f) (bytes f) (targets f))
-kept f =
-    let k = turn (f .before) .before .loop .inv .1 in
-    let l = f .lay-node .kept in
-    record {
-      starts = l .0 ∙ k .starts;
-      counts = l .1 .0 ∙ k .counts;
-      bytes = l .1 .1 .0 ∙ k .bytes;
-      targets = l .1 .1 .1 .0 ∙ k .targets;
-    }
+same-length-2 : tie.Need-same-length-2
+same-length-2 c = search needs
 
-loop-holds : tie.Need-loop-holds Inv-loop μ-loop
-loop-holds c =
-    let a = start c .args in (
-      omega arith,
-      record { starts = refl; counts = refl; bytes = refl; targets = refl },
-      λ ns l sp e. laid-start ns (a .edge-at .now) (a .edge-n .now) (a .byte .now) (a .to .now) sp,
-    )
+same-length-3 : tie.Need-same-length-3
+same-length-3 c = search needs
 
-lay-node-requires : tie.Need-lay-node-requires Inv-loop μ-loop
-lay-node-requires c κs =
-    let t = turn c in
-    let h = t .before in
-    let a = entry h .args in
-    let p = entry h .pre in
-    let k = h .loop .inv .1 in
-    let laid = h .loop .inv .2 (p .names) (p .links) (p .bytes) (p .count) in
-    let there : h .loop .k < length (p .names) = omega (arith, t .loop-test .taken, p .count) in
-    let few =
-    laid-few (p .names) (a .edge-at .now) (a .edge-n .now) (a .byte .now) (a .to .now) (h .loop .edge-at) (h .loop .edge-n) (h .loop .byte)
-    (h .loop .to) (h .loop .k) (h .loop .at) laid there (a .work .now) (p .links) in
-    record {
-      names = p .names;
-      links = p .links;
-      bytes = laid .bytes;
-      there = there;
-      small = omega (arith, p .count, p .small);
-      room-at = omega (arith, p .count, p .room-at, k .starts);
-      room-byte = omega (arith, few, p .count, p .room-byte, k .bytes);
-      room-to = omega (arith, few, p .count, p .room-to, k .targets);
-      few = omega (arith, few, p .count, p .small);
-    }
+same-length-4 : tie.Need-same-length-4
+same-length-4 c = search needs
 
-add-k : tie.Need-add-k Inv-loop μ-loop
-add-k c = let t = turn (called c .before) in omega (arith, t .loop-test .taken, entry (t .before) .pre .small)
+same-length-5 : tie.Need-same-length-5
+same-length-5 c = search needs
 
-loop-less : tie.Need-loop-less Inv-loop μ-loop
-loop-less c = let t = turn (called c .before) in omega (arith, t .loop-test .taken)
-
-loop-again : tie.Need-loop-again Inv-loop μ-loop
-loop-again c =
-    let f = called c in
-    let t = turn (f .before) in
-    let h = t .before in
-    let a = entry h .args in (
-      omega (arith, t .loop-test .taken),
-      kept f,
-      λ ns l sp e.
-          let laid = h .loop .inv .2 ns l sp e in
-          let there : h .loop .k < length ns = omega (arith, t .loop-test .taken) in
-          laid-turn ns (a .edge-at .now) (a .edge-n .now) (a .byte .now) (a .to .now) (h .loop .edge-at) (h .loop .edge-n) (h .loop .byte)
-          (h .loop .to) (h .loop .k) (h .loop .at) laid there (starts f) (counts f) (bytes f) (targets f) (f .lay-node .result)
-          (f .lay-node .ensures .laid ns l (laid .bytes) there),
-    )
-
-same-length : tie.Need-same-length Inv-loop μ-loop
-same-length c = c .before .loop .inv .1 .starts
-
-same-length-2 : tie.Need-same-length-2 Inv-loop μ-loop
-same-length-2 c = c .before .loop .inv .1 .counts
-
-same-length-3 : tie.Need-same-length-3 Inv-loop μ-loop
-same-length-3 c = c .before .loop .inv .1 .bytes
-
-same-length-4 : tie.Need-same-length-4 Inv-loop μ-loop
-same-length-4 c = c .before .loop .inv .1 .targets
-
-returns : tie.Need-returns Inv-loop μ-loop
+returns : tie.Need-returns
 returns c =
-    let h = c .before in
-    let a = entry h .args in
+    let w = c .before .before in
+    let f = laid w in
+    let t = to-zero (f .before) in
+    let b = byte-zero t in
+    let e = starts-zero b in
+    let a = entry e .args in
     record {
-      laid = λ ns l sp e.
-          laid-end ns (a .edge-at .now) (a .edge-n .now) (a .byte .now) (a .to .now) (h .loop .edge-at) (h .loop .edge-n) (h .loop .byte)
-          (h .loop .to) (h .loop .k) (h .loop .at) (h .loop .inv .2 ns l sp e) (omega (arith, c .loop-test .left, h .loop .inv .0));
+      laid = λ ns l sp n.
+          out-done ns (l .grown) (a .edge-at .now) (a .edge-n .now) (a .byte .now) (a .to .now) (a .work .now) (a .n) n (entry e .pre)
+          (e .zero32 .last .0) (b .zero8 .last .0) (t .zero322 .last .0) (f .lay-all .last .0) (f .lay-all .last .1 .0)
+          (f .lay-all .last .1 .1 .0) (f .lay-all .last .1 .1 .1 .0) (w .zero323 .last .0) (e .zero32 .ensures) (b .zero8 .ensures)
+          (t .zero322 .ensures) (f .lay-all .ensures .laid ns l sp n) (w .zero323 .ensures);
     }
 
 pub lay-out-spec : {M : Type 1} → statement M
 lay-out-spec =
     tie.close
     (tie.spec
-    Inv-loop
-    μ-loop
-    loop-holds
-    lay-node-requires
-    add-k
-    loop-less
-    loop-again
+    zero32-requires
+    zero8-requires
+    zero32-requires-2
+    lay-all-requires
+    zero32-requires-3
     same-length
     same-length-2
     same-length-3
     same-length-4
+    same-length-5
     returns)

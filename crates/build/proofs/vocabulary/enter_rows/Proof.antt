@@ -1,48 +1,44 @@
--- `build::vocabulary::enter_rows` meets its contract: the root is planted, and the rows are entered from there on. Assumes nothing.
-use native.Mathlib.Omega.{arith}
+-- `build::vocabulary::enter_rows` meets its contract: in columns made zero the rows may be entered. Assumes nothing.
 use borrow.Author.Needs.{needs}
-use Rattle.build.specs.Rules.{tokensOf}
-use Rattle.build.specs.Given.{given, rulesFrom, noRule}
-use Rattle.build.proofs.Rowing.{planted, roomless}
+use Rattle.build.proofs.Filled.{ready-zeroed}
 use Rattle.build.proofs.vocabulary.enter_rows.Statement.{statement}
 use Rattle.build.proofs.vocabulary.enter_rows.Tie as tie
 
 -- ---- the ways back
 
-abbrev columns : tie.After-slice-known3 → tie.After-shared-slice-known4
-columns c = let k = c .before .before in k .before
+abbrev lent : tie.After-enter-zeroed-arg3 → tie.After-id
+lent c = let k = c .before .before in k .before .before
 
-abbrev start : tie.After-slice-known3 → tie.Start
-start c = let k = columns c .before .before in k .before .before
+abbrev ids-zero : tie.After-enter-zeroed-arg3 → tie.After-zero32
+ids-zero c = lent c .before
 
-abbrev work-back : tie.After-enter-on-arg3 → tie.After-slice-known5
-work-back c = let p = c .before .before in p .before
+abbrev counts-zero : tie.After-zero32 → tie.After-zero16
+counts-zero c = let k = c .before .before in k .before .before
 
-abbrev root-stands : tie.After-enter-on-arg3 → tie.After-plant
-root-stands c = let w = work-back c .before .before in w .before .before
+abbrev known : tie.After-zero16 → tie.After-slice-known
+known c = let k = c .before .before in k .before .before
 
-abbrev unless-none : tie.After-plant → tie.Else1
-unless-none c = let p = c .before .before in p .before
+abbrev columns : tie.After-slice-known → tie.After-shared-slice-known
+columns c = let k = c .before .before in k .before .before
 
-returns : tie.Need-returns
-returns c =
-    let a = start (c .before) .args in
-    let rows = given (a .off .now) (a .len .now) (a .ids .now) in
-    roomless (tokensOf (a .tab .now) rows) (rulesFrom (a .first) (a .tab .now) noRule 0 rows) (a .room) (a .edge-n .now) (a .id .now)
-    (a .work .now) (c .if1 .taken)
+abbrev entry : tie.After-zero16 → tie.Start
+entry c = columns (known c) .before
 
-plant-requires : tie.Need-plant-requires
-plant-requires c κs = search needs
+zero16-requires : tie.Need-zero16-requires
+zero16-requires c κs = search needs
 
-enter-on-requires : tie.Need-enter-on-requires
-enter-on-requires c κs =
-    let f = root-stands c in
-    let e = unless-none f in
-    let s = start (e .before) in
+zero32-requires : tie.Need-zero32-requires
+zero32-requires c κs = search needs
+
+enter-zeroed-requires : tie.Need-enter-zeroed-requires
+enter-zeroed-requires c κs =
+    let i = ids-zero c in
+    let e = counts-zero i in
+    let s = entry e in
     let a = s .args in (
       s .pre .0,
-      planted (a .edge-n .now) (a .id .now) (a .work .now) (a .room) (s .pre .1) (omega (arith, e .if1 .left)) (f .plant .last .0)
-          (f .plant .last .1 .0) (f .plant .ensures .0) (f .plant .ensures .1),
+      ready-zeroed (a .room) (a .edge-n .now) (a .id .now) (a .work .now) (e .zero16 .last .0) (i .zero32 .last .0) (s .pre .1)
+          (e .zero16 .ensures) (i .zero32 .ensures),
     )
 
 same-length : tie.Need-same-length
@@ -54,17 +50,17 @@ same-length-2 c = search needs
 same-length-3 : tie.Need-same-length-3
 same-length-3 c = search needs
 
-returns-2 : tie.Need-returns-2
-returns-2 c = search needs
+returns : tie.Need-returns
+returns c = search needs
 
 pub enter-rows-spec : {M : Type 1} → statement M
 enter-rows-spec =
     tie.close
     (tie.spec
-    returns
-    plant-requires
-    enter-on-requires
+    zero16-requires
+    zero32-requires
+    enter-zeroed-requires
     same-length
     same-length-2
     same-length-3
-    returns-2)
+    returns)
