@@ -20,6 +20,9 @@ pub record Memory : Type 0 where
   pub to : List ℕ
   pub work : List ℕ
 
+abbrev pub memory : List ℕ → List ℕ → List ℕ → List ℕ → List ℕ → List ℕ → Memory
+memory edgeAt edgeN id byte to work = record { edgeAt = edgeAt; edgeN = edgeN; id = id; byte = byte; to = to; work = work }
+
 -- one of the lent columns, by its length, has fewer than n places
 unfoldable pub anyBelow : ℕ → List ℕ → Bool
 anyBelow n [] = false

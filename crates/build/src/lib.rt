@@ -1,1 +1,16 @@
 // The core of both builds: tokens entered in lent columns, their children linked in lent work places, laid out as trie parts.
+pub mod core;
+pub mod lay;
+pub mod links;
+pub mod tokens;
+pub mod vocabulary;
+pub mod zero;
+
+// The mark for no id, which no row's id may be.
+pub const NO_ID: u32 = 4_294_967_295;
+
+// What a build of judged rows answers: how many nodes the trie has, or that the lent columns have no room for them.
+pub enum Built {
+    Nodes(usize),
+    NoRoom,
+}

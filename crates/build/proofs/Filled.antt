@@ -1,0 +1,253 @@
+-- The columns at the end: what stands in front is what was laid out, and what was zero behind it still is. Assumes nothing.
+use mathlib.Core.Path.{_≡_, refl, sym, ap, _∙_, subst}
+use mathlib.Core.Bool.{Bool, cond, true, false}
+use mathlib.Core.List.{List, [], _∷_, _++_, map}
+use mathlib.Core.Option.{Option, none, some, Option·getD}
+use Prim.Native.Nat.{ℕ, zero, suc, _+_, _-_, _≤_, _<_}
+use native.Mathlib.Omega.{arith}
+use native.Mathlib.Decide.{decLt}
+use borrow.Author.Tests.{lt-ltb, le-ltb}
+use lib.Dec.{ltb}
+use lib.ListN.{length, getD, drop, replicate, length-append, length-map, length-replicate, getD-replicate, List·getD-append}
+use lib.Seq.{sets, sets-eq, getD-append-add, ext-getD}
+use Rattle.refusal.specs.Sizes.{noId}
+use Rattle.refusal.specs.Places.{zeroed, filled}
+use Rattle.rows.specs.Rows.{Row}
+use Rattle.build.specs.declared.Built.the-variants.{Nodes, NoRoom}
+use Rattle.build.specs.Names.{place, names}
+use Rattle.build.specs.Grown.{Grown}
+use Rattle.build.specs.Parts.{Edge, edgesOf, starts, lay, trieOf}
+use Rattle.build.specs.Rules.{tokensOf}
+use Rattle.build.specs.Given.{rulesFrom, noRule, trieGiven}
+use Rattle.build.specs.Held.{ZeroFrom, Identified, Held, Roomy, RowDone, Ready}
+use Rattle.build.specs.Laying.{bytesOf, targetsOf, allEdges, countsOf, AllReady, AllDone, OutReady, OutDone}
+use Rattle.build.specs.Memory.{Memory, memory, cleared, holding}
+use Rattle.build.specs.Core.{RoomFor, BuiltOf}
+use Rattle.build.proofs.Places.{place-below}
+use Rattle.build.proofs.Grown.{List², grown-distinct, grown-some}
+use Rattle.build.proofs.Laid.{getD-map-of, length-starts}
+use Rattle.build.proofs.Counted.{count-names}
+use Rattle.build.proofs.Ruled.{trie-given}
+
+-- ---- zeros
+
+getD-zeros : (n k : ℕ) → _≡_ {A = ℕ} (getD (replicate n 0) k 0) 0
+getD-zeros zero k = refl
+getD-zeros (suc n) zero = refl
+getD-zeros (suc n) (suc k) = getD-zeros n k
+
+pub zero-from : (xs ys : List ℕ) (n : ℕ) → ys ≡ zeroed 0 xs → ZeroFrom n ys
+zero-from xs ys n e k h = ap (λ (l : List ℕ). getD l k 0) e ∙ getD-zeros (length xs) k
+
+pub length-zeroed : (xs ys : List ℕ) → ys ≡ zeroed 0 xs → length ys ≡ length xs
+length-zeroed xs ys e = ap length e ∙ length-replicate (length xs) 0
+
+drop-zeros : (l : List ℕ) (j : ℕ) → ZeroFrom j l → drop j l ≡ replicate (length l - j) 0
+drop-zeros [] zero h = let e : 0 - 0 ≡ 0 = omega arith in ap (λ (k : ℕ). replicate k 0) (sym e)
+drop-zeros [] (suc j) h = let e : 0 - suc j ≡ 0 = omega arith in ap (λ (k : ℕ). replicate k 0) (sym e)
+drop-zeros (x ∷ l) zero h =
+    let first : x ≡ 0 = h 0 (omega arith) in
+    let e : suc (length l) - 0 ≡ suc (length l - 0) = omega arith in
+    ap {B = List ℕ} (λ y. y ∷ l) first ∙ ap {B = List ℕ} (λ r. 0 ∷ r) (drop-zeros l 0 (λ k p. h (suc k) (omega arith)))
+    ∙ ap (λ (k : ℕ). replicate k 0) (sym e)
+drop-zeros (x ∷ l) (suc j) h =
+    let e : length l - j ≡ suc (length l) - suc j = omega arith in
+    drop-zeros l j (λ k p. h (suc k) (omega arith)) ∙ ap (λ (k : ℕ). replicate k 0) e
+
+-- values stored from the front, with zeros behind them
+pub filled-sets :
+    (vs l m : List ℕ) → length l ≡ length m → length vs ≤ length l → ZeroFrom (length vs) l → sets l 0 vs ≡ filled 0 vs m
+filled-sets vs l m e h z =
+    let p : 0 + length vs ≡ length vs = omega arith in
+    sets-eq vs l 0 (omega arith) ∙ ap (λ (k : ℕ). vs ++ drop k l) p ∙ ap (λ (r : List ℕ). vs ++ r) (drop-zeros l (length vs) z)
+    ∙ ap (λ (k : ℕ). vs ++ replicate (k - length vs) 0) e
+
+pub filled-same : (vs l m : List ℕ) → length l ≡ length m → filled 0 vs l ≡ filled 0 vs m
+filled-same vs l m e = ap (λ (k : ℕ). vs ++ replicate (k - length vs) 0) e
+
+pub zeroed-same : (l m : List ℕ) → length l ≡ length m → zeroed 0 l ≡ zeroed 0 m
+zeroed-same l m e = ap (λ (k : ℕ). replicate k 0) e
+
+-- ---- rows may be entered in columns made zero
+
+pub ready-zeroed :
+    (room : ℕ) (edgeN id work edgeN′ id′ : List ℕ) → Roomy room edgeN id work → edgeN′ ≡ zeroed 0 edgeN → id′ ≡ zeroed 0 id
+    → Ready edgeN′ id′ work room
+ready-zeroed room edgeN id work edgeN′ id′ r p q =
+    record {
+      roomy = record {
+        nodes = omega (arith, length-zeroed edgeN edgeN′ p, r .nodes);
+        ids = omega (arith, length-zeroed id id′ q, r .ids);
+        links = r .links;
+        small = r .small;
+      };
+      nodes = zero-from edgeN edgeN′ 0 p;
+      ids = zero-from id id′ 0 q;
+    }
+
+-- ---- the nodes may be laid out in columns made zero
+
+pub ready-again :
+    (edgeAt edgeN byte to work : List ℕ) (n : ℕ) (edgeAt′ byte′ to′ : List ℕ) → AllReady edgeAt edgeN byte to work n
+    → edgeAt′ ≡ zeroed 0 edgeAt → byte′ ≡ zeroed 0 byte → to′ ≡ zeroed 0 to → AllReady edgeAt′ edgeN byte′ to′ work n
+ready-again edgeAt edgeN byte to work n edgeAt′ byte′ to′ r p q s =
+    record {
+      names = r .names;
+      links = r .links;
+      bytes = r .bytes;
+      count = r .count;
+      small = r .small;
+      room-at = omega (arith, length-zeroed edgeAt edgeAt′ p, r .room-at);
+      room-byte = omega (arith, length-zeroed byte byte′ q, r .room-byte);
+      room-to = omega (arith, length-zeroed to to′ s, r .room-to);
+    }
+
+module _ (ns : List²) (g : Grown ns) (edgeAt edgeN byte to work : List ℕ) (n : ℕ) (count : n ≡ length ns)
+    (r : OutReady edgeAt edgeN byte to work n) where
+  length-counts : length (countsOf ns ns) ≡ length ns
+  length-counts = length-map (map (edgesOf ns) ns) length ∙ length-map ns (edgesOf ns)
+
+  length-begun : length (starts 0 (countsOf ns ns)) ≡ length ns
+  length-begun = length-starts (countsOf ns ns) 0 ∙ length-counts
+
+  few-bytes : length (bytesOf (allEdges ns ns)) ≡ length ns - 1
+  few-bytes = length-map (allEdges ns ns) (λ e. e .byte) ∙ count-names g
+
+  few-targets : length (targetsOf (allEdges ns ns)) ≡ length ns - 1
+  few-targets = length-map (allEdges ns ns) (λ e. e .to) ∙ count-names g
+
+  pub out-done :
+      (edgeAt₁ byte₁ to₁ edgeAt′ edgeN′ byte′ to′ work′ : List ℕ) → edgeAt₁ ≡ zeroed 0 edgeAt → byte₁ ≡ zeroed 0 byte → to₁ ≡ zeroed 0 to
+      → AllDone ns edgeAt₁ edgeN byte₁ to₁ edgeAt′ edgeN′ byte′ to′ → work′ ≡ zeroed 0 work
+      → OutDone ns edgeAt edgeN byte to work edgeAt′ edgeN′ byte′ to′ work′
+  out-done edgeAt₁ byte₁ to₁ edgeAt′ edgeN′ byte′ to′ work′ p q s d w =
+      record {
+        begun =
+            d .begun
+            ∙ filled-sets (starts 0 (countsOf ns ns)) edgeAt₁ edgeAt (length-zeroed edgeAt edgeAt₁ p)
+            (omega (arith, length-begun, length-zeroed edgeAt edgeAt₁ p, r .ready .room-at))
+            (zero-from edgeAt edgeAt₁ (length (starts 0 (countsOf ns ns))) p);
+        counted =
+            d .counted
+            ∙ filled-sets (countsOf ns ns) edgeN edgeN refl (omega (arith, length-counts, r .ready .bytes .room, r .ready .count))
+            (λ k h. r .past k (omega (arith, length-counts)));
+        written =
+            d .written
+            ∙ filled-sets (bytesOf (allEdges ns ns)) byte₁ byte (length-zeroed byte byte₁ q)
+            (omega (arith, few-bytes, grown-some g, length-zeroed byte byte₁ q, r .ready .room-byte))
+            (zero-from byte byte₁ (length (bytesOf (allEdges ns ns))) q);
+        led =
+            d .led
+            ∙ filled-sets (targetsOf (allEdges ns ns)) to₁ to (length-zeroed to to₁ s)
+            (omega (arith, few-targets, grown-some g, length-zeroed to to₁ s, r .ready .room-to))
+            (zero-from to to₁ (length (targetsOf (allEdges ns ns))) s);
+        unlinked = w;
+      }
+
+-- ---- the id column
+
+module _ (ns : List²) (g : Grown ns) (rule : List ℕ → Option ℕ) (id before : List ℕ) (h : Identified ns rule id)
+    (same : length id ≡ length before) where
+  abbrev marks : List ℕ
+  marks = map (λ s. Option·getD (rule s) noId) ns
+
+  length-marks : length marks ≡ length ns
+  length-marks = length-map ns (λ s. Option·getD (rule s) noId)
+
+  length-filled : length (filled 0 marks before) ≡ length id
+  length-filled =
+      omega (
+        arith,
+        length-append marks (replicate (length before - length marks) 0),
+        length-replicate {A = ℕ} (length before - length marks) 0,
+        length-marks,
+        h .room,
+      )
+
+  pub ids-filled : id ≡ filled 0 marks before
+  ids-filled = ext-getD 0 id (filled 0 marks before) (sym length-filled) (λ i p. go i p (decLt i (length ns)))
+    where
+      go : (i : ℕ) → i < length id → Dec (i < length ns) → getD id i 0 ≡ getD (filled 0 marks before) i 0
+      go i p (yes q) =
+          h .ids (getD ns i []) i (grown-distinct g i q)
+          ∙ sym (getD-map-of (λ s. Option·getD (rule s) noId) ns i [] 0 q)
+          ∙ sym (List·getD-append marks (replicate (length before - length marks) 0) 0 i (omega (arith, length-marks)))
+      go i p (no q) =
+          let z : length marks + (i - length marks) ≡ i = omega (arith, length-marks) in
+          h .past i (omega arith)
+          ∙ sym (getD-zeros (length before - length marks) (i - length marks))
+          ∙ sym (getD-append-add marks (replicate (length before - length marks) 0) (i - length marks) 0)
+          ∙ ap (λ (k : ℕ). getD (filled 0 marks before) k 0) z
+
+-- ---- the build
+
+module _ (first : Bool) (tab : List ℕ) (rows : List Row) (room : ℕ) (edgeAt edgeN id byte to work edgeN₂ id₂ work₂ : List ℕ)
+    (kn : length edgeN₂ ≡ length edgeN) (ki : length id₂ ≡ length id) (kw : length work₂ ≡ length work) (n : ℕ)
+    (done : RowDone (names (tokensOf tab rows)) (rulesFrom first tab noRule 0 rows) room edgeN₂ id₂ work₂ n) where
+  abbrev ns : List²
+  ns = names (tokensOf tab rows)
+
+  abbrev before : Memory
+  before = memory edgeAt edgeN id byte to work
+
+  pub built-full :
+      room < n → (after : Memory) → after ≡ cleared (memory edgeAt edgeN₂ id₂ byte to work₂) → BuiltOf first tab rows room before after NoRoom
+  unfolding cleared
+  built-full h after e =
+      let full : ltb room (length ns) ≡ true = lt-ltb room (length ns) (done .full h) in
+      let same : cleared (memory edgeAt edgeN₂ id₂ byte to work₂) ≡ cleared before =
+      λ i. record {
+        edgeAt = zeroed 0 edgeAt;
+        edgeN = zeroed-same edgeN₂ edgeN kn i;
+        id = zeroed-same id₂ id ki i;
+        byte = zeroed 0 byte;
+        to = zeroed 0 to;
+        work = zeroed-same work₂ work kw i;
+      } in
+      record {
+        answered = rw full;
+        left = e ∙ same ∙ sym (ap (λ (t : Bool). cond t (cleared before) (holding (trieGiven first tab rows) before)) full);
+      }
+
+  module _ (fits : n ≤ room) where
+    held : Held ns (rulesFrom first tab noRule 0 rows) edgeN₂ id₂ work₂
+    held = done .held fits
+
+    pub built-ready : RoomFor room before → OutReady edgeAt edgeN₂ byte to work₂ n
+    built-ready r =
+        record {
+          ready = record {
+            names = ns;
+            links = held .links;
+            bytes = held .bytes;
+            count = done .count fits;
+            small = omega (arith, r .small);
+            room-at = omega (arith, r .starts);
+            room-byte = omega (arith, r .bytes);
+            room-to = omega (arith, r .targets);
+          };
+          past = λ k p. held .past k (omega (arith, done .count fits));
+        }
+
+    pub built-done :
+        (edgeAt′ edgeN′ byte′ to′ work′ : List ℕ) → OutDone ns edgeAt edgeN₂ byte to work₂ edgeAt′ edgeN′ byte′ to′ work′
+        → BuiltOf first tab rows room before (memory edgeAt′ edgeN′ id₂ byte′ to′ work′) (Nodes n)
+    unfolding holding lay trieOf
+    built-done edgeAt′ edgeN′ byte′ to′ work′ d =
+        let rule = rulesFrom first tab noRule 0 rows in
+        let room-left : ltb room (length ns) ≡ false = le-ltb room (length ns) (omega (arith, done .count fits)) in
+        let holds : memory edgeAt′ edgeN′ id₂ byte′ to′ work′ ≡ holding (trieOf rule (tokensOf tab rows)) before =
+        λ i. record {
+          edgeAt = d .begun i;
+          edgeN = (d .counted ∙ filled-same (countsOf ns ns) edgeN₂ edgeN kn) i;
+          id = ids-filled ns (held .links .grown) rule id₂ id (held .marks) ki i;
+          byte = d .written i;
+          to = d .led i;
+          work = (d .unlinked ∙ zeroed-same work₂ work kw) i;
+        } in
+        record {
+          answered = ap Nodes (done .count fits) ∙ sym (ap (λ (t : Bool). cond t NoRoom (Nodes (length ns))) room-left);
+          left =
+              holds ∙ ap (λ t. holding t before) (trie-given first tab rows)
+              ∙ sym (ap (λ (t : Bool). cond t (cleared before) (holding (trieGiven first tab rows) before)) room-left);
+        }

@@ -1,0 +1,250 @@
+-- Rows entered one by one. After i rows the columns hold the nodes and ids of those, and what is still to be entered is the rest.
+-- Assumes nothing.
+use mathlib.Core.Path.{_≡_, refl, sym, ap, _∙_, subst}
+use mathlib.Core.Bool.{Bool, true, false, cond}
+use mathlib.Core.List.{List, [], _∷_, _++_, map}
+use mathlib.Core.Logic.{_⊎_, inl, inr, ⊎-elim}
+use mathlib.Core.Option.{Option, none, some, Option·getD}
+use Prim.Native.Nat.{ℕ, zero, suc, _+_, _-_, _*_, _≤_, _<_}
+use native.Mathlib.Omega.{arith}
+use native.Mathlib.Numerals.{add-one}
+use lib.ListN.{length, getD, set, length-set}
+use lib.Seq.{getD-set-same, getD-set-other}
+use Rattle.refusal.specs.Sizes.{noId, maxRows}
+use Rattle.text.specs.Span.{spanOf}
+use Rattle.rows.specs.Rows.{Row, tokenOf}
+use Rattle.build.specs.Names.{place, prefixes, enter, names}
+use Rattle.build.specs.Grown.{root}
+use Rattle.build.specs.Links.{Linked, Spelled}
+use Rattle.build.specs.Rules.{idOfWorth, tokensOf}
+use Rattle.build.specs.Given.{rowGiven, givenFrom, given, valueOf, kept, marked, rulesFrom, noRule}
+use Rattle.build.specs.Held.{ZeroFrom, Held, Roomy, Enterable, Unmarked, RowDone, valueGiven, Ready, Planted}
+use Rattle.build.proofs.Strings.{snoc-nil, equal?}
+use Rattle.build.proofs.Places.{none-some, found?, place-empty, place-other, place-below, place-at, place-hit}
+use Rattle.build.proofs.Grown.{List², grown-root}
+use Rattle.build.proofs.Named.{entered, entered-none, entered-one, entered-grows, names-are}
+use Rattle.build.proofs.Ruled.{marked-hit, marked-other, marked-empty}
+
+-- ---- the root alone
+
+root-only : (s : List ℕ) (k : ℕ) → place ([] ∷ []) s ≡ some k → (s ≡ []) × (k ≡ 0)
+root-only s k e =
+    let low : k < 1 = place-below ([] ∷ []) s k e in
+    let zero-k : k ≡ 0 = omega arith in
+    (sym (place-at ([] ∷ []) s k e) ∙ ap (λ (i : ℕ). getD ([] ∷ []) i []) zero-k, zero-k)
+
+root-bare : (s : List ℕ) (a : ℕ) → place ([] ∷ []) (s ++ (a ∷ [])) ≡ none
+root-bare s a = place-other [] [] (s ++ (a ∷ [])) (λ q. snoc-nil s a q) ∙ place-empty (s ++ (a ∷ []))
+
+pub held-root :
+    (edgeN id work : List ℕ) → 1 ≤ length edgeN → 1 ≤ length id → 2 ≤ length work → ZeroFrom 0 edgeN → ZeroFrom 0 id
+    → Held ([] ∷ []) noRule edgeN (set id 0 noId) (set work 0 0)
+held-root edgeN id work he hi hw ze zi =
+    record {
+      links = record {
+        grown = root;
+        room = omega (arith, length-set work 0 0);
+        first = λ s k e.
+            let r = root-only s k e in
+            inl (
+              ap (λ (i : ℕ). getD (set work 0 0) (2 * i) 0) (r .1) ∙ getD-set-same work 0 0 0 (omega arith),
+              λ a p q. root-bare s a,
+            );
+        next = λ s b k e. none-some (sym (root-bare s b) ∙ e);
+      };
+      bytes = record { room = he; byte = λ s b k e f. none-some (sym (root-bare s b) ∙ e) };
+      past = λ k p. ze k (omega arith);
+      marks = record {
+        room = omega (arith, length-set id 0 noId);
+        ids = λ s k e.
+            let r = root-only s k e in
+            ap (λ (i : ℕ). getD (set id 0 noId) i 0) (r .1) ∙ getD-set-same id 0 noId 0 hi;
+        within = λ s e. refl;
+        past = λ k p. getD-set-other id 0 k noId 0 (λ z. omega arith) ∙ zi k (omega arith);
+      };
+    }
+
+pub planted :
+    (edgeN id work : List ℕ) (room : ℕ) → Ready edgeN id work room → 1 ≤ room → (id′ work′ : List ℕ) → id′ ≡ set id 0 noId → work′ ≡ set work 0 0
+    → Planted edgeN id′ work′ room
+planted edgeN id work room r h id′ work′ p q =
+    record {
+      roomy = record {
+        nodes = r .roomy .nodes;
+        ids = omega (arith, ap length p, length-set id 0 noId, r .roomy .ids);
+        links = omega (arith, ap length q, length-set work 0 0, r .roomy .links);
+        small = r .roomy .small;
+      };
+      some-room = h;
+      held =
+          rw (p, q)
+          (held-root edgeN id work (omega (arith, r .roomy .nodes)) (omega (arith, r .roomy .ids)) (omega (arith, r .roomy .links)) (r .nodes)
+          (r .ids));
+    }
+
+-- where there is no room for the root
+pub roomless :
+    (tokens : List²) (rule : List ℕ → Option ℕ) (room : ℕ) (edgeN id work : List ℕ) → room ≡ 0 → RowDone (names tokens) rule room edgeN id work 1
+roomless tokens rule room edgeN id work e =
+    record {
+      full = λ z. omega (arith, ap length (names-are tokens), entered-grows tokens ([] ∷ []));
+      count = λ z. absurd (omega arith);
+      held = λ z. absurd (omega arith);
+    }
+
+-- ---- the rest of the rows
+
+abbrev pub restOf : List ℕ → List ℕ → List ℕ → ℕ → List Row
+restOf off len ids i = givenFrom off len ids i (length off - i)
+
+rest-all : (off len ids : List ℕ) → given off len ids ≡ restOf off len ids 0
+rest-all off len ids = ap (givenFrom off len ids 0) (omega arith)
+
+rest-next : (off len ids : List ℕ) (i : ℕ) → i < length off → restOf off len ids i ≡ rowGiven off len ids i ∷ restOf off len ids (i + 1)
+unfolding givenFrom
+rest-next off len ids i h =
+    let e : length off - i ≡ suc (length off - (i + 1)) = omega arith in
+    ap (givenFrom off len ids i) e ∙ ap (λ (k : ℕ). rowGiven off len ids i ∷ givenFrom off len ids k (length off - (i + 1))) (sym (add-one i))
+
+rest-none : (off len ids : List ℕ) (i : ℕ) → i ≡ length off → restOf off len ids i ≡ []
+unfolding givenFrom
+rest-none off len ids i h = let e : length off - i ≡ 0 = omega arith in ap (givenFrom off len ids i) e
+
+value-given : (first : Bool) (off len ids : List ℕ) (i : ℕ) → valueOf first i (rowGiven off len ids i) ≡ valueGiven first ids i
+unfolding valueOf idOfWorth
+value-given true off len ids i = refl
+value-given false off len ids i = refl
+
+-- ---- after i rows
+
+pub record Rowed (first : Bool) (tab off len ids : List ℕ) (i : ℕ) (edgeN id work : List ℕ) (n : ℕ) : Type 0 where
+  pub nodes : List²
+  pub rule : List ℕ → Option ℕ
+  pub held : Held nodes rule edgeN id work
+  pub count : n ≡ length nodes
+  pub low : first ≡ true → (s : List ℕ) (j : ℕ) → rule s ≡ some j → j < i
+  pub names-on : names (tokensOf tab (given off len ids)) ≡ entered nodes (tokensOf tab (restOf off len ids i))
+  pub rules-on : rulesFrom first tab noRule 0 (given off len ids) ≡ rulesFrom first tab rule i (restOf off len ids i)
+
+low-kept : (o : Option ℕ) (i j : ℕ) → ((k : ℕ) → o ≡ some k → k < i) → kept true o i ≡ some j → j < i + 1
+unfolding kept
+low-kept none i j h e = let z : i ≡ j = cc in omega arith
+low-kept (some k) i j h e = let z : k ≡ j = cc in omega (arith, h k refl)
+
+-- what a row's id makes of the bound
+marked-low :
+    (t : List ℕ) (i : ℕ) (rule : List ℕ → Option ℕ) → ((s : List ℕ) (j : ℕ) → rule s ≡ some j → j < i)
+    → (s : List ℕ) (j : ℕ) → marked true t i rule s ≡ some j → j < i + 1
+marked-low t i rule h [] j e = omega (arith, h [] j (sym (marked-empty true t i rule) ∙ e))
+marked-low t i rule h (b ∷ s) j e =
+    ⊎-elim (λ (q : b ∷ s ≡ t). low-kept (rule (b ∷ s)) i j (h (b ∷ s)) (sym (marked-hit true t i rule b s q) ∙ e))
+    (λ (q : b ∷ s ≡ t → ⊥). omega (arith, h (b ∷ s) j (sym (marked-other true t i rule (b ∷ s) q) ∙ e)))
+    (equal? (b ∷ s) t)
+
+module _ (first : Bool) (tab off len ids : List ℕ) where
+  abbrev rows : List Row
+  rows = given off len ids
+
+  pub rowed-start : (edgeN id work : List ℕ) → Held ([] ∷ []) noRule edgeN id work → Rowed first tab off len ids 0 edgeN id work 1
+  rowed-start edgeN id work h =
+      record {
+        nodes = [] ∷ [];
+        rule = noRule;
+        held = h;
+        count = refl;
+        low = λ e s j p. none-some p;
+        names-on = names-are (tokensOf tab rows) ∙ ap (λ (r : List Row). entered ([] ∷ []) (tokensOf tab r)) (rest-all off len ids);
+        rules-on = ap (rulesFrom first tab noRule 0) (rest-all off len ids);
+      }
+
+  module _ (i : ℕ) (edgeN id work : List ℕ) (n : ℕ) (r : Rowed first tab off len ids i edgeN id work n) where
+    abbrev token : List ℕ
+    token = spanOf tab (getD off i 0) (getD len i 0)
+
+    pub rowed-small : i < maxRows → Unmarked first (r .rule)
+    rowed-small h e s j p = omega (arith, r .low e s j p)
+
+    names-next :
+        i < length off
+        → names (tokensOf tab rows) ≡ entered (enter (r .nodes) (prefixes [] token)) (tokensOf tab (restOf off len ids (i + 1)))
+    unfolding tokensOf
+    names-next h =
+        r .names-on ∙ ap (λ (x : List Row). entered (r .nodes) (map (tokenOf tab) x)) (rest-next off len ids i h)
+        ∙ entered-one (r .nodes) token (map (tokenOf tab) (restOf off len ids (i + 1)))
+
+    rules-next :
+        i < length off
+        → rulesFrom first tab noRule 0 rows
+        ≡ rulesFrom first tab (marked first token (valueGiven first ids i) (r .rule)) (i + 1) (restOf off len ids (i + 1))
+    unfolding rulesFrom
+    rules-next h =
+        r .rules-on ∙ ap (rulesFrom first tab (r .rule) i) (rest-next off len ids i h)
+        ∙ ap (λ (v : ℕ). rulesFrom first tab (marked first token v (r .rule)) (suc i) (restOf off len ids (i + 1))) (value-given first off len ids i)
+        ∙ ap (λ (k : ℕ). rulesFrom first tab (marked first token (valueGiven first ids i) (r .rule)) k (restOf off len ids (i + 1)))
+        (sym (add-one i))
+
+    low-next :
+        first ≡ true → (s : List ℕ) (j : ℕ) → marked first token (valueGiven first ids i) (r .rule) s ≡ some j → j < i + 1
+    low-next e s j p =
+        marked-low token i (r .rule) (r .low e) s j
+        (sym (ap (λ (f : Bool). marked f token (valueGiven f ids i) (r .rule) s) e) ∙ p)
+
+    module _ (room : ℕ) (edgeN′ id′ work′ : List ℕ) (n′ : ℕ) (h : i < length off)
+        (done : RowDone (enter (r .nodes) (prefixes [] token)) (marked first token (valueGiven first ids i) (r .rule)) room edgeN′ id′ work′ n′) where
+      pub rowed-turn : n′ ≤ room → Rowed first tab off len ids (i + 1) edgeN′ id′ work′ n′
+      rowed-turn fits =
+          record {
+            nodes = enter (r .nodes) (prefixes [] token);
+            rule = marked first token (valueGiven first ids i) (r .rule);
+            held = done .held fits;
+            count = done .count fits;
+            low = low-next;
+            names-on = names-next h;
+            rules-on = rules-next h;
+          }
+
+      pub rowed-full :
+          room < n′ → (edgeN″ id″ work″ : List ℕ)
+          → RowDone (names (tokensOf tab rows)) (rulesFrom first tab noRule 0 rows) room edgeN″ id″ work″ n′
+      rowed-full z edgeN″ id″ work″ =
+          record {
+            full = λ y.
+                omega (
+                  arith,
+                  done .full z,
+                  ap length (names-next h),
+                  entered-grows (tokensOf tab (restOf off len ids (i + 1))) (enter (r .nodes) (prefixes [] token)),
+                );
+            count = λ y. absurd (omega arith);
+            held = λ y. absurd (omega arith);
+          }
+
+    pub rowed-end :
+        (room : ℕ) → n ≤ room → i ≡ length off
+        → RowDone (names (tokensOf tab rows)) (rulesFrom first tab noRule 0 rows) room edgeN id work n
+    unfolding rulesFrom tokensOf
+    rowed-end room fits e =
+        let all : names (tokensOf tab rows) ≡ r .nodes =
+        r .names-on ∙ ap (λ (x : List Row). entered (r .nodes) (map (tokenOf tab) x)) (rest-none off len ids i e) ∙ entered-none (r .nodes) in
+        let rules : rulesFrom first tab noRule 0 rows ≡ r .rule =
+        r .rules-on ∙ ap (rulesFrom first tab (r .rule) i) (rest-none off len ids i e) in
+        record {
+          full = λ z. absurd (omega arith);
+          count = λ z. r .count ∙ ap length (sym all);
+          held = λ z.
+              subst (λ (f : List ℕ → Option ℕ). Held (names (tokensOf tab rows)) f edgeN id work) (sym rules)
+              (subst (λ (x : List²). Held x (r .rule) edgeN id work) (sym all) (r .held));
+        }
+
+    pub rowed-enterable : (room : ℕ) → Roomy room edgeN id work → n ≤ room → Enterable edgeN id work room 0 n
+    rowed-enterable room roomy fits =
+        record {
+          names = r .nodes;
+          rule = r .rule;
+          string = [];
+          held = r .held;
+          count = r .count;
+          here = grown-root (r .held .links .grown);
+          roomy = roomy;
+          fits = fits;
+        }

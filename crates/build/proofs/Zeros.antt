@@ -1,0 +1,40 @@
+-- Places made zero from the front: those below i are zero, the others as they were. One law for columns of every width. Assumes nothing.
+use mathlib.Core.Path.{_≡_, refl, sym, ap, _∙_}
+use mathlib.Core.List.{List, [], _++_, append-nil}
+use Prim.Native.Nat.{ℕ, _+_, _≤_, _<_}
+use native.Mathlib.Omega.{arith}
+use borrow.Author.Fill.{fill-none, fill-more}
+use lib.ListN.{length, drop, set, replicate, length-set}
+use lib.Seq.{drop-length}
+use Rattle.refusal.specs.Places.{zeroed}
+use Rattle.build.specs.Memory.{memory, cleared}
+
+pub record Zeroing (s₀ s : List ℕ) (i : ℕ) : Type 0 where
+  pub inside : i ≤ length s₀
+  pub kept : length s ≡ length s₀
+  pub front : s ≡ replicate i 0 ++ drop i s₀
+
+pub zeroing-start : (s : List ℕ) → Zeroing s s 0
+zeroing-start s = record { inside = omega arith; kept = refl; front = fill-none s 0 }
+
+pub zeroing-turn : (s₀ s : List ℕ) (i : ℕ) → Zeroing s₀ s i → i < length s → Zeroing s₀ (set s i 0) (i + 1)
+zeroing-turn s₀ s i z h =
+    record {
+      inside = omega (arith, z .kept);
+      kept = length-set s i 0 ∙ z .kept;
+      front = ap (λ (l : List ℕ). set l i 0) (z .front) ∙ fill-more i 0 s₀ (omega (arith, z .kept));
+    }
+
+pub zeroing-end : (s₀ s : List ℕ) (i : ℕ) → Zeroing s₀ s i → length s ≤ i → s ≡ zeroed 0 s₀
+zeroing-end s₀ s i z h =
+    let e : i ≡ length s₀ = omega (arith, z .kept, z .inside) in
+    z .front ∙ ap (λ (k : ℕ). replicate k 0 ++ drop k s₀) e ∙ ap (λ (l : List ℕ). replicate (length s₀) 0 ++ l) (drop-length s₀)
+    ∙ append-nil (replicate (length s₀) 0)
+
+-- all columns zero are the memory cleared
+pub cleared-is :
+    (edgeAt edgeN id byte to work : List ℕ) {edgeAt′ edgeN′ id′ byte′ to′ work′ : List ℕ} → edgeAt′ ≡ zeroed 0 edgeAt
+    → edgeN′ ≡ zeroed 0 edgeN → id′ ≡ zeroed 0 id → byte′ ≡ zeroed 0 byte → to′ ≡ zeroed 0 to → work′ ≡ zeroed 0 work
+    → memory edgeAt′ edgeN′ id′ byte′ to′ work′ ≡ cleared (memory edgeAt edgeN id byte to work)
+unfolding cleared
+cleared-is edgeAt edgeN id byte to work p q r s t u = λ i. record { edgeAt = p i; edgeN = q i; id = r i; byte = s i; to = t i; work = u i }

@@ -1,0 +1,192 @@
+-- `build::lay::lay_children` meets its contract. The loop's invariant: the edges written so far and those from `low` on are the node's edges,
+-- and k is the first child by a byte from `low` on. Each child takes a byte of its own, so at most 256 are written. Assumes nothing.
+use mathlib.Core.Path.{_≡_, refl, _∙_}
+use mathlib.Core.List.{List}
+use mathlib.Core.Option.{some}
+use Prim.Native.Nat.{ℕ, _+_, _-_, _*_, _≤_, _<_}
+use native.Mathlib.Omega.{arith}
+use lib.ListN.{length, getD, length-set}
+use Rattle.build.specs.Names.{place}
+use Rattle.build.specs.Links.{Linked, Spelled}
+use Rattle.build.proofs.Places.{place-below}
+use Rattle.build.proofs.Children.{Writing, writing-start, writing-below, writing-small, writing-room, writing-few, writing-turn, writing-end}
+use Rattle.build.proofs.lay.lay_children.Statement.{statement}
+use Rattle.build.proofs.lay.lay_children.Tie as tie
+
+abbrev Inv-loop : tie.InvT-loop
+Inv-loop edge-n byte₀ to₀ work node from at₀ k₀ byte to at k =
+    (length byte ≡ length byte₀) × (length to ≡ length to₀)
+    × ((ns : List (List ℕ)) (s : List ℕ) → Linked ns work → Spelled ns node edge-n → place ns s ≡ some node
+    → Writing ns s byte₀ to₀ from byte to at k)
+
+abbrev μ-loop : tie.MeasureT-loop
+μ-loop edge-n byte₀ to₀ work node from at₀ k₀ byte to at k = from + 256 - at
+
+-- ---- the ways back, and what is known of the child at hand
+
+abbrev Head : Type 0
+Head = tie.At-loop Inv-loop μ-loop
+
+abbrev entry : Head → tie.Start Inv-loop μ-loop
+entry h = h .before .before
+
+pub record Bounds (edgeN byte to work : List ℕ) (from at k : ℕ) : Type 0 where
+  pub node : k < length edgeN
+  pub link : 2 * k + 1 < length work
+  pub number : k < 4_294_967_296
+  pub a-byte : getD edgeN k 0 < 256
+  pub in-byte : at < length byte
+  pub in-to : at < length to
+  pub few : at < from + 256
+
+bounds :
+    (t : tie.In-loop Inv-loop μ-loop)
+    → (let h = t .before in
+    let a = entry h .args in
+    Bounds (a .edge-n .now) (h .loop .byte) (h .loop .to) (a .work .now) (a .from) (h .loop .at) (h .loop .k))
+bounds t =
+    let h = t .before in
+    let a = entry h .args in
+    let p = entry h .pre in
+    let w = h .loop .inv .2 (p .names) (p .string) (p .links) (p .bytes) (p .here) in
+    let z = t .loop-test .taken in
+    let below =
+    writing-below (p .names) (a .edge-n .now) (a .work .now) (p .links) (a .node) (p .bytes) (p .string) (p .here) (a .byte .now) (a .to .now)
+    (a .from) (h .loop .byte) (h .loop .to) (h .loop .at) (h .loop .k) w z in
+    let room =
+    writing-room (p .names) (a .edge-n .now) (a .work .now) (p .links) (a .node) (p .bytes) (p .string) (p .here) (a .byte .now) (a .to .now)
+    (a .from) (h .loop .byte) (h .loop .to) (h .loop .at) (h .loop .k) w z in
+    record {
+      node = omega (arith, below, p .bytes .room);
+      link = omega (arith, below, p .links .room);
+      number = omega (arith, below, p .small);
+      a-byte =
+          writing-small (p .names) (a .edge-n .now) (a .work .now) (p .links) (a .node) (p .bytes) (p .string) (p .here) (a .byte .now) (a .to .now)
+          (a .from) (h .loop .byte) (h .loop .to) (h .loop .at) (h .loop .k) w z;
+      in-byte = omega (arith, room, p .room-byte, h .loop .inv .0);
+      in-to = omega (arith, room, p .room-to, h .loop .inv .1);
+      few =
+          writing-few (p .names) (a .edge-n .now) (a .work .now) (p .links) (a .node) (p .bytes) (p .string) (p .here) (a .byte .now) (a .to .now)
+          (a .from) (h .loop .byte) (h .loop .to) (h .loop .at) (h .loop .k) w z;
+    }
+
+-- the node's own link stands inside
+inside : (s : tie.Start Inv-loop μ-loop) → 2 * s .args .node < length (s .args .work .now)
+inside s = let p = s .pre in omega (arith, p .links .room, place-below (p .names) (p .string) (s .args .node) (p .here))
+
+mul-k : tie.Need-mul-k Inv-loop μ-loop
+mul-k c = omega (arith, inside c, c .good)
+
+mul-k-2 : tie.Need-mul-k-2 Inv-loop μ-loop
+mul-k-2 c = omega (arith, inside c, c .good)
+
+shared-slice-read-k : tie.Need-shared-slice-read-k Inv-loop μ-loop
+shared-slice-read-k c = inside (c .before)
+
+cast-k : tie.Need-cast-k Inv-loop μ-loop
+cast-k c = let s = c .before in omega (arith, c .shared-slice-known .given (2 * s .args .node))
+
+loop-holds : tie.Need-loop-holds Inv-loop μ-loop
+loop-holds c =
+    let a = c .before .args in
+    (refl, refl, λ ns s l sp e. writing-start ns (a .work .now) l s (a .node) e (a .byte .now) (a .to .now) (a .from))
+
+mul-byte : tie.Need-mul-byte Inv-loop μ-loop
+mul-byte c = omega (arith, bounds c, entry (c .before) .good)
+
+shared-slice-read-byte : tie.Need-shared-slice-read-byte Inv-loop μ-loop
+shared-slice-read-byte c = bounds (c .before) .node
+
+cast-byte : tie.Need-cast-byte Inv-loop μ-loop
+cast-byte c = omega (arith, bounds (c .before))
+
+slice-write-byte : tie.Need-slice-write-byte Inv-loop μ-loop
+slice-write-byte c = bounds (c .before) .in-byte
+
+cast-to : tie.Need-cast-to Inv-loop μ-loop
+cast-to c = omega (arith, bounds (c .before))
+
+mul-to : tie.Need-mul-to Inv-loop μ-loop
+mul-to c = let h = c .before .before in omega (arith, bounds (c .before), h .loop .inv .1, entry h .good)
+
+slice-write-to : tie.Need-slice-write-to Inv-loop μ-loop
+slice-write-to c = bounds (c .before) .in-to
+
+add-at : tie.Need-add-at Inv-loop μ-loop
+add-at c = let h = c .before .before in omega (arith, bounds (c .before), h .loop .inv .1, entry h .good)
+
+mul-k-3 : tie.Need-mul-k-3 Inv-loop μ-loop
+mul-k-3 c = omega (arith, bounds (c .before))
+
+add-k : tie.Need-add-k Inv-loop μ-loop
+add-k c = omega (arith, bounds (c .before))
+
+mul-k-4 : tie.Need-mul-k-4 Inv-loop μ-loop
+mul-k-4 c = let h = c .before .before in omega (arith, bounds (c .before), entry h .good)
+
+shared-slice-read-k-2 : tie.Need-shared-slice-read-k-2 Inv-loop μ-loop
+shared-slice-read-k-2 c = let t = c .before .before in bounds t .link
+
+cast-k-2 : tie.Need-cast-k-2 Inv-loop μ-loop
+cast-k-2 c = let t = c .before .before in omega (arith, c .shared-slice-known3 .given (2 * t .before .loop .k + 1))
+
+loop-less : tie.Need-loop-less Inv-loop μ-loop
+loop-less c = let t = c .before .before in omega (arith, bounds t .few)
+
+loop-again : tie.Need-loop-again Inv-loop μ-loop
+loop-again c =
+    let t = c .before .before in
+    let h = t .before in
+    let a = entry h .args in (
+      length-set (h .loop .byte) (h .loop .at) (getD (a .edge-n .now) (h .loop .k) 0) ∙ h .loop .inv .0,
+      length-set (h .loop .to) (h .loop .at) (h .loop .k) ∙ h .loop .inv .1,
+      λ ns s l sp e.
+          writing-turn ns (a .edge-n .now) (a .work .now) l (a .node) sp s e (a .byte .now) (a .to .now) (a .from) (h .loop .byte) (h .loop .to)
+          (h .loop .at) (h .loop .k) (h .loop .inv .2 ns s l sp e) (t .loop-test .taken),
+    )
+
+same-length : tie.Need-same-length Inv-loop μ-loop
+same-length c = c .before .loop .inv .0
+
+same-length-2 : tie.Need-same-length-2 Inv-loop μ-loop
+same-length-2 c = c .before .loop .inv .1
+
+returns : tie.Need-returns Inv-loop μ-loop
+returns c =
+    let h = c .before in
+    let a = entry h .args in
+    record {
+      laid = λ ns s l sp e.
+          writing-end ns (a .edge-n .now) (a .work .now) l (a .node) sp s e (a .byte .now) (a .to .now) (a .from) (h .loop .byte) (h .loop .to)
+          (h .loop .at) (h .loop .k) (h .loop .inv .2 ns s l sp e) (c .loop-test .left);
+    }
+
+pub lay-children-spec : {M : Type 1} → statement M
+lay-children-spec =
+    tie.close
+    (tie.spec
+    Inv-loop
+    μ-loop
+    mul-k
+    mul-k-2
+    shared-slice-read-k
+    cast-k
+    loop-holds
+    mul-byte
+    shared-slice-read-byte
+    cast-byte
+    slice-write-byte
+    cast-to
+    mul-to
+    slice-write-to
+    add-at
+    mul-k-3
+    add-k
+    mul-k-4
+    shared-slice-read-k-2
+    cast-k-2
+    loop-less
+    loop-again
+    same-length
+    same-length-2
+    returns)

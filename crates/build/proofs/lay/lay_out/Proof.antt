@@ -1,0 +1,102 @@
+-- `build::lay::lay_out` meets its contract: the columns are made zero, the nodes laid out, the work places made zero. Assumes nothing.
+use borrow.Author.Needs.{needs}
+use Rattle.build.proofs.Filled.{ready-again, out-done}
+use Rattle.build.proofs.lay.lay_out.Statement.{statement}
+use Rattle.build.proofs.lay.lay_out.Tie as tie
+
+-- ---- the ways back: column by column to the start, from the call of `lay_all` and from what follows it
+
+abbrev work-lent : tie.After-zero323 → tie.After-slice-known11
+work-lent c = let k = c .before .before in k .before .before
+
+abbrev byte-back : tie.After-slice-known11 → tie.After-slice-known9
+byte-back c = let k = c .before .before in k .before .before
+
+abbrev laid : tie.After-zero323 → tie.After-lay-all
+laid c = byte-back (work-lent c) .before .before
+
+abbrev lent : tie.After-lay-all-arg5 → tie.After-lay-all-arg
+lent c = let k = c .before .before in k .before .before
+
+abbrev to-zero : tie.After-lay-all-arg5 → tie.After-zero322
+to-zero c = let k = lent c .before .before in k .before
+
+abbrev byte-zero : tie.After-zero322 → tie.After-zero8
+byte-zero c = let k = c .before .before in k .before .before
+
+abbrev starts-zero : tie.After-zero8 → tie.After-zero32
+starts-zero c = let k = c .before .before in k .before .before
+
+abbrev known : tie.After-zero32 → tie.After-slice-known3
+known c = let k = c .before .before in k .before .before
+
+abbrev entry : tie.After-zero32 → tie.Start
+entry c = let k = known c .before .before in k .before
+
+zero32-requires : tie.Need-zero32-requires
+zero32-requires c κs = search needs
+
+zero8-requires : tie.Need-zero8-requires
+zero8-requires c κs = search needs
+
+zero32-requires-2 : tie.Need-zero32-requires-2
+zero32-requires-2 c κs = search needs
+
+lay-all-requires : tie.Need-lay-all-requires
+lay-all-requires c κs =
+    let t = to-zero c in
+    let b = byte-zero t in
+    let e = starts-zero b in
+    let a = entry e .args in
+    ready-again (a .edge-at .now) (a .edge-n .now) (a .byte .now) (a .to .now) (a .work .now) (a .n) (e .zero32 .last .0) (b .zero8 .last .0)
+    (t .zero322 .last .0) (entry e .pre .ready) (e .zero32 .ensures) (b .zero8 .ensures) (t .zero322 .ensures)
+
+zero32-requires-3 : tie.Need-zero32-requires-3
+zero32-requires-3 c κs = search needs
+
+same-length : tie.Need-same-length
+same-length c = search needs
+
+same-length-2 : tie.Need-same-length-2
+same-length-2 c = search needs
+
+same-length-3 : tie.Need-same-length-3
+same-length-3 c = search needs
+
+same-length-4 : tie.Need-same-length-4
+same-length-4 c = search needs
+
+same-length-5 : tie.Need-same-length-5
+same-length-5 c = search needs
+
+returns : tie.Need-returns
+returns c =
+    let w = c .before .before in
+    let f = laid w in
+    let t = to-zero (f .before) in
+    let b = byte-zero t in
+    let e = starts-zero b in
+    let a = entry e .args in
+    record {
+      laid = λ ns l sp n.
+          out-done ns (l .grown) (a .edge-at .now) (a .edge-n .now) (a .byte .now) (a .to .now) (a .work .now) (a .n) n (entry e .pre)
+          (e .zero32 .last .0) (b .zero8 .last .0) (t .zero322 .last .0) (f .lay-all .last .0) (f .lay-all .last .1 .0)
+          (f .lay-all .last .1 .1 .0) (f .lay-all .last .1 .1 .1 .0) (w .zero323 .last .0) (e .zero32 .ensures) (b .zero8 .ensures)
+          (t .zero322 .ensures) (f .lay-all .ensures .laid ns l sp n) (w .zero323 .ensures);
+    }
+
+pub lay-out-spec : {M : Type 1} → statement M
+lay-out-spec =
+    tie.close
+    (tie.spec
+    zero32-requires
+    zero8-requires
+    zero32-requires-2
+    lay-all-requires
+    zero32-requires-3
+    same-length
+    same-length-2
+    same-length-3
+    same-length-4
+    same-length-5
+    returns)

@@ -1,0 +1,44 @@
+-- What the core of both builds asks of a caller that has judged the rows, and what it promises. Definitions only; assumes nothing.
+use mathlib.Core.Path.{_≡_}
+use mathlib.Core.Bool.{Bool, cond}
+use mathlib.Core.List.{List}
+use Prim.Native.Nat.{ℕ, _+_, _*_, _/_, _≤_, min}
+use lib.Dec.{ltb}
+use lib.ListN.{length}
+use Rattle.rows.specs.Rows.{Row}
+use Rattle.build.specs.declared.Built.{Built}
+use Rattle.build.specs.declared.Built.the-variants.{Nodes, NoRoom}
+use Rattle.build.specs.Names.{names}
+use Rattle.build.specs.Rules.{tokensOf}
+use Rattle.build.specs.Given.{trieGiven}
+use Rattle.build.specs.Memory.{Memory, cleared, holding}
+
+-- how many nodes the lent columns have room for: a place of each node column, of the edge columns for each but the root, and two work
+-- places; a node's number fits a u32
+abbrev pub roomOf : Memory → ℕ
+roomOf m =
+    min (min (min (length (m .edgeAt)) (length (m .edgeN))) (min (length (m .id)) (length (m .byte) + 1)))
+    (min (min (length (m .to) + 1) (length (m .work) / 2)) 4_294_967_295)
+
+-- every lent column has room for `room` nodes
+pub record RoomFor (room : ℕ) (m : Memory) : Type 0 where
+  pub starts : room ≤ length (m .edgeAt)
+  pub counts : room ≤ length (m .edgeN)
+  pub ids : room ≤ length (m .id)
+  pub bytes : room ≤ length (m .byte) + 1
+  pub targets : room ≤ length (m .to) + 1
+  pub links : 2 * room ≤ length (m .work)
+  pub small : room ≤ 4_294_967_295
+
+-- N: "1 plus the number of distinct non-empty prefixes of tokens"
+abbrev pub nodesOf : List ℕ → List Row → ℕ
+nodesOf tab rows = length (names (tokensOf tab rows))
+
+-- the answer where n nodes are needed
+abbrev pub builtAnswer : ℕ → ℕ → Built
+builtAnswer room n = cond (ltb room n) NoRoom (Nodes n)
+
+-- what the build of these rows answers, and what it leaves in the memory
+pub record BuiltOf (first : Bool) (tab : List ℕ) (rows : List Row) (room : ℕ) (before after : Memory) (answer : Built) : Type 0 where
+  pub answered : answer ≡ builtAnswer room (nodesOf tab rows)
+  pub left : after ≡ cond (ltb room (nodesOf tab rows)) (cleared before) (holding (trieGiven first tab rows) before)

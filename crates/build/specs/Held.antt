@@ -1,0 +1,153 @@
+-- What the lent columns hold while tokens are entered, and what each step of entering promises. A step speaks of the names and ids that
+-- the columns hold: it asks that there are some, and says of any what they become. Definitions only; assumes nothing.
+use mathlib.Core.Path.{_≡_}
+use mathlib.Core.Bool.{Bool, true, false, cond}
+use mathlib.Core.List.{List, [], _∷_, _++_}
+use mathlib.Core.Option.{Option, none, some, Option·getD}
+use Prim.Native.Nat.{ℕ, suc, _+_, _*_, _≤_, _<_}
+use lib.Dec.{eqb}
+use lib.ListN.{length, getD, set}
+use Rattle.refusal.specs.Sizes.{noId, maxRows}
+use Rattle.build.specs.Names.{place, prefixes, add, enter}
+use Rattle.build.specs.Given.{marked, noRule}
+use Rattle.build.specs.Links.{Slot, Linked, Spelled, linkedWork}
+
+-- every place from n on is zero
+abbrev pub ZeroFrom : ℕ → List ℕ → Type 0
+ZeroFrom n xs = (k : ℕ) → n ≤ k → getD xs k 0 ≡ 0
+
+-- each node has the id that the rule gives its string, and the rule gives none to other strings
+pub record Identified (ns : List (List ℕ)) (rule : List ℕ → Option ℕ) (id : List ℕ) : Type 0 where
+  pub room : length ns ≤ length id
+  pub ids : (s : List ℕ) (k : ℕ) → place ns s ≡ some k → getD id k 0 ≡ Option·getD (rule s) noId
+  pub within : (s : List ℕ) → place ns s ≡ none → rule s ≡ none
+  pub past : ZeroFrom (length ns) id
+
+-- the nodes ns with these ids, linked in the work places
+pub record Held (ns : List (List ℕ)) (rule : List ℕ → Option ℕ) (edgeN id work : List ℕ) : Type 0 where
+  pub links : Linked ns work
+  pub bytes : Spelled ns 0 edgeN
+  pub past : ZeroFrom (length ns) edgeN
+  pub marks : Identified ns rule id
+
+-- there is room for so many nodes, and their numbers fit a u32
+pub record Roomy (room : ℕ) (edgeN id work : List ℕ) : Type 0 where
+  pub nodes : room ≤ length edgeN
+  pub ids : room ≤ length id
+  pub links : 2 * room ≤ length work
+  pub small : room ≤ 4_294_967_295
+
+-- ---- seeking a child
+
+-- `node` is a node of some names that are linked
+pub record Chained (edgeN work : List ℕ) (node : ℕ) : Type 0 where
+  pub names : List (List ℕ)
+  pub string : List ℕ
+  pub links : Linked names work
+  pub bytes : Spelled names 0 edgeN
+  pub here : place names string ≡ some node
+
+-- `at` has the link to the first child of `node` by b or a later byte
+pub record Sought (edgeN work : List ℕ) (node b at : ℕ) : Type 0 where
+  pub slot : (ns : List (List ℕ)) (s : List ℕ) → Linked ns work → Spelled ns 0 edgeN → place ns s ≡ some node → Slot ns s b at
+
+-- ---- one node more
+
+-- node n may be put behind the link at `at`
+pub record Linkable (edgeN id work : List ℕ) (at n : ℕ) : Type 0 where
+  pub before : at < 2 * n
+  pub nodes : n < length edgeN
+  pub ids : n < length id
+  pub links : 2 * n + 1 < length work
+  pub small : n < 4_294_967_295
+
+-- Node n, by the byte b, stands behind the link at `at`: it leads on to what that led to, and has no id yet and no child.
+pub record NodeLinked (edgeN id work edgeN′ id′ work′ : List ℕ) (at n b : ℕ) : Type 0 where
+  pub byte : edgeN′ ≡ set edgeN n b
+  pub bare : id′ ≡ set id n noId
+  pub links : work′ ≡ linkedWork work at n
+
+-- ---- one byte more
+
+-- a string has come to `node`, one of n, and there is room for `room` nodes
+pub record Enterable (edgeN id work : List ℕ) (room node n : ℕ) : Type 0 where
+  pub names : List (List ℕ)
+  pub rule : List ℕ → Option ℕ
+  pub string : List ℕ
+  pub held : Held names rule edgeN id work
+  pub count : n ≡ length names
+  pub here : place names string ≡ some node
+  pub roomy : Roomy room edgeN id work
+  pub fits : n ≤ room
+
+-- The nodes are now ms, and the string t has come to `node`, one of n. The node is `room` where there is no room for t.
+pub record Done (ms : List (List ℕ)) (rule : List ℕ → Option ℕ) (t : List ℕ) (room : ℕ) (edgeN id work : List ℕ) (node n : ℕ) : Type 0 where
+  pub full : node ≡ room → room < length ms
+  pub fits : (node ≡ room → ⊥) → n ≤ room
+  pub count : (node ≡ room → ⊥) → n ≡ length ms
+  pub here : (node ≡ room → ⊥) → place ms t ≡ some node
+  pub held : (node ≡ room → ⊥) → Held ms rule edgeN id work
+
+pub record ByteEntered (edgeN id work edgeN′ id′ work′ : List ℕ) (room node n b node′ n′ : ℕ) : Type 0 where
+  pub entered :
+      (ns : List (List ℕ)) (rule : List ℕ → Option ℕ) (s : List ℕ) → Held ns rule edgeN id work → n ≡ length ns → place ns s ≡ some node
+      → Done (add ns (s ++ (b ∷ []))) rule (s ++ (b ∷ [])) room edgeN′ id′ work′ node′ n′
+
+-- ---- one token more
+
+pub record TokenEntered (edgeN id work edgeN′ id′ work′ : List ℕ) (room n : ℕ) (t : List ℕ) (node′ n′ : ℕ) : Type 0 where
+  pub entered :
+      (ns : List (List ℕ)) (rule : List ℕ → Option ℕ) → Held ns rule edgeN id work → n ≡ length ns
+      → Done (enter ns (prefixes [] t)) rule t room edgeN′ id′ work′ node′ n′
+
+-- ---- one row more
+
+-- the id column once `node` is given the id v: always, or where the first id is kept only if it has none yet
+abbrev pub markedIds : Bool → List ℕ → ℕ → ℕ → List ℕ
+markedIds first id node v = cond first (cond (eqb (getD id node 0) noId) (set id node v) id) (set id node v)
+
+-- where the first id is kept, no id is the mark for none
+abbrev pub Unmarked : Bool → (List ℕ → Option ℕ) → Type 0
+Unmarked first rule = first ≡ true → (s : List ℕ) (i : ℕ) → rule s ≡ some i → i < noId
+
+-- The nodes are now ms, n of them, with these ids; or n is above `room`, and so are they.
+pub record RowDone (ms : List (List ℕ)) (rule : List ℕ → Option ℕ) (room : ℕ) (edgeN id work : List ℕ) (n : ℕ) : Type 0 where
+  pub full : room < n → room < length ms
+  pub count : n ≤ room → n ≡ length ms
+  pub held : n ≤ room → Held ms rule edgeN id work
+
+pub record RowEntered (edgeN id work edgeN′ id′ work′ : List ℕ) (first : Bool) (room n : ℕ) (t : List ℕ) (v n′ : ℕ) : Type 0 where
+  pub entered :
+      (ns : List (List ℕ)) (rule : List ℕ → Option ℕ) → Held ns rule edgeN id work → n ≡ length ns → Unmarked first rule
+      → RowDone (enter ns (prefixes [] t)) (marked first t v rule) room edgeN′ id′ work′ n′
+
+-- ---- all rows
+
+-- The rows' columns are level and their tokens stand in the table. Where the first id is kept, the row's own id is not looked at.
+pub record Judged (first : Bool) (tab off len ids : List ℕ) : Type 0 where
+  pub level : length len ≡ length off
+  pub own : first ≡ false → length ids ≡ length off
+  pub few : length off ≤ maxRows
+  pub inside : (i : ℕ) → i < length off → getD off i 0 + getD len i 0 ≤ length tab
+
+-- the id of row i
+abbrev pub valueGiven : Bool → List ℕ → ℕ → ℕ
+valueGiven first ids i = cond first i (getD ids i 0)
+
+-- row i may be entered
+pub record RowReady (first : Bool) (tab off len ids edgeN id work : List ℕ) (room n i : ℕ) : Type 0 where
+  pub judged : Judged first tab off len ids
+  pub there : i < length off
+  pub enterable : Enterable edgeN id work room 0 n
+
+-- rows may be entered: nothing stands in the columns yet
+pub record Ready (edgeN id work : List ℕ) (room : ℕ) : Type 0 where
+  pub roomy : Roomy room edgeN id work
+  pub nodes : ZeroFrom 0 edgeN
+  pub ids : ZeroFrom 0 id
+
+-- the root stands alone
+pub record Planted (edgeN id work : List ℕ) (room : ℕ) : Type 0 where
+  pub roomy : Roomy room edgeN id work
+  pub some-room : 1 ≤ room
+  pub held : Held ([] ∷ []) noRule edgeN id work

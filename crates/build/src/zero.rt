@@ -1,0 +1,55 @@
+// Lent places made zero.
+ghost use mathlib.Core.Path.{_≡_};
+ghost use Rattle.refusal.specs.Places.{zeroed};
+ghost use Rattle.build.specs.Memory.{memory, cleared};
+
+pub fn zero8(s: &mut [u8])
+    ensures { λ _. ⌜ now (s .exit) ≡ zeroed 0 (now (s .entry)) ⌝ }
+{
+    let mut i: usize = 0;
+    while i < s.len() {
+        s[i] = 0;
+        i += 1;
+    }
+}
+
+pub fn zero16(s: &mut [u16])
+    ensures { λ _. ⌜ now (s .exit) ≡ zeroed 0 (now (s .entry)) ⌝ }
+{
+    let mut i: usize = 0;
+    while i < s.len() {
+        s[i] = 0;
+        i += 1;
+    }
+}
+
+pub fn zero32(s: &mut [u32])
+    ensures { λ _. ⌜ now (s .exit) ≡ zeroed 0 (now (s .entry)) ⌝ }
+{
+    let mut i: usize = 0;
+    while i < s.len() {
+        s[i] = 0;
+        i += 1;
+    }
+}
+
+// Every lent node, edge and work place.
+pub fn clear(
+    edge_at: &mut [u32],
+    edge_n: &mut [u16],
+    id: &mut [u32],
+    byte: &mut [u8],
+    to: &mut [u32],
+    work: &mut [u32],
+)
+    ensures { λ _.
+        ⌜ memory (now («edge_at» .exit)) (now («edge_n» .exit)) (now (id .exit)) (now (byte .exit)) (now (to .exit)) (now (work .exit))
+        ≡ cleared (memory (now («edge_at» .entry)) (now («edge_n» .entry)) (now (id .entry)) (now (byte .entry)) (now (to .entry)) (now (work .entry))) ⌝ }
+{
+    zero32(edge_at);
+    zero16(edge_n);
+    zero32(id);
+    zero8(byte);
+    zero32(to);
+    zero32(work);
+}
