@@ -20,7 +20,7 @@ use Rattle.unigram.proofs.Working.{Pieces, no-piece, looked, below-or, 
 some-same : {A : Type 0} {x y : A} → some x ≡ some y → x ≡ y
 some-same e = cc
 
-is-true : (t : Bool) → T t → t ≡ true
+pub is-true : (t : Bool) → T t → t ≡ true
 is-true true h = refl
 is-true false h = absurd h
 
@@ -102,8 +102,8 @@ module _ {boundary : ℕ → Bool} {end : ℕ} {P : ℕ → ℕ → Option Piece
       ⊎-elim
       (λ (e : P i j ≡ none). subst (λ (o : Option Slot). Q (scoreOf o)) (sym (passed P i j e)) (scores Q base more i j))
       (λ (w : (p : Piece) × (P i j ≡ some p)).
-          subst (λ (o : Option Slot). Q (scoreOf o)) (sym (worked P i j (w .0) (w .1)))
-          (offered-score Q (best P i j) (candidate (before i) i (w .0)) (scores Q base more i j) (more (before i) (w .0) (g .finite i j (w .0) (w .1)) (scores Q base more i i))))
+      subst (λ (o : Option Slot). Q (scoreOf o)) (sym (worked P i j (w .0) (w .1)))
+      (offered-score Q (best P i j) (candidate (before i) i (w .0)) (scores Q base more i j) (more (before i) (w .0) (g .finite i j (w .0) (w .1)) (scores Q base more i i))))
       (looked (P i j))
 
   pub score-number : (from j : ℕ) → T (isNumber (scoreOf (best P from j)))
@@ -142,17 +142,19 @@ module _ {boundary : ℕ → Bool} {end : ℕ} {P : ℕ → ℕ → Option Piece
   still i j o e (inl w) = inl (w .0, split {Q = λ k. P k j ≡ none} i (w .1) e)
   still i j o e (inr w) =
       let s = w .2 in
-      inr
-      (w .0, w .1,
-      record {
-        below = omega (arith, s .below);
-        piece = s .piece;
-        is = s .is;
-        named = s .named;
-        scored = s .scored;
-        greatest = λ k q l h. split {Q = λ n. (q : Piece) → P n j ≡ some q → T (atMost (cand n q) (w .0 .score))} i (λ n m q. s .greatest n q m) (λ q h. absurd (no-piece (sym e ∙ h))) k l q h;
-        earlier = s .earlier;
-      })
+      inr (
+        w .0,
+        w .1,
+        record {
+          below = omega (arith, s .below);
+          piece = s .piece;
+          is = s .is;
+          named = s .named;
+          scored = s .scored;
+          greatest = λ k q l h. split {Q = λ n. (q : Piece) → P n j ≡ some q → T (atMost (cand n q) (w .0 .score))} i (λ n m q. s .greatest n q m) (λ q h. absurd (no-piece (sym e ∙ h))) k l q h;
+          earlier = s .earlier;
+        },
+      )
 
   -- the candidate itself stands, where all before it are strictly less
   fresh : (i j : ℕ) (p : Piece) → P i j ≡ some p → ((k : ℕ) (q : Piece) → k < i → P k j ≡ some q → T (less (cand k q) (cand i p))) → Standing (suc i) j (candidate (before i) i p)
@@ -176,24 +178,27 @@ module _ {boundary : ℕ → Bool} {end : ℕ} {P : ℕ → ℕ → Option Piece
       → Status (suc i) j (some (offered o (candidate (before i) i p)))
   unfolding candidate
   weigh i j p o e r full s true h =
-      inr
-      (candidate (before i) i p,
-      ap (λ (x : Option Slot). some (offered x (candidate (before i) i p))) full ∙ ap some (takes r (candidate (before i) i p) h),
-      fresh i j p e (λ k q l f. at-most-less-trans (cand k q) (r .score) (cand i p) (s .greatest k q l f) (of-true h)))
+      inr (
+        candidate (before i) i p,
+        ap (λ (x : Option Slot). some (offered x (candidate (before i) i p))) full ∙ ap some (takes r (candidate (before i) i p) h),
+        fresh i j p e (λ k q l f. at-most-less-trans (cand k q) (r .score) (cand i p) (s .greatest k q l f) (of-true h)),
+      )
   weigh i j p o e r full s false h =
-      inr
-      (r, ap (λ (x : Option Slot). some (offered x (candidate (before i) i p))) full ∙ ap some (keeps r (candidate (before i) i p) h),
-      record {
-        below = omega (arith, s .below);
-        piece = s .piece;
-        is = s .is;
-        named = s .named;
-        scored = s .scored;
-        greatest = λ k q l f.
-            split {Q = λ n. (q : Piece) → P n j ≡ some q → T (atMost (cand n q) (r .score))} i (λ n m q. s .greatest n q m)
-            (λ q f. subst (λ (x : Piece). T (atMost (cand i x) (r .score))) (some-same (sym e ∙ f)) (not-less-at-most (r .score) (cand i p) number (cand-number i j p e) (of-false h))) k l q f;
-        earlier = s .earlier;
-      })
+      inr (
+        r,
+        ap (λ (x : Option Slot). some (offered x (candidate (before i) i p))) full ∙ ap some (keeps r (candidate (before i) i p) h),
+        record {
+          below = omega (arith, s .below);
+          piece = s .piece;
+          is = s .is;
+          named = s .named;
+          scored = s .scored;
+          greatest = λ k q l f.
+              split {Q = λ n. (q : Piece) → P n j ≡ some q → T (atMost (cand n q) (r .score))} i (λ n m q. s .greatest n q m)
+              (λ q f. subst (λ (x : Piece). T (atMost (cand i x) (r .score))) (some-same (sym e ∙ f)) (not-less-at-most (r .score) (cand i p) number (cand-number i j p e) (of-false h))) k l q f;
+          earlier = s .earlier;
+        },
+      )
     where
       number : T (isNumber (r .score))
       number = subst (λ (x : Double). T (isNumber x)) (s .scored) (cand-number (r .start) j (s .piece) (s .is))
@@ -211,7 +216,7 @@ module _ {boundary : ℕ → Bool} {end : ℕ} {P : ℕ → ℕ → Option Piece
       ⊎-elim
       (λ (e : P i j ≡ none). subst (Status (suc i) j) (sym (passed P i j e)) (still i j (best P i j) e (status i j)))
       (λ (w : (p : Piece) × (P i j ≡ some p)).
-          subst (Status (suc i) j) (sym (worked P i j (w .0) (w .1))) (offers i j (w .0) (best P i j) (w .1) (status i j)))
+      subst (Status (suc i) j) (sym (worked P i j (w .0) (w .1))) (offers i j (w .0) (best P i j) (w .1) (status i j)))
       (looked (P i j))
 
   -- ---- every boundary after the first has a record
@@ -228,8 +233,8 @@ module _ {boundary : ℕ → Bool} {end : ℕ} {P : ℕ → ℕ → Option Piece
       at-last false e earlier =
           ⊎-elim
           (λ (h : 0 < j).
-              let w = earlier h in
-              (w .0, omega (arith, w .1), w .2, λ k p q. split {Q = λ n. w .0 < n → boundary n ≡ false} j (λ n m r. w .3 n r m) (λ r. e) k q p))
+          let w = earlier h in
+          (w .0, omega (arith, w .1), w .2, λ k p q. split {Q = λ n. w .0 < n → boundary n ≡ false} j (λ n m r. w .3 n r m) (λ r. e) k q p))
           (λ (h : j ≤ 0). absurd (true-false (g .first) (ap boundary (let z : 0 ≡ j = omega arith in z) ∙ e)))
           (below-or 0 j)
 
@@ -263,8 +268,8 @@ module _ {boundary : ℕ → Bool} {end : ℕ} {P : ℕ → ℕ → Option Piece
       ⊎-elim
       (λ v. absurd (no-piece (sym (v .1 i (g .forward i j p e)) ∙ e)))
       (λ v.
-          subst (λ (x : Double). T (atMost (sum (total c) (p .score)) x)) (sym (score-of (v .0) (v .1)))
-          (at-most-trans (sum (total c) (p .score)) (cand i p) (v .0 .score) (sum-mono (total c) (before i) (p .score) (g .finite i j p e) (at-most-best c)) (v .2 .greatest i p (g .forward i j p e) e)))
+      subst (λ (x : Double). T (atMost (sum (total c) (p .score)) x)) (sym (score-of (v .0) (v .1)))
+      (at-most-trans (sum (total c) (p .score)) (cand i p) (v .0 .score) (sum-mono (total c) (before i) (p .score) (g .finite i j p e) (at-most-best c)) (v .2 .greatest i p (g .forward i j p e) e)))
       (status j j)
 
   -- and one of them scores just that
@@ -298,9 +303,9 @@ module _ {boundary : ℕ → Bool} {end : ℕ} {P : ℕ → ℕ → Option Piece
             earliest = λ k t e.
                 ⊎-elim
                 (λ (h : k < i).
-                    let p = t .last in
-                    let most : T (atMost (total (whole t)) (cand k p)) = sum-mono (total (t .before)) (before k) (p .score) (g .finite k j p (t .is)) (at-most-best (t .before)) in
-                    absurd (same-less (total (whole t)) (r .score) e (at-most-less-trans (total (whole t)) (cand k p) (r .score) most (s .earlier k p h (t .is)))))
+                let p = t .last in
+                let most : T (atMost (total (whole t)) (cand k p)) = sum-mono (total (t .before)) (before k) (p .score) (g .finite k j p (t .is)) (at-most-best (t .before)) in
+                absurd (same-less (total (whole t)) (r .score) e (at-most-less-trans (total (whole t)) (cand k p) (r .score) most (s .earlier k p h (t .is)))))
                 (λ (h : i ≤ k). h)
                 (below-or k i);
           }

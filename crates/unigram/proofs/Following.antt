@@ -129,13 +129,14 @@ module _ {boundary : ℕ → Bool} {end : ℕ} {P : ℕ → ℕ → Option Piece
   adds n j l inside at =
       back (λ es j. Chain P 0 es j × (added P plusZero 0 es ≡ scoreOf (best P j j))) (refl, sym (ap scoreOf (none-before P 0)))
       (λ i j es r l inside b full s e c.
-          let p = s .piece in
-          let is : P i j ≡ some p = ap (λ (k : ℕ). P k j) (sym e) ∙ s .is in
-          (chain-more P 0 i j es p (r .id) (c .0) is (s .named),
-          added-more P plusZero 0 i j es p (r .id) (c .0) is
-          ∙ ap (λ (x : Double). sum x (p .score)) (c .1 ∙ ap (λ (k : ℕ). scoreOf (best P k k)) (sym e))
-          ∙ s .scored
-          ∙ sym (score-of r full)))
+      let p = s .piece in
+      let is : P i j ≡ some p = ap (λ (k : ℕ). P k j) (sym e) ∙ s .is in (
+        chain-more P 0 i j es p (r .id) (c .0) is (s .named),
+        added-more P plusZero 0 i j es p (r .id) (c .0) is
+            ∙ ap (λ (x : Double). sum x (p .score)) (c .1 ∙ ap (λ (k : ℕ). scoreOf (best P k k)) (sym e))
+            ∙ s .scored
+            ∙ sym (score-of r full),
+      ))
       n j l inside at .1
 
   -- joined they are the text before j: they cover every byte once
@@ -148,16 +149,16 @@ module _ {boundary : ℕ → Bool} {end : ℕ} {P : ℕ → ℕ → Option Piece
   few rank rises =
       back (λ es j. length es ≤ rank j) (omega arith)
       (λ i j es r l inside b full s e c.
-          omega (arith, length-append es (piece-to j (r .id) ∷ []), rises i j (s .piece) (ap (λ (k : ℕ). P k j) (sym e) ∙ s .is)))
+      omega (arith, length-append es (piece-to j (r .id) ∷ []), rises i j (s .piece) (ap (λ (k : ℕ). P k j) (sym e) ∙ s .is)))
 
   -- each piece has the id of the record where it ends
   pub named : (idOf : ℕ → ℕ) → ((j : ℕ) (r : Slot) → j ≤ end → best P j j ≡ some r → idOf j ≡ r .id) → (n j : ℕ) → j ≤ n → j ≤ end → boundary j ≡ true → followed P n j ≡ map (λ k. piece-to k (idOf k)) (map (λ e. e .end) (followed P n j))
   named idOf same =
       back (λ es j. es ≡ map (λ k. piece-to k (idOf k)) (map (λ e. e .end) es)) refl
       (λ i j es r l inside b full s e c.
-          ap (λ (x : ℕ). es ++ (piece-to j x ∷ [])) (sym (same j r inside full))
-          ∙ ap (λ (x : List Step). x ++ (piece-to j (idOf j) ∷ [])) c
-          ∙ sym (map-map-more (λ e. e .end) (λ k. piece-to k (idOf k)) es (piece-to j (r .id))))
+      ap (λ (x : ℕ). es ++ (piece-to j x ∷ [])) (sym (same j r inside full))
+      ∙ ap (λ (x : List Step). x ++ (piece-to j (idOf j) ∷ [])) c
+      ∙ sym (map-map-more (λ e. e .end) (λ k. piece-to k (idOf k)) es (piece-to j (r .id))))
 
 -- the ends of a chain rise, and lie inside
 pub data Ends (n : ℕ) : ℕ → List ℕ → Type 0 where

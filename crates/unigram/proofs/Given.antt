@@ -85,11 +85,11 @@ module _ (m : Model) (s : List ℕ) (well : wellFormed s ≡ true) (sound : Soun
   finite-piece i j p e =
       ⊎-elim
       (λ (k : known m (part s i j) ≡ some p).
-          let w = known-node m (part s i j) p k in
-          let inside = walk-inside (sound .parts) 0 (part s i j) (sound .parts .some-node) (w .1) in
-          subst (λ (x : Double). T (isFinite x)) (sym (w .2)) (true-test (sound .finite (w .0) (omega (arith, inside, sound .level-score)))))
+      let w = known-node m (part s i j) p k in
+      let inside = walk-inside (sound .parts) 0 (part s i j) (sound .parts .some-node) (w .1) in
+      subst (λ (x : Double). T (isFinite x)) (sym (w .2)) (true-test (sound .finite (w .0) (omega (arith, inside, sound .level-score)))))
       (λ (w : (known m (part s i j) ≡ none) × (eqb j (next s i) ≡ true) × (m .unknown ≡ p)).
-          subst (λ (x : Piece). T (isFinite (x .score))) (w .2) (true-test (sound .finite-unknown)))
+      subst (λ (x : Piece). T (isFinite (x .score))) (w .2) (true-test (sound .finite-unknown)))
       (here-known (known m (part s i j)) (eqb j (next s i)) (m .unknown) p (between m s i j p e .here))
 
   pub given : Pieces (boundary s) (length s) (pieceOf m s)
@@ -103,12 +103,14 @@ module _ (m : Model) (s : List ℕ) (well : wellFormed s ≡ true) (sound : Soun
         finite = finite-piece;
         single = λ i l at.
             let j = next s i in
-            let w = one-there (known m (part s i j)) (m .unknown) in
-            (j, w .0,
-            piece-between m s i j (next-above s well i at l) at (next-boundary s well i at l)
-            ∙ ap (λ (t : Bool). pieceHere (known m (part s i j)) t (m .unknown)) (eq-eqb j j refl)
-            ∙ w .1,
-            next-first s well i at l);
+            let w = one-there (known m (part s i j)) (m .unknown) in (
+              j,
+              w .0,
+              piece-between m s i j (next-above s well i at l) at (next-boundary s well i at l)
+                  ∙ ap (λ (t : Bool). pieceHere (known m (part s i j)) t (m .unknown)) (eq-eqb j j refl)
+                  ∙ w .1,
+              next-first s well i at l,
+            );
       }
 
   -- a piece takes at least one character

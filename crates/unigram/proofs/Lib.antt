@@ -11,3 +11,5 @@ pub mod Following
 pub mod Merging
 -- a Unigram trie's pieces meet what these laws ask
 pub mod Given
+-- demand 3 of the slots that are left
+pub mod RecordLaws
