@@ -13,3 +13,5 @@ pub mod Merging
 pub mod Given
 -- demand 3 of the slots that are left
 pub mod RecordLaws
+-- slots in their columns
+pub mod Columns

@@ -2,6 +2,7 @@
 pub mod Build
 pub mod Cuttings
 pub mod Records
+pub mod Slots
 pub mod Runs
 pub mod Pieces
 pub mod Segment
