@@ -4,10 +4,10 @@ use mathlib.Core.Bool.{Bool, true, false, cond}
 use mathlib.Core.List.{List, [], _∷_, map}
 use mathlib.Core.Logic.{_⊎_, inl, inr, ⊎-elim}
 use mathlib.Core.Option.{Option, none, some}
-use Prim.Native.Nat.{ℕ, zero, suc, _≤_, _<_}
+use Prim.Native.Nat.{ℕ, zero, suc, _+_, _≤_, _<_}
 use native.Mathlib.Omega.{arith}
-use borrow.Author.Tests.{eq-eqb, ne-eqb, eqb-true, eqb-false}
-use lib.Dec.{eqb}
+use borrow.Author.Tests.{eq-eqb, ne-eqb, eqb-true, eqb-false, lt-ltb, le-ltb, lt-leb, le-leb}
+use lib.Dec.{eqb, ltb, leb}
 use lib.Ieee.{Float}
 use lib.ListN.{length, getD, set, length-map}
 use lib.Seq.{getD-set-same, getD-set-other}
@@ -17,6 +17,8 @@ use Rattle.refusal.specs.Sizes.{noId}
 use Rattle.unigram.specs.Cuttings.{Piece, Slot}
 use Rattle.unigram.specs.Records.{offered, candidate, shown}
 use Rattle.unigram.specs.Slots.{Slots, slotsOf, slotAt, Inside, PutAt, taken, afterOffer}
+use Rattle.unigram.specs.Work.{Cleared}
+use Rattle.unigram.proofs.Working.{below-or}
 use Rattle.unigram.proofs.Best.{same-slot}
 
 -- ---- places
@@ -99,3 +101,49 @@ module _ (r q : Slot) (full : r .start ≡ noId → ⊥) where
 
   pub taken-kept : less (r .score) (q .score) ≡ false → r ≡ taken r q
   taken-kept e = sym (taken-weighed ∙ ap (λ (t : Bool). cond t q r) e)
+
+-- ---- slots filled from the front
+
+-- the slots below n are f's, the others as they were before
+pub record Filled (f : ℕ → Slot) (before : Slots) (n : ℕ) (now : Slots) : Type 0 where
+  pub slots : (k : ℕ) → slotAt now k ≡ cond (ltb k n) (f k) (slotAt before k)
+
+module _ {f : ℕ → Slot} {before : Slots} where
+  -- below n
+  pub filled-below : {n : ℕ} {now : Slots} → Filled f before n now → (k : ℕ) → k < n → slotAt now k ≡ f k
+  filled-below {n} w k l = w .slots k ∙ ap (λ (t : Bool). cond t (f k) (slotAt before k)) (lt-ltb k n l)
+
+  -- and from n on
+  pub filled-above : {n : ℕ} {now : Slots} → Filled f before n now → (k : ℕ) → n ≤ k → slotAt now k ≡ slotAt before k
+  filled-above {n} w k l = w .slots k ∙ ap (λ (t : Bool). cond t (f k) (slotAt before k)) (le-ltb k n l)
+
+  pub filled-of : (n : ℕ) (now : Slots) → ((k : ℕ) → k < n → slotAt now k ≡ f k) → ((k : ℕ) → n ≤ k → slotAt now k ≡ slotAt before k) → Filled f before n now
+  filled-of n now low high = record { slots = λ k. ⊎-elim (λ (l : k < n). low k l ∙ sym (ap (λ (t : Bool). cond t (f k) (slotAt before k)) (lt-ltb k n l))) (λ (l : n ≤ k). high k l ∙ sym (ap (λ (t : Bool). cond t (f k) (slotAt before k)) (le-ltb k n l))) (below-or k n) }
+
+  -- one slot more
+  pub filled-more : {n : ℕ} {now after : Slots} → Filled f before n now → PutAt now n (f n) after → Filled f before (n + 1) after
+  filled-more {n} {now} {after} w p =
+      filled-of (n + 1) after
+      (λ k l.
+      ⊎-elim (λ (h : k < n). elsewhere k (λ e. omega arith) ∙ filled-below w k h)
+      (λ (h : n ≤ k). let e : k ≡ n = omega arith in p .slots k ∙ ap (λ (t : Bool). cond t (f n) (slotAt now k)) (eq-eqb k n e) ∙ ap f (sym e))
+      (below-or k n))
+      (λ k l. elsewhere k (λ e. omega arith) ∙ filled-above w k (omega arith))
+    where
+      elsewhere : (k : ℕ) → (k ≡ n → ⊥) → slotAt after k ≡ slotAt now k
+      elsewhere k h = p .slots k ∙ ap (λ (t : Bool). cond t (f n) (slotAt now k)) (ne-eqb k n h)
+
+-- the slots up to n are empty
+pub cleared : {before now : Slots} {n j : ℕ} → n < j → j ≤ n + 1 → Filled (λ k. shown none) before j now → Cleared before n now
+cleared {before} {now} {n} {j} l h w =
+    record {
+      slots = λ k.
+          ⊎-elim (λ (p : k < suc n). filled-below w k (omega arith) ∙ sym (ap (λ (t : Bool). cond t (shown none) (slotAt before k)) (le-leb k n (omega arith))))
+          (λ (p : suc n ≤ k). filled-above w k (omega arith) ∙ sym (ap (λ (t : Bool). cond t (shown none) (slotAt before k)) (lt-leb k n p)))
+          (below-or k (suc n));
+    }
+
+-- the empty slot as the code writes it
+pub empty-slot : (q : Slot) → q .start ≡ noId → q .id ≡ noId → q .score ≡ plusZero → q ≡ shown none
+unfolding shown
+empty-slot q a b c = same-slot q (shown none) a b c

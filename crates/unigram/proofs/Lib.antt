@@ -15,3 +15,5 @@ pub mod Given
 pub mod RecordLaws
 -- slots in their columns
 pub mod Columns
+-- the work at one boundary
+pub mod Offering

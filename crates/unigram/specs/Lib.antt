@@ -5,4 +5,5 @@ pub mod Records
 pub mod Slots
 pub mod Runs
 pub mod Pieces
+pub mod Work
 pub mod Segment

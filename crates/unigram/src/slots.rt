@@ -2,6 +2,7 @@
 ghost use mathlib.Core.Path.{_≡_};
 ghost use Rattle.unigram.specs.Cuttings.{Slot};
 ghost use Rattle.unigram.specs.Slots.{slotsOf, slotAt, held, Inside, PutAt, taken};
+ghost use Rattle.unigram.specs.Work.{Cleared};
 
 // "empty (start and id 4,294,967,295, score 0)"
 const EMPTY: u32 = 4_294_967_295;
@@ -53,5 +54,27 @@ pub(crate) fn offer(
     }
     if doubles::better(q.score, standing.score) {
         put(start, slot_id, slot_score, j, q);
+    }
+}
+
+// Empties the slots up to n: what they held before has no effect.
+pub(crate) fn clear(start: &mut [u32], slot_id: &mut [u32], slot_score: &mut [f64], n: usize)
+    requires { ⌜ Inside (now start) (now «slot_id») (now «slot_score») n ⌝ }
+    ensures { λ _. ⌜ Cleared (slotsOf (now (start .entry)) (now («slot_id» .entry)) (now («slot_score» .entry))) n (slotsOf (now (start .exit)) (now («slot_id» .exit)) (now («slot_score» .exit))) ⌝ }
+{
+    let mut j: usize = 0;
+    while j <= n {
+        put(
+            start,
+            slot_id,
+            slot_score,
+            j,
+            Slot {
+                start: EMPTY,
+                id: EMPTY,
+                score: 0.0,
+            },
+        );
+        j += 1;
     }
 }

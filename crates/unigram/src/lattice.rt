@@ -1,0 +1,56 @@
+// The records, filled boundary by boundary: each piece that starts at a boundary is offered to the slot where it ends.
+use crate::slots::Slot;
+use trie::checked::NodeId;
+use trie::checked::Step;
+use trie::checked::Walk;
+ghost use mathlib.Core.Path.{_≡_};
+ghost use mathlib.Core.List.{map};
+ghost use Prim.Native.Nat.{_≤_, _<_};
+ghost use lib.ListN.{length};
+ghost use Rattle.doubles.specs.Units.{units};
+ghost use Rattle.trie.specs.Trie.{partsOf};
+ghost use Rattle.trie.specs.Sound.{Sound};
+ghost use Rattle.unigram.specs.Cuttings.{Piece};
+ghost use Rattle.unigram.specs.Pieces.{Model};
+ghost use Rattle.unigram.specs.Slots.{slotsOf, Inside};
+ghost use Rattle.unigram.specs.Work.{modelOf, pieceWith, Ended, KnownOffered, Come, Worked};
+
+// A walk from `at` has come to `node` at i. If i is a boundary and the node has an id, the piece is offered to the slot at i. Answers `single`, or
+// true where that piece ends at `one`.
+fn end_at(
+    id: &[u32],
+    score: &[f64],
+    text: &[u8],
+    node: u32,
+    i: usize,
+    one: usize,
+    single: bool,
+    at: usize,
+    till: f64,
+    start: &mut [u32],
+    slot_id: &mut [u32],
+    slot_score: &mut [f64],
+) -> bool
+    requires { ⌜ (node < length (now id)) × (node < length (now score)) × (at ≤ 65536) × Inside (now start) (now «slot_id») (now «slot_score») i ⌝ }
+    ensures { λ r. ⌜ ((m : Model) → m .trie .id ≡ now (id .entry) → m .score ≡ map units (now (score .entry)) → Ended m (now (text .entry)) node i one single at (units till) (slotsOf (now (start .entry)) (now («slot_id» .entry)) (now («slot_score» .entry))) (slotsOf (now (start .exit)) (now («slot_id» .exit)) (now («slot_score» .exit))) r) ⌝ }
+{
+    if !text::utf8::is_boundary(text, i) {
+        return single;
+    }
+    match trie::checked::id_at(id, Walk { node }) {
+        NodeId::Is(x) => {
+            let k = node as usize;
+            let q = Slot {
+                start: at as u32,
+                id: x,
+                score: doubles::added(till, score[k]),
+            };
+            crate::slots::offer(start, slot_id, slot_score, i, q);
+            if i == one {
+                return true;
+            }
+            single
+        }
+        NodeId::Missing => single,
+    }
+}
