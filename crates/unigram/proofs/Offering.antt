@@ -76,3 +76,167 @@ module _ (m : Model) (s : List ℕ) (node i one : ℕ) (single : Bool) (at : ℕ
         put = put-as put (ap (λ (o : Option Piece). afterOffer o x at (slotAt b i)) (sym e));
         seen = seen ∙ or-that single (eqb i one) ∙ ap (λ (o : Option Piece). single || (eqb i one && isSome o)) (sym e);
       }
+
+-- ---- the string that a walk from `at` has come to
+
+pub known-none : (m : Model) (s : List ℕ) → walk (m .trie) 0 s ≡ none → known m s ≡ none
+unfolding known
+known-none m s e = ap (λ (o : Option ℕ). elim o [ none ↦ none | some k ↦ pieceAt m k ]) e
+
+pub known-at : (m : Model) (s : List ℕ) (k : ℕ) → walk (m .trie) 0 s ≡ some k → known m s ≡ pieceAt m k
+unfolding known
+known-at m s k e = ap (λ (o : Option ℕ). elim o [ none ↦ none | some k ↦ pieceAt m k ]) e
+
+module _ (m : Model) (s : List ℕ) (at : ℕ) where
+  both-true : {a b : Bool} → a ≡ true → b ≡ true → a && b ≡ true
+  both-true {a} {b} p q = ap (λ (t : Bool). t && b) p ∙ q
+
+  first-false : {a : Bool} (b : Bool) → a ≡ false → a && b ≡ false
+  first-false b p = ap (λ (t : Bool). t && b) p
+
+  second-false : (a : Bool) {b : Bool} → b ≡ false → a && b ≡ false
+  second-false true p = p
+  second-false false p = refl
+
+  to-known : (j : ℕ) (t : Bool) → ltb at j && boundary s j ≡ t → knownTo m s at j ≡ elim t [ true ↦ known m (part s at j) | false ↦ none ]
+  unfolding knownTo
+  to-known j t e = ap (λ (b : Bool). elim b [ true ↦ known m (part s at j) | false ↦ none ]) e
+
+  pub known-on : (j : ℕ) → at < j → boundary s j ≡ true → knownTo m s at j ≡ known m (part s at j)
+  known-on j l e = to-known j true (both-true (lt-ltb at j l) e)
+
+  pub known-off : (j : ℕ) → boundary s j ≡ false → knownTo m s at j ≡ none
+  known-off j e = to-known j false (second-false (ltb at j) e)
+
+  pub known-back : (j : ℕ) → j ≤ at → knownTo m s at j ≡ none
+  known-back j l = to-known j false (first-false (boundary s j) (le-ltb at j l))
+
+  -- no string passes the end
+  pub known-past : (j : ℕ) → length s < j → knownTo m s at j ≡ none
+  known-past j l = by-test (boundary s j) refl
+    where
+      by-test : (t : Bool) → boundary s j ≡ t → knownTo m s at j ≡ none
+      by-test true e = absurd (let h : j ≤ length s = boundary-le s j e in omega arith)
+      by-test false e = known-off j e
+
+  -- nor one where the walk has stopped
+  pub known-stopped : (j : ℕ) → (at < j → walk (m .trie) 0 (part s at j) ≡ none) → knownTo m s at j ≡ none
+  known-stopped j none-there = ⊎-elim (λ (l : at < j). by-test l (boundary s j) refl) (λ (l : j ≤ at). known-back j l) (below-or at j)
+    where
+      by-test : at < j → (t : Bool) → boundary s j ≡ t → knownTo m s at j ≡ none
+      by-test l true e = known-on j l e ∙ known-none m (part s at j) (none-there l)
+      by-test l false e = known-off j e
+
+  -- what ends at the walk's node is the string so far
+  pub ends-known : (i k : ℕ) → at < i → walk (m .trie) 0 (part s at i) ≡ some k → endsHere m s k i ≡ knownTo m s at i
+  ends-known i k l w = by-test (boundary s i) refl
+    where
+      by-test : (t : Bool) → boundary s i ≡ t → endsHere m s k i ≡ knownTo m s at i
+      by-test true e = ends-on m k s i e ∙ sym (known-on i l e ∙ known-at m (part s at i) k w)
+      by-test false e = ends-off m k s i e ∙ sym (known-off i e)
+
+  -- one byte more
+  part-more : (i : ℕ) → at ≤ i → i < length s → part s at (i + 1) ≡ part s at i ++ (getD s i 0 ∷ [])
+  part-more i l h =
+      let e : (i + 1) - at ≡ suc (i - at) = omega arith in
+      let there : at + (i - at) ≡ i = omega arith in
+      ap (λ (n : ℕ). take n (drop at s)) e
+      ∙ take-suc (drop at s) (i - at) 0 (omega (arith, length-drop at s))
+      ∙ ap (λ (b : ℕ). part s at i ++ (b ∷ [])) (getD-drop at s (i - at) 0 ∙ ap (λ (n : ℕ). getD s n 0) there)
+
+  pub walk-none-yet : walk (m .trie) 0 (part s at at) ≡ some 0
+  walk-none-yet = ap (λ (n : ℕ). walk (m .trie) 0 (take n (drop at s))) (let e : at - at ≡ 0 = omega arith in e) ∙ walk-nil (m .trie) 0
+
+  module _ (i k : ℕ) (l : at ≤ i) (h : i < length s) (w : walk (m .trie) 0 (part s at i) ≡ some k) where
+    stepped : walk (m .trie) 0 (part s at (i + 1)) ≡ step (m .trie) k (getD s i 0)
+    unfolding bind
+    stepped =
+        ap (walk (m .trie) 0) (part-more i l h)
+        ∙ walk-snoc (m .trie) 0 (part s at i) (getD s i 0)
+        ∙ ap (λ (o : Option ℕ). bind o (λ j. step (m .trie) j (getD s i 0))) w
+
+    pub walk-on : (j : ℕ) → step (m .trie) k (getD s i 0) ≡ some j → walk (m .trie) 0 (part s at (i + 1)) ≡ some j
+    walk-on j e = stepped ∙ e
+
+    -- where the walk stops no longer string has an id
+    pub walk-over : step (m .trie) k (getD s i 0) ≡ none → (j : ℕ) → i < j → knownTo m s at j ≡ none
+    walk-over e j p =
+        known-stopped j
+        (λ q.
+        let n = (i + 1) - at in
+        let all : n + (j - (i + 1)) ≡ j - at = omega arith in
+        ap (λ (u : ℕ). walk (m .trie) 0 (take u (drop at s))) (sym all)
+        ∙ ap (walk (m .trie) 0) (take-add n (j - (i + 1)) (drop at s))
+        ∙ walk-append-none (m .trie) 0 (part s at (i + 1)) (take (j - (i + 1)) (drop n (drop at s))) (stepped ∙ e))
+
+-- ---- the turns of the walk
+
+or-no : (a b : Bool) → (a || (false && b)) ≡ a
+or-no true b = refl
+or-no false b = refl
+
+-- a test passed at `one`, once the walk has come one byte further
+spot : (f : ℕ → Bool) (one i : ℕ) → ((leb one i && f one) || (eqb (i + 1) one && f (i + 1))) ≡ (leb one (i + 1) && f one)
+spot f one i =
+    ⊎-elim
+    (λ (l : i < one).
+    ⊎-elim
+    (λ (k : i + 1 < one). left false false (lt-leb one i l) (ne-eqb (i + 1) one (λ e. omega arith)) ∙ sym (right false (lt-leb one (i + 1) k)))
+    (λ (k : one ≤ i + 1).
+    let e : i + 1 ≡ one = omega arith in
+    left false true (lt-leb one i l) (eq-eqb (i + 1) one e) ∙ ap f e ∙ sym (right true (le-leb one (i + 1) k)))
+    (below-or (i + 1) one))
+    (λ (l : one ≤ i).
+    left true false (le-leb one i l) (ne-eqb (i + 1) one (λ e. omega arith))
+    ∙ or-no (f one) (f (i + 1))
+    ∙ sym (right true (le-leb one (i + 1) (omega arith))))
+    (below-or i one)
+  where
+    left : (u v : Bool) → leb one i ≡ u → eqb (i + 1) one ≡ v → ((leb one i && f one) || (eqb (i + 1) one && f (i + 1))) ≡ ((u && f one) || (v && f (i + 1)))
+    left u v p q = ap (λ (t : Bool). (t && f one) || (eqb (i + 1) one && f (i + 1))) p ∙ ap (λ (t : Bool). (u && f one) || (t && f (i + 1))) q
+
+    right : (w : Bool) → leb one (i + 1) ≡ w → (leb one (i + 1) && f one) ≡ (w && f one)
+    right w p = ap (λ (t : Bool). t && f one) p
+
+module _ (m : Model) (s : List ℕ) (at one : ℕ) (x : Double) (b : Slots) where
+  -- the slots, and whether a string of one character was seen, once the walk has come to i
+  abbrev goal : ℕ → Slot
+  goal k = afterOffer (knownTo m s at k) x at (slotAt b k)
+
+  pub record Offered (i : ℕ) (now : Slots) (single : Bool) : Type 0 where
+    pub slots : Filled goal b (i + 1) now
+    pub seen : single ≡ (leb one i && isSome (knownTo m s at one))
+
+  untouched : (k : ℕ) → knownTo m s at k ≡ none → slotAt b k ≡ goal k
+  unfolding afterOffer
+  untouched k e = ap (λ (o : Option Piece). afterOffer o x at (slotAt b k)) (sym e)
+
+  pub offered-none : at < one → Offered at b false
+  offered-none l =
+      record {
+        slots = filled-of (at + 1) b (λ k h. untouched k (known-back m s at k (omega arith))) (λ k h. refl);
+        seen = ap (λ (t : Bool). t && isSome (knownTo m s at one)) (sym (lt-leb one at l));
+      }
+
+  pub offered-more : {i node : ℕ} {now after : Slots} {single r : Bool} → at ≤ i → walk (m .trie) 0 (part s at (i + 1)) ≡ some node → Offered i now single → Ended m s node (i + 1) one single at x now after r → Offered (i + 1) after r
+  offered-more {i} {node} {now} {after} {single} {r} l w o e =
+      record {
+        slots =
+            filled-more (o .slots)
+            (put-as (e .put)
+            (ap (λ (q : Slot). afterOffer (endsHere m s node (i + 1)) x at q) (filled-above (o .slots) (i + 1) (omega arith))
+            ∙ ap (λ (p : Option Piece). afterOffer p x at (slotAt b (i + 1))) ends));
+        seen = e .seen ∙ ap (λ (p : Option Piece). single || (eqb (i + 1) one && isSome p)) ends ∙ ap (λ (t : Bool). t || (eqb (i + 1) one && isSome (knownTo m s at (i + 1)))) (o .seen) ∙ spot (λ k. isSome (knownTo m s at k)) one i;
+      }
+    where
+      ends : endsHere m s node (i + 1) ≡ knownTo m s at (i + 1)
+      ends = ends-known m s at (i + 1) node (omega arith) w
+
+  pub offered-all : {i : ℕ} {now : Slots} {single : Bool} → Offered i now single → ((j : ℕ) → i < j → knownTo m s at j ≡ none) → KnownOffered m s at one x b now single
+  unfolding isSome
+  offered-all {i} {now} {single} o none-past =
+      record {
+        slots = λ k.
+            ⊎-elim (λ (l : k < i + 1). filled-below (o .slots) k l) (λ (l : i + 1 ≤ k). filled-above (o .slots) k l ∙ untouched k (none-past k (omega arith))) (below-or k (i + 1));
+        seen = o .seen ∙ ⊎-elim (λ (l : i < one). ap (λ (t : Bool). t && isSome (knownTo m s at one)) (lt-leb one i l) ∙ ap isSome (sym (none-past one l))) (λ (l : one ≤ i). ap (λ (t : Bool). t && isSome (knownTo m s at one)) (le-leb one i l)) (below-or i one);
+      }

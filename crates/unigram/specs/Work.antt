@@ -12,7 +12,7 @@ use Rattle.doubles.specs.Units.{units}
 use Rattle.refusal.specs.Sizes.{maxText}
 use Rattle.text.specs.Text.{wellFormed, boundary, next, part}
 use Rattle.trie.specs.Trie.{partsOf}
-use Rattle.trie.specs.Sound.{SoundScored}
+use Rattle.trie.specs.Sound.{Sound, SoundScored}
 use Rattle.unigram.specs.Cuttings.{Piece, Best}
 use Rattle.unigram.specs.Records.{best, shown}
 use Rattle.unigram.specs.Pieces.{Model, pieceAt, known, pieceOf}
@@ -45,6 +45,14 @@ pub record Ended (m : Model) (s : List ℕ) (node i one : ℕ) (single : Bool) (
 -- the string from `at` to j with an id, where j is a boundary
 unfoldable pub knownTo : Model → List ℕ → ℕ → ℕ → Option Piece
 knownTo m s at j = elim (ltb at j && boundary s j) [ true ↦ known m (part s at j) | false ↦ none ]
+
+-- a walk may be begun at `at`, in sound parts with a score for each node; `one` is past it, and the text is within the limit
+pub record Walkable (edgeAt edgeN id : List ℕ) (score : List Float) (byte to s : List ℕ) (at one : ℕ) : Type 0 where
+  pub parts : Sound (partsOf edgeAt edgeN id byte to)
+  pub level-score : length score ≡ length edgeAt
+  pub inside : at ≤ length s
+  pub ahead : at < one
+  pub size : length s ≤ maxText
 
 -- Each string with an id that starts at `at` has been offered, and r says whether one is `one - at` bytes long.
 pub record KnownOffered (m : Model) (s : List ℕ) (at one : ℕ) (x : Double) (before after : Slots) (r : Bool) : Type 0 where

@@ -13,7 +13,7 @@ ghost use Rattle.trie.specs.Sound.{Sound};
 ghost use Rattle.unigram.specs.Cuttings.{Piece};
 ghost use Rattle.unigram.specs.Pieces.{Model};
 ghost use Rattle.unigram.specs.Slots.{slotsOf, Inside};
-ghost use Rattle.unigram.specs.Work.{modelOf, pieceWith, Ended, KnownOffered, Come, Worked};
+ghost use Rattle.unigram.specs.Work.{modelOf, pieceWith, Ended, Walkable, KnownOffered, Come, Worked};
 
 // A walk from `at` has come to `node` at i. If i is a boundary and the node has an id, the piece is offered to the slot at i. Answers `single`, or
 // true where that piece ends at `one`.
@@ -53,4 +53,56 @@ fn end_at(
         }
         NodeId::Missing => single,
     }
+}
+
+// Offers each string with an id that starts at `at`, longer by a byte at each turn. Answers whether one of them ends at `one`. `till` is the
+// score that stands before them.
+fn offer_known(
+    edge_at: &[u32],
+    edge_n: &[u16],
+    id: &[u32],
+    score: &[f64],
+    byte: &[u8],
+    to: &[u32],
+    text: &[u8],
+    at: usize,
+    one: usize,
+    till: f64,
+    start: &mut [u32],
+    slot_id: &mut [u32],
+    slot_score: &mut [f64],
+) -> bool
+    requires { ⌜ Walkable (now «edge_at») (now «edge_n») (now id) (now score) (now byte) (now to) (now text) at one × Inside (now start) (now «slot_id») (now «slot_score») (length (now text)) ⌝ }
+    ensures { λ r. ⌜ ((u : Piece) → KnownOffered (modelOf (now («edge_at» .entry)) (now («edge_n» .entry)) (now (id .entry)) (now (score .entry)) (now (byte .entry)) (now (to .entry)) u) (now (text .entry)) at one (units till) (slotsOf (now (start .entry)) (now («slot_id» .entry)) (now («slot_score» .entry))) (slotsOf (now (start .exit)) (now («slot_id» .exit)) (now («slot_score» .exit))) r) ⌝ }
+{
+    let mut node: u32 = 0;
+    let mut single = false;
+    let mut i = at;
+    while i < text.len() {
+        let here = Walk { node };
+        match here.step(edge_at, edge_n, byte, to, text[i]) {
+            Step::To(next) => {
+                node = next.node;
+            }
+            Step::Stop => {
+                return single;
+            }
+        }
+        i += 1;
+        single = end_at(
+            id,
+            score,
+            text,
+            node,
+            i,
+            one,
+            single,
+            at,
+            till,
+            start,
+            slot_id,
+            slot_score,
+        );
+    }
+    single
 }
