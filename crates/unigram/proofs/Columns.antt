@@ -73,6 +73,11 @@ module _ (starts ids : List ℕ) (scores : List Float) (j : ℕ) (in-place : Ins
           (ap (λ (l : List Double). getD l k plusZero) (map-set units scores j z) ∙ set-at (map units scores) j k (units z) plusZero (omega (arith, in-place .score, length-map scores units)) false e)
           ∙ sym (ap (λ (t : Bool). cond t q (slotAt (slotsOf starts ids scores) k)) e)
 
+-- the score of a slot
+pub score-read : (starts ids : List ℕ) (scores : List Float) (j : ℕ) (d : Float) → j < length scores → units (getD scores j d) ≡ slotAt (slotsOf starts ids scores) j .score
+unfolding slotAt
+score-read starts ids scores j d l = sym (map-inside units scores j d plusZero l)
+
 -- ---- offers
 
 -- what is put may be called otherwise

@@ -240,3 +240,173 @@ module _ (m : Model) (s : List ℕ) (at one : ℕ) (x : Double) (b : Slots) wher
             ⊎-elim (λ (l : k < i + 1). filled-below (o .slots) k l) (λ (l : i + 1 ≤ k). filled-above (o .slots) k l ∙ untouched k (none-past k (omega arith))) (below-or k (i + 1));
         seen = o .seen ∙ ⊎-elim (λ (l : i < one). ap (λ (t : Bool). t && isSome (knownTo m s at one)) (lt-leb one i l) ∙ ap isSome (sym (none-past one l))) (λ (l : one ≤ i). ap (λ (t : Bool). t && isSome (knownTo m s at one)) (le-leb one i l)) (below-or i one);
       }
+
+-- ---- with the one character that has no id, that is every piece
+
+here-other : (o : Option Piece) (u : Piece) → pieceHere o false u ≡ o
+unfolding pieceHere
+here-other none u = refl
+here-other (some p) u = refl
+
+here-one : (o : Option Piece) (u p : Piece) → o ≡ some p → pieceHere o true u ≡ some p
+unfolding pieceHere
+here-one o u p e = ap (λ (q : Option Piece). pieceHere q true u) e
+
+here-unknown : (o : Option Piece) (u : Piece) → o ≡ none → pieceHere o true u ≡ some u
+unfolding pieceHere
+here-unknown o u e = ap (λ (q : Option Piece). pieceHere q true u) e
+
+is-some : (o : Option Piece) → isSome o ≡ true → (p : Piece) × (o ≡ some p)
+unfolding isSome
+is-some none e = absurd (true-false e refl)
+is-some (some p) e = (p, refl)
+
+is-none : (o : Option Piece) → isSome o ≡ false → o ≡ none
+unfolding isSome
+is-none none e = refl
+is-none (some p) e = absurd (true-false refl e)
+
+module _ (m : Model) (s : List ℕ) (at : ℕ) (on : boundary s at ≡ true) where
+  -- any other length
+  pub piece-known : (k : ℕ) → (k ≡ next s at → ⊥) → pieceOf m s at k ≡ knownTo m s at k
+  piece-known k other = by-tests (boundary s k) refl (below-or at k)
+    where
+      absent-piece : ((p : Piece) → pieceOf m s at k ≡ some p → ⊥) → pieceOf m s at k ≡ none
+      absent-piece no-such = ⊎-elim (λ (e : pieceOf m s at k ≡ none). e) (λ (w : (p : Piece) × (pieceOf m s at k ≡ some p)). absurd (no-such (w .0) (w .1))) (looked (pieceOf m s at k))
+
+      by-tests : (t : Bool) → boundary s k ≡ t → (at < k) ⊎ (k ≤ at) → pieceOf m s at k ≡ knownTo m s at k
+      by-tests true e (inl l) =
+          piece-between m s at k l on e
+          ∙ ap (λ (t : Bool). pieceHere (known m (part s at k)) t (m .unknown)) (ne-eqb k (next s at) other)
+          ∙ here-other (known m (part s at k)) (m .unknown)
+          ∙ sym (known-on m s at k l e)
+      by-tests true e (inr l) =
+          absent-piece (λ p q. let h : at < k = between m s at k p q .forward in omega arith) ∙ sym (known-back m s at k l)
+      by-tests false e w = absent-piece (λ p q. true-false (between m s at k p q .to) e) ∙ sym (known-off m s at k e)
+
+  module _ (well : wellFormed s ≡ true) (below : at < length s) where
+    one-char : pieceOf m s at (next s at) ≡ pieceHere (knownTo m s at (next s at)) true (m .unknown)
+    one-char =
+        let l = next-above s well at on below in
+        let e = next-boundary s well at on below in
+        piece-between m s at (next s at) l on e
+        ∙ ap (λ (t : Bool). pieceHere (known m (part s at (next s at))) t (m .unknown)) (eq-eqb (next s at) (next s at) refl)
+        ∙ ap (λ (o : Option Piece). pieceHere o true (m .unknown)) (sym (known-on m s at (next s at) l e))
+
+    -- each piece from `at` has been offered
+    pub record AllOffered (x : Double) (before after : Slots) : Type 0 where
+      pub slots : (k : ℕ) → slotAt after k ≡ afterOffer (pieceOf m s at k) x at (slotAt before k)
+
+    module _ {x : Double} {before after : Slots} {r : Bool} (o : KnownOffered m s at (next s at) x before after r) where
+      at-next : (k : ℕ) → (k ≡ next s at) ⊎ (k ≡ next s at → ⊥)
+      at-next k = ⊎-elim (λ (l : k < next s at). inr (λ e. omega arith)) (λ (l : next s at ≤ k). ⊎-elim (λ (h : next s at < k). inr (λ e. omega arith)) (λ (h : k ≤ next s at). inl (omega arith)) (below-or (next s at) k)) (below-or k (next s at))
+
+      -- a string of one character has an id
+      pub all-known : r ≡ true → AllOffered x before after
+      all-known e =
+          let w = is-some (knownTo m s at (next s at)) (sym (o .seen) ∙ e) in
+          let here : pieceOf m s at (next s at) ≡ knownTo m s at (next s at) = one-char ∙ here-one (knownTo m s at (next s at)) (m .unknown) (w .0) (w .1) ∙ sym (w .1) in
+          record {
+            slots = λ k.
+                o .slots k
+                ∙ ap (λ (p : Option Piece). afterOffer p x at (slotAt before k))
+                (sym (⊎-elim (λ (h : k ≡ next s at). subst (λ (n : ℕ). pieceOf m s at n ≡ knownTo m s at n) (sym h) here) (λ h. piece-known k h) (at-next k)));
+          }
+
+      -- none has, and the unknown piece is offered
+      pub all-unknown : {last : Slots} → r ≡ false → PutAt after (next s at) (taken (slotAt after (next s at)) (candidate x at (m .unknown))) last → AllOffered x before last
+      unfolding afterOffer
+      all-unknown {last} e put =
+          let n = next s at in
+          let missing : knownTo m s at n ≡ none = is-none (knownTo m s at n) (sym (o .seen) ∙ e) in
+          let here : pieceOf m s at n ≡ some (m .unknown) = one-char ∙ here-unknown (knownTo m s at n) (m .unknown) missing in
+          let was : slotAt after n ≡ slotAt before n = o .slots n ∙ ap (λ (p : Option Piece). afterOffer p x at (slotAt before n)) missing in
+          let now : slotAt last n ≡ afterOffer (pieceOf m s at n) x at (slotAt before n) =
+          put .slots n
+          ∙ ap (λ (t : Bool). cond t (taken (slotAt after n) (candidate x at (m .unknown))) (slotAt after n)) (eq-eqb n n refl)
+          ∙ ap (λ (q : Slot). taken q (candidate x at (m .unknown))) was
+          ∙ ap (λ (p : Option Piece). afterOffer p x at (slotAt before n)) (sym here)
+          in
+          record {
+            slots = λ k.
+                ⊎-elim
+                (λ (h : k ≡ n). subst (λ (i : ℕ). slotAt last i ≡ afterOffer (pieceOf m s at i) x at (slotAt before i)) (sym h) now)
+                (λ h.
+                put .slots k
+                ∙ ap (λ (t : Bool). cond t (taken (slotAt after n) (candidate x at (m .unknown))) (slotAt after k)) (ne-eqb k n h)
+                ∙ o .slots k
+                ∙ ap (λ (p : Option Piece). afterOffer p x at (slotAt before k)) (sym (piece-known k h)))
+                (at-next k);
+          }
+
+-- ---- the slots hold the records of one start more
+
+taken-shown : (o : Option Slot) (q : Slot) → ((r : Slot) → o ≡ some r → r .start ≡ noId → ⊥) → taken (shown o) q ≡ offered o q
+unfolding shown offered
+taken-shown none q full = taken-empty (shown none) q refl
+taken-shown (some r) q full = taken-weighed r q (full r refl)
+
+module _ {m : Model} {s : List ℕ} (ready : Ready m s) where
+  rule : Pieces (boundary s) (length s) (pieceOf m s)
+  rule = given m s (ready .well) (ready .sound)
+
+  -- a start is a position of the text, and no mark
+  start-small : (from k : ℕ) → from ≤ length s → (r : Slot) → best (pieceOf m s) from k ≡ some r → r .start ≡ noId → ⊥
+  start-small from k l r e mark =
+      ⊎-elim
+      (λ v. no-piece (sym (v .0) ∙ e))
+      (λ v. let h : v .0 .start < from = v .2 .below in let same : v .0 ≡ r = cc in let big = ready .size in omega (arith, ap (λ (q : Slot). q .start) same))
+      (status rule from k)
+
+  -- the law of demand 3 at a boundary that has been come to
+  pub best-held : (from : ℕ) (c : Slots) → Holds m s from c → (j : ℕ) → 0 < j → j ≤ from → j ≤ length s → boundary s j ≡ true → Best (pieceOf m s) j (slotAt c j)
+  unfolding shown
+  best-held from c h j l p inside at =
+      let w = filled rule j l inside at in
+      subst (Best (pieceOf m s) j) (sym (h .slots j inside ∙ ap shown (settled-le rule from j p ∙ w .1))) (is-best rule j (w .0) inside (w .1))
+
+  pub score-held : (from j : ℕ) (c : Slots) → Holds m s from c → j ≤ length s → slotAt c j .score ≡ scoreOf (best (pieceOf m s) from j)
+  unfolding shown scoreOf
+  score-held from j c h l = ap (λ (q : Slot). q .score) (h .slots j l) ∙ shown-score (best (pieceOf m s) from j)
+    where
+      shown-score : (o : Option Slot) → shown o .score ≡ scoreOf o
+      shown-score none = refl
+      shown-score (some r) = refl
+
+  module _ (at : ℕ) (on : boundary s at ≡ true) (below : at < length s) where
+    pub worked-all : {x : Double} {before after : Slots} → Holds m s at before → x ≡ slotAt before at .score → AllOffered m s at on (ready .well) below x before after → Worked m s at before after (next s at)
+    unfolding shown afterOffer
+    worked-all {x} {before} {after} h e o =
+        record {
+          next = refl;
+          holds = held-next;
+          best = λ j l p b. best-held (next s at) after held-next j l p (boundary-le s j b) b;
+          past = λ k l.
+              o .slots k
+              ∙ ap (λ (p : Option Piece). afterOffer p x at (slotAt before k)) (piece-known m s at on k (λ q. omega (arith, next-inside s (ready .well) at on below)) ∙ known-past m s at k l);
+        }
+      where
+        score : x ≡ scoreOf (best (pieceOf m s) at at)
+        score = e ∙ score-held at at before h (omega arith)
+
+        one-more : (k : ℕ) → k ≤ length s → afterOffer (pieceOf m s at k) x at (slotAt before k) ≡ shown (best (pieceOf m s) (suc at) k)
+        one-more k l =
+            ⊎-elim
+            (λ (n : pieceOf m s at k ≡ none).
+            ap (λ (p : Option Piece). afterOffer p x at (slotAt before k)) n ∙ h .slots k l ∙ ap shown (sym (passed (pieceOf m s) at k n)))
+            (λ (w : (p : Piece) × (pieceOf m s at k ≡ some p)).
+            ap (λ (p : Option Piece). afterOffer p x at (slotAt before k)) (w .1)
+            ∙ ap (λ (q : Slot). taken q (candidate x at (w .0))) (h .slots k l)
+            ∙ taken-shown (best (pieceOf m s) at k) (candidate x at (w .0)) (start-small at k (omega arith))
+            ∙ ap (λ (y : Double). offered (best (pieceOf m s) at k) (candidate y at (w .0))) score
+            ∙ sym (ap shown (worked (pieceOf m s) at k (w .0) (w .1))))
+            (looked (pieceOf m s at k))
+
+        held-next : Holds m s (next s at) after
+        held-next =
+            record {
+              slots = λ k l.
+                  o .slots k
+                  ∙ one-more k l
+                  ∙ ap shown (sym (jumped rule (suc at) (next s at) k (next-above s (ready .well) at on below) (λ i p q. next-first s (ready .well) at on below i p q)));
+            }

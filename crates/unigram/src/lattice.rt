@@ -106,3 +106,51 @@ fn offer_known(
     }
     single
 }
+
+// The work from the boundary `at` to the next, which it answers: each piece that starts here is offered. If no string with an id is exactly one
+// character long, that one character is also a piece, with the unknown id and score.
+pub(crate) fn work_at(
+    edge_at: &[u32],
+    edge_n: &[u16],
+    id: &[u32],
+    score: &[f64],
+    byte: &[u8],
+    to: &[u32],
+    unknown: u32,
+    unknown_score: f64,
+    text: &[u8],
+    at: usize,
+    start: &mut [u32],
+    slot_id: &mut [u32],
+    slot_score: &mut [f64],
+) -> usize
+    requires { ⌜ Come (modelOf (now «edge_at») (now «edge_n») (now id) (now score) (now byte) (now to) (pieceWith unknown «unknown_score»)) (now text) at (now start) (now «slot_id») (now «slot_score») (slotsOf (now start) (now «slot_id») (now «slot_score»)) ⌝ }
+    ensures { λ r. ⌜ Worked (modelOf (now («edge_at» .entry)) (now («edge_n» .entry)) (now (id .entry)) (now (score .entry)) (now (byte .entry)) (now (to .entry)) (pieceWith unknown «unknown_score»)) (now (text .entry)) at (slotsOf (now (start .entry)) (now («slot_id» .entry)) (now («slot_score» .entry))) (slotsOf (now (start .exit)) (now («slot_id» .exit)) (now («slot_score» .exit))) r ⌝ }
+{
+    let till = slot_score[at];
+    let one = at + text::lead::char_len(text[at]);
+    if offer_known(
+        edge_at,
+        edge_n,
+        id,
+        score,
+        byte,
+        to,
+        text,
+        at,
+        one,
+        till,
+        start,
+        slot_id,
+        slot_score,
+    ) {
+        return one;
+    }
+    let q = Slot {
+        start: at as u32,
+        id: unknown,
+        score: doubles::added(till, unknown_score),
+    };
+    crate::slots::offer(start, slot_id, slot_score, one, q);
+    one
+}
