@@ -22,8 +22,8 @@ use Rattle.unigram.specs.Cuttings.{Piece, Slot, Best}
 use Rattle.unigram.specs.Records.{scoreOf, offered, candidate, best, shown}
 use Rattle.unigram.specs.Pieces.{Model, pieceAt, known, pieceHere, pieceOf}
 use Rattle.unigram.specs.Slots.{Slots, slotAt, PutAt, taken, afterOffer}
-use Rattle.unigram.specs.Work.{isSome, endsHere, Ended, knownTo, KnownOffered, Holds, Ready, Worked}
-use Rattle.unigram.proofs.Working.{Pieces, no-piece, true-false, looked, below-or, worked, passed, jumped, settled-le}
+use Rattle.unigram.specs.Work.{Cleared, isSome, endsHere, Ended, knownTo, KnownOffered, Holds, Ready, Worked, Recorded}
+use Rattle.unigram.proofs.Working.{Pieces, no-piece, true-false, looked, below-or, worked, passed, none-before, jumped, settled-le}
 use Rattle.unigram.proofs.Best.{Standing, status, filled, is-best, score-of}
 use Rattle.unigram.proofs.Given.{given, piece-between, between}
 use Rattle.unigram.proofs.Columns.{put-as, put-back, taken-empty, taken-weighed, Filled, filled-of, filled-more, filled-below, filled-above}
@@ -410,3 +410,22 @@ module _ {m : Model} {s : List ℕ} (ready : Ready m s) where
                   ∙ one-more k l
                   ∙ ap shown (sym (jumped rule (suc at) (next s at) k (next-above s (ready .well) at on below) (λ i p q. next-first s (ready .well) at on below i p q)));
             }
+
+-- ---- before the first start, and after the last
+
+pub holds-none : {m : Model} {s : List ℕ} {before after : Slots} {n : ℕ} → n ≡ length s → Cleared before n after → Holds m s 0 after
+holds-none {m} {s} {before} {after} {n} e c =
+    record {
+      slots = λ k l.
+          c .slots k
+          ∙ ap (λ (t : Bool). cond t (shown none) (slotAt before k)) (le-leb k n (omega arith))
+          ∙ ap shown (sym (none-before (pieceOf m s) k));
+    }
+
+pub cleared-past : {before after : Slots} {n : ℕ} → Cleared before n after → (k : ℕ) → n < k → slotAt after k ≡ slotAt before k
+cleared-past {before} {after} {n} c k l = c .slots k ∙ ap (λ (t : Bool). cond t (shown none) (slotAt before k)) (lt-leb k n l)
+
+pub recorded : {m : Model} {s : List ℕ} (ready : Ready m s) {before after : Slots} (at : ℕ) → at ≡ length s → Holds m s at after → ((k : ℕ) → length s < k → slotAt after k ≡ slotAt before k) → Recorded m s before after
+recorded {m} {s} ready {before} {after} at e h past =
+    let all : Holds m s (length s) after = subst (λ (n : ℕ). Holds m s n after) e h in
+    record { holds = all; best = λ j l inside b. best-held ready (length s) after all j l inside inside b; past = past }

@@ -13,7 +13,7 @@ ghost use Rattle.trie.specs.Sound.{Sound};
 ghost use Rattle.unigram.specs.Cuttings.{Piece};
 ghost use Rattle.unigram.specs.Pieces.{Model};
 ghost use Rattle.unigram.specs.Slots.{slotsOf, Inside};
-ghost use Rattle.unigram.specs.Work.{modelOf, pieceWith, Ended, Walkable, KnownOffered, Come, Worked};
+ghost use Rattle.unigram.specs.Work.{modelOf, pieceWith, Ended, Walkable, KnownOffered, Ready, Come, Worked, Recorded};
 
 // A walk from `at` has come to `node` at i. If i is a boundary and the node has an id, the piece is offered to the slot at i. Answers `single`, or
 // true where that piece ends at `one`.
@@ -153,4 +153,43 @@ pub(crate) fn work_at(
     };
     crate::slots::offer(start, slot_id, slot_score, one, q);
     one
+}
+
+// Fills the slots up to the text's length with the records, boundary by boundary.
+pub(crate) fn fill(
+    edge_at: &[u32],
+    edge_n: &[u16],
+    id: &[u32],
+    score: &[f64],
+    byte: &[u8],
+    to: &[u32],
+    unknown: u32,
+    unknown_score: f64,
+    text: &[u8],
+    start: &mut [u32],
+    slot_id: &mut [u32],
+    slot_score: &mut [f64],
+)
+    requires { ⌜ Ready (modelOf (now «edge_at») (now «edge_n») (now id) (now score) (now byte) (now to) (pieceWith unknown «unknown_score»)) (now text) × Inside (now start) (now «slot_id») (now «slot_score») (length (now text)) ⌝ }
+    ensures { λ _. ⌜ Recorded (modelOf (now («edge_at» .entry)) (now («edge_n» .entry)) (now (id .entry)) (now (score .entry)) (now (byte .entry)) (now (to .entry)) (pieceWith unknown «unknown_score»)) (now (text .entry)) (slotsOf (now (start .entry)) (now («slot_id» .entry)) (now («slot_score» .entry))) (slotsOf (now (start .exit)) (now («slot_id» .exit)) (now («slot_score» .exit))) ⌝ }
+{
+    crate::slots::clear(start, slot_id, slot_score, text.len());
+    let mut at: usize = 0;
+    while at < text.len() {
+        at = work_at(
+            edge_at,
+            edge_n,
+            id,
+            score,
+            byte,
+            to,
+            unknown,
+            unknown_score,
+            text,
+            at,
+            start,
+            slot_id,
+            slot_score,
+        );
+    }
 }
