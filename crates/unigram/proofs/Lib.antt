@@ -17,3 +17,5 @@ pub mod RecordLaws
 pub mod Columns
 -- the work at one boundary
 pub mod Offering
+-- the path by the start column
+pub mod Tracing

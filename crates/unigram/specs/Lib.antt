@@ -6,4 +6,5 @@ pub mod Slots
 pub mod Runs
 pub mod Pieces
 pub mod Work
+pub mod Tracing
 pub mod Segment
