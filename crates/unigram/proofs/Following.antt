@@ -13,6 +13,7 @@ use lib.Seq.{take-add, drop-drop}
 use Rattle.doubles.specs.Double.{Double, plusZero, sum}
 use Rattle.unigram.specs.Cuttings.{Piece, Slot, Step, Chain, joined, added}
 use Rattle.unigram.specs.Records.{scoreOf, best, followed}
+use Rattle.unigram.specs.Merge.{Ends, no-more, and-then}
 use Rattle.unigram.proofs.Working.{Pieces, no-piece, none-before, first-empty}
 use Rattle.unigram.proofs.Best.{Standing, filled, score-of}
 
@@ -161,10 +162,6 @@ module _ {boundary : ℕ → Bool} {end : ℕ} {P : ℕ → ℕ → Option Piece
       ∙ sym (map-map-more (λ e. e .end) (λ k. piece-to k (idOf k)) es (piece-to j (r .id))))
 
 -- the ends of a chain rise, and lie inside
-pub data Ends (n : ℕ) : ℕ → List ℕ → Type 0 where
-  no-more : {at : ℕ} → Ends n at []
-  and-then : {at e : ℕ} {es : List ℕ} → at < e → e ≤ n → Ends n e es → Ends n at (e ∷ es)
-
 pub chain-ends : {boundary : ℕ → Bool} {end : ℕ} {P : ℕ → ℕ → Option Piece} → Pieces boundary end P → (at j : ℕ) (es : List Step) → Chain P at es j → Ends end at (map (λ e. e .end) es)
 chain-ends g at j [] c = no-more
 chain-ends g at j (e ∷ es) c =

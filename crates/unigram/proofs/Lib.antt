@@ -19,3 +19,5 @@ pub mod Columns
 pub mod Offering
 -- the path by the start column
 pub mod Tracing
+-- ids placed one after another
+pub mod Placing

@@ -7,4 +7,5 @@ pub mod Runs
 pub mod Pieces
 pub mod Work
 pub mod Tracing
+pub mod Merge
 pub mod Segment

@@ -4,6 +4,7 @@ use refusal::Reason;
 
 pub mod lattice;
 pub mod path;
+pub mod runs;
 pub mod slots;
 
 // What an accepted build reports: how many nodes the trie has, and the score of an unknown character.
