@@ -10,12 +10,13 @@ use native.Mathlib.Numerals.{add-one}
 use native.Mathlib.Omega.{arith}
 use borrow.Author.Tests.{lt-ltb, le-ltb, eq-eqb, ne-eqb, eqb-true, eqb-false}
 use lib.Dec.{ltb, eqb}
-use lib.ListN.{length, getD, take, drop, set, take-append-drop, length-append}
+use lib.ListN.{length, getD, take, drop, set, take-append-drop, length-append, drop-of-length-le}
 use lib.Seq.{set-split, take-at, drop-at, length-take-le, drop-drop, set-at, drop-cons}
+use Rattle.refusal.specs.Sizes.{noId}
 use Rattle.refusal.specs.Places.{overlay}
 use Rattle.unigram.specs.Cuttings.{Step}
 use Rattle.unigram.specs.Runs.{runId, merged}
-use Rattle.unigram.specs.Merge.{runOf, waiting, runIds, closing, Placed}
+use Rattle.unigram.specs.Merge.{stepsAt, Ends, no-more, and-then, runOf, waiting, runIds, closing, Placed}
 use Rattle.unigram.proofs.Working.{below-or}
 use Rattle.unigram.proofs.Following.{piece-to}
 use Rattle.unigram.proofs.Merging.{merged-end, merged-end-run, begins, joins, stands, ends-run}
@@ -192,3 +193,91 @@ module _ (idOf : ℕ → ℕ → Option ℕ) (unknown : ℕ) where
         by-test : (t : Bool) → eqb x unknown ≡ t → length (closing idOf unknown run at x) ≤ waiting run at + 1
         by-test true h = omega (arith, ap length (closes-not run at x (eqb-true x unknown h)))
         by-test false h = omega (arith, ap length (closes run at x (eqb-false x unknown h)), length-append (runIds idOf unknown run at) (x ∷ []), ids-length run at)
+
+-- ---- the loop over the path
+
+pub ends-cons : {n at e : ℕ} {es : List ℕ} → Ends n at (e ∷ es) → (at < e) × (e ≤ n) × Ends n e es
+ends-cons (and-then a b c) = (a, b, c)
+
+-- Merging has come to piece k, which starts at `at`; n ids are written, and the run from `run` is still to come.
+pub record Going (idOf : ℕ → ℕ → Option ℕ) (unknown limit : ℕ) (slotIds path before ids : List ℕ) (n run at k : ℕ) : Type 0 where
+  pub within : k ≤ length path
+  pub back : run ≤ at
+  pub inside : at ≤ limit
+  pub ends : Ends limit at (drop k path)
+  pub few : n + waiting run at ≤ k
+  pub level : length ids ≡ length before
+  pub all : merged idOf unknown none 0 (stepsAt slotIds path) ≡ take n ids ++ merged idOf unknown (runOf run at) at (stepsAt slotIds (drop k path))
+  pub rest : drop n ids ≡ drop n before
+
+module _ (idOf : ℕ → ℕ → Option ℕ) (unknown limit : ℕ) (slotIds path before : List ℕ) where
+  pub going-first : Ends limit 0 path → Going idOf unknown limit slotIds path before before 0 0 0 0
+  going-first e =
+      record {
+        within = omega arith;
+        back = omega arith;
+        inside = omega arith;
+        ends = e;
+        few = omega (arith, waits-not 0 0 (omega arith));
+        level = refl;
+        all = ap (λ (o : Option ℕ). merged idOf unknown o 0 (stepsAt slotIds path)) (sym (run-none 0 0 (omega arith)));
+        rest = refl;
+      }
+
+  module _ {ids : List ℕ} {n run at k : ℕ} (g : Going idOf unknown limit slotIds path before ids n run at k) where
+    -- the piece come to
+    pub next-end : k < length path → (at < getD path k 0) × (getD path k 0 ≤ limit) × Ends limit (getD path k 0) (drop (suc k) path)
+    next-end l = ends-cons (subst (Ends limit at) (drop-cons path k 0 l) (g .ends))
+
+    pub going-more :
+        {after : List ℕ} {r x : ℕ} → (l : k < length path) → length path ≤ length before → x ≡ getD slotIds (getD path k 0) noId
+        → Placed (closing idOf unknown run at x) ids n after r → length after ≡ length ids
+        → Going idOf unknown limit slotIds path before after r (cond (eqb x unknown) run (getD path k 0)) (getD path k 0) (k + 1)
+    going-more {after} {r} {x} l room named p level =
+        let e = getD path k 0 in
+        let h = next-end l in
+        let es = stepsAt slotIds (drop (suc k) path) in
+        let up : k + 1 ≡ suc k = omega arith in
+        let fits : n + length (closing idOf unknown run at x) ≤ length ids =
+        omega (arith, closing-few idOf unknown run at e x es (g .back) (h .0), g .few, g .level)
+        in
+        record {
+          within = omega arith;
+          back = next-back idOf unknown run at e x es (g .back) (h .0);
+          inside = h .1;
+          ends = subst (λ (j : ℕ). Ends limit e (drop j path)) (sym up) (h .2);
+          few = omega (arith, turn-few idOf unknown run at e x es (g .back) (h .0) n k (g .few), p .next);
+          level = level ∙ g .level;
+          all =
+              g .all
+              ∙ ap (λ (u : List ℕ). take n ids ++ merged idOf unknown (runOf run at) at (stepsAt slotIds u)) (drop-cons path k 0 l)
+              ∙ ap (λ (i : ℕ). take n ids ++ merged idOf unknown (runOf run at) at (piece-to e i ∷ es)) (sym named)
+              ∙ ap (λ (u : List ℕ). take n ids ++ u) (merged-turn idOf unknown run at e x es (g .back) (h .0))
+              ∙ sym (append-assoc (take n ids) (closing idOf unknown run at x) (merged idOf unknown (runOf (cond (eqb x unknown) run e) e) e es))
+              ∙ ap (λ (u : List ℕ). u ++ merged idOf unknown (runOf (cond (eqb x unknown) run e) e) e es) (sym (placed-front p fits))
+              ∙ ap (λ (j : ℕ). take r after ++ merged idOf unknown (runOf (cond (eqb x unknown) run e) e) e (stepsAt slotIds (drop j path))) (sym up);
+          rest = placed-rest p fits ∙ rest-more ids before n r (omega (arith, p .next)) (g .rest);
+        }
+
+    -- at the end the run's id is written
+    pub going-end :
+        {after : List ℕ} {r : ℕ} → length path ≤ k → length path ≤ length before → Placed (runIds idOf unknown run at) ids n after r
+        → (after ≡ overlay (merged idOf unknown none 0 (stepsAt slotIds path)) before) × (r ≡ length (merged idOf unknown none 0 (stepsAt slotIds path)))
+    going-end {after} {r} l room p =
+        let fits : n + length (runIds idOf unknown run at) ≤ length ids =
+        omega (arith, ids-length idOf unknown run at, g .few, g .level, g .within)
+        in
+        let total = merged idOf unknown none 0 (stepsAt slotIds path) in
+        let whole : total ≡ take n ids ++ runIds idOf unknown run at =
+        g .all
+        ∙ ap (λ (u : List ℕ). take n ids ++ merged idOf unknown (runOf run at) at (stepsAt slotIds u)) (drop-of-length-le path l)
+        ∙ ap (λ (u : List ℕ). take n ids ++ u) (merged-last idOf unknown run at)
+        in
+        let count : r ≡ length total = sym (ap length whole ∙ front-is p fits) in
+        let rest : drop r ids ≡ drop r before = rest-more ids before n r (omega (arith, p .next)) (g .rest) in (
+          split-is p fits
+              ∙ ap (λ (u : List ℕ). u ++ drop r ids) (sym whole)
+              ∙ ap (λ (u : List ℕ). total ++ u) rest
+              ∙ ap (λ (j : ℕ). total ++ drop j before) count,
+          count,
+        )

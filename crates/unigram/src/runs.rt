@@ -102,3 +102,59 @@ fn run_after(unknown: u32, x: u32, run: usize, end: usize) -> usize
     }
     end
 }
+
+// The ids of the pieces that end at `path`, runs merged, go to the first id places. Answers how many there are.
+pub(crate) fn merge(
+    edge_at: &[u32],
+    edge_n: &[u16],
+    id: &[u32],
+    byte: &[u8],
+    to: &[u32],
+    unknown: u32,
+    text: &[u8],
+    slot_id: &[u32],
+    path: &[u32],
+    ids: &mut [u32],
+) -> usize
+    requires { ⌜ Mergeable (partsOf (now «edge_at») (now «edge_n») (now id) (now byte) (now to)) (now text) (now «slot_id») (now path) (now ids) ⌝ }
+    ensures { λ r. ⌜ Merged (partsOf (now («edge_at» .entry)) (now («edge_n» .entry)) (now (id .entry)) (now (byte .entry)) (now (to .entry))) unknown (now (text .entry)) (now («slot_id» .entry)) (now (path .entry)) (now (ids .entry)) (now (ids .exit)) r ⌝ }
+{
+    let mut n: usize = 0;
+    let mut run: usize = 0;
+    let mut at: usize = 0;
+    let mut k: usize = 0;
+    while k < path.len() {
+        let end = path[k] as usize;
+        let x = slot_id[end];
+        n = stand(
+            edge_at,
+            edge_n,
+            id,
+            byte,
+            to,
+            unknown,
+            text,
+            run,
+            at,
+            x,
+            n,
+            ids,
+        );
+        run = run_after(unknown, x, run, end);
+        at = end;
+        k += 1;
+    }
+    close_run(
+        edge_at,
+        edge_n,
+        id,
+        byte,
+        to,
+        unknown,
+        text,
+        run,
+        at,
+        n,
+        ids,
+    )
+}
