@@ -21,3 +21,5 @@ pub mod Offering
 pub mod Tracing
 -- ids placed one after another
 pub mod Placing
+-- the whole cutting
+pub mod Segmenting

@@ -47,6 +47,14 @@ column-at f rs xs k d l =
 none-shown : Slot
 none-shown = record { start = noId; id = noId; score = plusZero }
 
+-- the pieces are no more than the characters
+pub pieces-few : (m : Model) (s : List ℕ) → wellFormed s ≡ true → SoundScored (m .trie) (m .score) (m .unknown .score) → length (piecesOf m s) ≤ characters s
+unfolding piecesOf
+pieces-few m s well sound =
+    let n = length s in
+    subst (λ (u : List ℕ). length (piecesOf m s) ≤ characters u) (take-length s)
+    (few (given m s well sound) (λ j. characters (take j s)) (piece-rises m s well sound) n n (omega arith) (omega arith) (boundary-end s))
+
 module _ (m : Model) (s : List ℕ) (b : Scratch) where
   -- slot j holds the record at j
   pub slot-written : (j : ℕ) → j ≤ length s → slotIn (written m s b) j ≡ shown (best (pieceOf m s) j j)
@@ -79,8 +87,7 @@ module _ (m : Model) (s : List ℕ) (b : Scratch) where
               let w = filled g n l all (boundary-end s) in
               adds g n n all all (boundary-end s) ∙ score-of (w .0) (w .1) ∙ sym (ap (λ (r : Slot). r .score) (holds n l all ∙ ap shown (w .1)));
           cover = covers g s n n all all (boundary-end s) ∙ take-length s;
-          few = subst (λ (u : List ℕ). length (piecesOf m s) ≤ characters u) (take-length s)
-              (few g (λ j. characters (take j s)) (piece-rises m s well sound) n n all all (boundary-end s));
+          few = pieces-few m s well sound;
         }
 
     -- as `written` does, and an empty text has no slot to speak of

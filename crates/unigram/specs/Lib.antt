@@ -9,3 +9,4 @@ pub mod Work
 pub mod Tracing
 pub mod Merge
 pub mod Segment
+pub mod Core

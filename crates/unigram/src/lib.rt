@@ -2,6 +2,7 @@
 use refusal::Fault;
 use refusal::Reason;
 
+pub mod checked;
 pub mod lattice;
 pub mod path;
 pub mod runs;
