@@ -3,6 +3,11 @@ pub mod Build
 pub mod BuildRows
 pub mod Cuttings
 pub mod Records
+pub mod Slots
 pub mod Runs
 pub mod Pieces
+pub mod Work
+pub mod Tracing
+pub mod Merge
 pub mod Segment
+pub mod Core

@@ -2,6 +2,12 @@
 use refusal::Fault;
 use refusal::Reason;
 
+pub mod checked;
+pub mod lattice;
+pub mod path;
+pub mod runs;
+pub mod slots;
+
 // What an accepted build reports: how many nodes the trie has, and the score of an unknown character.
 pub struct Summary {
     pub nodes: u32,

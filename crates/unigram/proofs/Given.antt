@@ -1,0 +1,127 @@
+-- What a piece is in a Unigram trie meets what the laws of the records ask of any rule: for a well-formed text and sound scored parts. A node
+-- that a walk ends in is one of the parts, so its score is finite; the character at a boundary ends at the next. Assumes nothing.
+use mathlib.Core.Path.{_≡_, refl, sym, ap, subst, _∙_}
+use mathlib.Core.Bool.{Bool, true, false, _&&_}
+use mathlib.Core.List.{List, [], _∷_, _++_}
+use mathlib.Core.Logic.{_⊎_, inl, inr, ⊎-elim}
+use mathlib.Core.Option.{Option, none, some}
+use Prim.Native.Nat.{ℕ, zero, suc, _+_, _-_, _≤_, _<_}
+use native.Mathlib.Omega.{arith}
+use borrow.Author.Tests.{ltb-true, lt-ltb, eq-eqb}
+use lib.Dec.{T, ltb, eqb}
+use lib.ListN.{length, getD, take, drop}
+use lib.Seq.{take-add}
+use Rattle.doubles.specs.Double.{Double, plusZero, isFinite}
+use Rattle.text.specs.Text.{wellFormed, boundary, next, part, characters}
+use Rattle.text.proofs.Boundaries.{boundary-le, boundary-zero, next-above, next-inside, next-boundary, next-first, characters-append, characters-next}
+use Rattle.trie.specs.Trie.{Trie, walk, idAt}
+use Rattle.trie.specs.Sound.{Sound, SoundScored}
+use Rattle.trie.proofs.Walking.{walk-inside}
+use Rattle.unigram.specs.Cuttings.{Piece}
+use Rattle.unigram.specs.Pieces.{Model, pieceAt, known, pieceHere, pieceOf}
+use Rattle.unigram.proofs.Working.{Pieces, no-piece, looked, below-or, true-false}
+
+-- ---- taking the rule apart
+
+both-true : {a b : Bool} → a ≡ true → b ≡ true → a && b ≡ true
+both-true {a} {b} p q = ap (λ (t : Bool). t && b) p ∙ q
+
+module _ (m : Model) (s : List ℕ) (i j : ℕ) where
+  -- from boundary to boundary
+  pub piece-between : i < j → boundary s i ≡ true → boundary s j ≡ true → pieceOf m s i j ≡ pieceHere (known m (part s i j)) (eqb j (next s i)) (m .unknown)
+  unfolding pieceOf
+  piece-between l p q =
+      ap (λ (t : Bool). elim t [ true ↦ pieceHere (known m (part s i j)) (eqb j (next s i)) (m .unknown) | false ↦ none ])
+      (both-true (lt-ltb i j l) (both-true p q))
+
+  pub record Between (p : Piece) : Type 0 where
+    pub forward : i < j
+    pub from : boundary s i ≡ true
+    pub to : boundary s j ≡ true
+    pub here : pieceHere (known m (part s i j)) (eqb j (next s i)) (m .unknown) ≡ some p
+
+  pub between : (p : Piece) → pieceOf m s i j ≡ some p → Between p
+  unfolding pieceOf
+  between p = by-tests (ltb i j) (boundary s i) (boundary s j) refl refl refl
+    where
+      by-tests :
+          (a b c : Bool) → ltb i j ≡ a → boundary s i ≡ b → boundary s j ≡ c
+          → elim (a && (b && c)) [ true ↦ pieceHere (known m (part s i j)) (eqb j (next s i)) (m .unknown) | false ↦ none ] ≡ some p → Between p
+      by-tests true true true a b c e = record { forward = ltb-true i j a; from = b; to = c; here = e }
+      by-tests true true false a b c e = absurd (no-piece e)
+      by-tests true false c' a b c e = absurd (no-piece e)
+      by-tests false b' c' a b c e = absurd (no-piece e)
+
+-- what a piece is where it is
+pub here-known : (o : Option Piece) (one : Bool) (u p : Piece) → pieceHere o one u ≡ some p → (o ≡ some p) ⊎ ((o ≡ none) × (one ≡ true) × (u ≡ p))
+unfolding pieceHere
+here-known (some q) one u p e = inl e
+here-known none true u p e = inr (refl, refl, let same : u ≡ p = cc in same)
+here-known none false u p e = absurd (no-piece e)
+
+-- a known piece is that of the node where its walk ends
+pub known-node : (m : Model) (s : List ℕ) (p : Piece) → known m s ≡ some p → (k : ℕ) × (walk (m .trie) 0 s ≡ some k) × (p .score ≡ getD (m .score) k plusZero)
+unfolding known pieceAt
+known-node m s p = by-walk (walk (m .trie) 0 s) refl
+  where
+    at-node : (k : ℕ) (o : Option ℕ) → walk (m .trie) 0 s ≡ some k → elim o [ none ↦ none | some i ↦ some (record { id = i; score = getD (m .score) k plusZero }) ] ≡ some p → (n : ℕ) × (walk (m .trie) 0 s ≡ some n) × (p .score ≡ getD (m .score) n plusZero)
+    at-node k none w e = absurd (no-piece e)
+    at-node k (some i) w e = (k, w, ap (λ (x : Option Piece). elim x [ none ↦ p .score | some q ↦ q .score ]) (sym e))
+
+    by-walk : (o : Option ℕ) → walk (m .trie) 0 s ≡ o → elim o [ none ↦ none | some k ↦ pieceAt m k ] ≡ some p → (k : ℕ) × (walk (m .trie) 0 s ≡ some k) × (p .score ≡ getD (m .score) k plusZero)
+    by-walk none w e = absurd (no-piece e)
+    by-walk (some k) w e = at-node k (idAt (m .trie) k) w e
+
+pub one-there : (o : Option Piece) (u : Piece) → (p : Piece) × (pieceHere o true u ≡ some p)
+unfolding pieceHere
+one-there none u = (u, refl)
+one-there (some p) u = (p, refl)
+
+module _ (m : Model) (s : List ℕ) (well : wellFormed s ≡ true) (sound : SoundScored (m .trie) (m .score) (m .unknown .score)) where
+  true-test : {t : Bool} → t ≡ true → T t
+  true-test {t} e = subst T (sym e) tt
+
+  finite-piece : (i j : ℕ) (p : Piece) → pieceOf m s i j ≡ some p → T (isFinite (p .score))
+  finite-piece i j p e =
+      ⊎-elim
+      (λ (k : known m (part s i j) ≡ some p).
+      let w = known-node m (part s i j) p k in
+      let inside = walk-inside (sound .parts) 0 (part s i j) (sound .parts .some-node) (w .1) in
+      subst (λ (x : Double). T (isFinite x)) (sym (w .2)) (true-test (sound .finite (w .0) (omega (arith, inside, sound .level-score)))))
+      (λ (w : (known m (part s i j) ≡ none) × (eqb j (next s i) ≡ true) × (m .unknown ≡ p)).
+      subst (λ (x : Piece). T (isFinite (x .score))) (w .2) (true-test (sound .finite-unknown)))
+      (here-known (known m (part s i j)) (eqb j (next s i)) (m .unknown) p (between m s i j p e .here))
+
+  pub given : Pieces (boundary s) (length s) (pieceOf m s)
+  given =
+      record {
+        first = boundary-zero s well;
+        forward = λ i j p e. between m s i j p e .forward;
+        inside = λ i j p e. boundary-le s j (between m s i j p e .to);
+        from = λ i j p e. between m s i j p e .from;
+        to = λ i j p e. between m s i j p e .to;
+        finite = finite-piece;
+        single = λ i l at.
+            let j = next s i in
+            let w = one-there (known m (part s i j)) (m .unknown) in (
+              j,
+              w .0,
+              piece-between m s i j (next-above s well i at l) at (next-boundary s well i at l)
+                  ∙ ap (λ (t : Bool). pieceHere (known m (part s i j)) t (m .unknown)) (eq-eqb j j refl)
+                  ∙ w .1,
+              next-first s well i at l,
+            );
+      }
+
+  -- a piece takes at least one character
+  pub piece-rises : (i j : ℕ) (p : Piece) → pieceOf m s i j ≡ some p → characters (take i s) < characters (take j s)
+  piece-rises i j p e =
+      let b = between m s i j p e in
+      let below : i < length s = omega (arith, b .forward, boundary-le s j (b .to)) in
+      let reach : next s i ≤ j =
+      ⊎-elim (λ (h : j < next s i). absurd (true-false (b .to) (next-first s well i (b .from) below j (b .forward) h))) (λ (h : next s i ≤ j). h) (below-or j (next s i))
+      in
+      let k = next s i in
+      let there : k + (j - k) ≡ j = omega arith in
+      omega
+      (arith, characters-next s well i (b .from) below, ap (λ (n : ℕ). characters (take n s)) there, ap characters (take-add k (j - k) s), characters-append (take k s) (take (j - k) (drop k s)))

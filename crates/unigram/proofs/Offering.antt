@@ -1,0 +1,431 @@
+-- The work at one boundary. A walk from it offers each string with an id at its end, byte by byte: what the walk has come to says which string
+-- that is, and where it stops no longer one has an id (`offered-all`). With the one character that has none, that is every piece (`worked-all`),
+-- so the slots hold the records of one start more. Assumes nothing.
+use mathlib.Core.Path.{_≡_, refl, sym, ap, subst, _∙_}
+use mathlib.Core.Bool.{Bool, true, false, _&&_, _||_, cond}
+use mathlib.Core.List.{List, [], _∷_, _++_, map}
+use mathlib.Core.Logic.{_⊎_, inl, inr, ⊎-elim}
+use mathlib.Core.Option.{Option, none, some, bind}
+use Prim.Native.Nat.{ℕ, zero, suc, _+_, _-_, _≤_, _<_}
+use native.Mathlib.Omega.{arith}
+use borrow.Author.Tests.{eq-eqb, ne-eqb, eqb-true, eqb-false, lt-ltb, le-ltb, lt-leb, le-leb}
+use lib.Dec.{T, eqb, ltb, leb}
+use lib.ListN.{length, getD, take, drop, length-drop}
+use lib.Seq.{take-suc, getD-drop, take-add, drop-drop, drop-cons}
+use Rattle.doubles.specs.Double.{Double, plusZero, sum}
+use Rattle.refusal.specs.Sizes.{noId, maxText}
+use Rattle.text.specs.Text.{wellFormed, boundary, next, part}
+use Rattle.text.proofs.Boundaries.{boundary-le, next-above, next-inside, next-boundary, next-first}
+use Rattle.trie.specs.Trie.{Trie, step, walk, idAt}
+use Rattle.trie.proofs.Walking.{walk-snoc, walk-append-none, walk-nil}
+use Rattle.unigram.specs.Cuttings.{Piece, Slot, Best}
+use Rattle.unigram.specs.Records.{scoreOf, offered, candidate, best, shown}
+use Rattle.unigram.specs.Pieces.{Model, pieceAt, known, pieceHere, pieceOf}
+use Rattle.unigram.specs.Slots.{Slots, slotAt, PutAt, taken, afterOffer}
+use Rattle.unigram.specs.Work.{Cleared, isSome, endsHere, Ended, knownTo, KnownOffered, Holds, Ready, Worked, Recorded}
+use Rattle.unigram.proofs.Working.{Pieces, no-piece, true-false, looked, below-or, worked, passed, none-before, jumped, settled-le}
+use Rattle.unigram.proofs.Best.{Standing, status, filled, is-best, score-of}
+use Rattle.unigram.proofs.Given.{given, piece-between, between}
+use Rattle.unigram.proofs.Columns.{put-as, put-back, taken-empty, taken-weighed, Filled, filled-of, filled-more, filled-below, filled-above}
+
+-- ---- the piece that a node ends
+
+module _ (m : Model) (k : ℕ) where
+  pub piece-none : idAt (m .trie) k ≡ none → pieceAt m k ≡ none
+  unfolding pieceAt
+  piece-none e = ap (λ (o : Option ℕ). elim o [ none ↦ none | some i ↦ some (record { id = i; score = getD (m .score) k plusZero }) ]) e
+
+  pub piece-some : (x : ℕ) → idAt (m .trie) k ≡ some x → pieceAt m k ≡ some (record { id = x; score = getD (m .score) k plusZero })
+  unfolding pieceAt
+  piece-some x e = ap (λ (o : Option ℕ). elim o [ none ↦ none | some i ↦ some (record { id = i; score = getD (m .score) k plusZero }) ]) e
+
+  module _ (s : List ℕ) (i : ℕ) where
+    pub ends-off : boundary s i ≡ false → endsHere m s k i ≡ none
+    unfolding endsHere
+    ends-off e = ap (λ (t : Bool). elim t [ true ↦ pieceAt m k | false ↦ none ]) e
+
+    pub ends-on : boundary s i ≡ true → endsHere m s k i ≡ pieceAt m k
+    unfolding endsHere
+    ends-on e = ap (λ (t : Bool). elim t [ true ↦ pieceAt m k | false ↦ none ]) e
+
+or-nothing : (a b : Bool) → a ≡ (a || (b && false))
+or-nothing true b = refl
+or-nothing false true = refl
+or-nothing false false = refl
+
+or-that : (a b : Bool) → (a || b) ≡ (a || (b && true))
+or-that true b = refl
+or-that false true = refl
+or-that false false = refl
+
+module _ (m : Model) (s : List ℕ) (node i one : ℕ) (single : Bool) (at : ℕ) (x : Double) (b : Slots) where
+  -- no piece ends here
+  pub ended-none : endsHere m s node i ≡ none → Ended m s node i one single at x b b single
+  unfolding afterOffer isSome
+  ended-none e =
+      record {
+        put = put-back b i (ap (λ (o : Option Piece). afterOffer o x at (slotAt b i)) (sym e));
+        seen = or-nothing single (eqb i one) ∙ ap (λ (o : Option Piece). single || (eqb i one && isSome o)) (sym e);
+      }
+
+  -- a piece does
+  pub ended-some : (p : Piece) (a : Slots) (r : Bool) → endsHere m s node i ≡ some p → PutAt b i (taken (slotAt b i) (candidate x at p)) a → r ≡ (single || eqb i one) → Ended m s node i one single at x b a r
+  unfolding afterOffer isSome
+  ended-some p a r e put seen =
+      record {
+        put = put-as put (ap (λ (o : Option Piece). afterOffer o x at (slotAt b i)) (sym e));
+        seen = seen ∙ or-that single (eqb i one) ∙ ap (λ (o : Option Piece). single || (eqb i one && isSome o)) (sym e);
+      }
+
+-- ---- the string that a walk from `at` has come to
+
+pub known-none : (m : Model) (s : List ℕ) → walk (m .trie) 0 s ≡ none → known m s ≡ none
+unfolding known
+known-none m s e = ap (λ (o : Option ℕ). elim o [ none ↦ none | some k ↦ pieceAt m k ]) e
+
+pub known-at : (m : Model) (s : List ℕ) (k : ℕ) → walk (m .trie) 0 s ≡ some k → known m s ≡ pieceAt m k
+unfolding known
+known-at m s k e = ap (λ (o : Option ℕ). elim o [ none ↦ none | some k ↦ pieceAt m k ]) e
+
+module _ (m : Model) (s : List ℕ) (at : ℕ) where
+  both-true : {a b : Bool} → a ≡ true → b ≡ true → a && b ≡ true
+  both-true {a} {b} p q = ap (λ (t : Bool). t && b) p ∙ q
+
+  first-false : {a : Bool} (b : Bool) → a ≡ false → a && b ≡ false
+  first-false b p = ap (λ (t : Bool). t && b) p
+
+  second-false : (a : Bool) {b : Bool} → b ≡ false → a && b ≡ false
+  second-false true p = p
+  second-false false p = refl
+
+  to-known : (j : ℕ) (t : Bool) → ltb at j && boundary s j ≡ t → knownTo m s at j ≡ elim t [ true ↦ known m (part s at j) | false ↦ none ]
+  unfolding knownTo
+  to-known j t e = ap (λ (b : Bool). elim b [ true ↦ known m (part s at j) | false ↦ none ]) e
+
+  pub known-on : (j : ℕ) → at < j → boundary s j ≡ true → knownTo m s at j ≡ known m (part s at j)
+  known-on j l e = to-known j true (both-true (lt-ltb at j l) e)
+
+  pub known-off : (j : ℕ) → boundary s j ≡ false → knownTo m s at j ≡ none
+  known-off j e = to-known j false (second-false (ltb at j) e)
+
+  pub known-back : (j : ℕ) → j ≤ at → knownTo m s at j ≡ none
+  known-back j l = to-known j false (first-false (boundary s j) (le-ltb at j l))
+
+  -- no string passes the end
+  pub known-past : (j : ℕ) → length s < j → knownTo m s at j ≡ none
+  known-past j l = by-test (boundary s j) refl
+    where
+      by-test : (t : Bool) → boundary s j ≡ t → knownTo m s at j ≡ none
+      by-test true e = absurd (let h : j ≤ length s = boundary-le s j e in omega arith)
+      by-test false e = known-off j e
+
+  -- nor one where the walk has stopped
+  pub known-stopped : (j : ℕ) → (at < j → walk (m .trie) 0 (part s at j) ≡ none) → knownTo m s at j ≡ none
+  known-stopped j none-there = ⊎-elim (λ (l : at < j). by-test l (boundary s j) refl) (λ (l : j ≤ at). known-back j l) (below-or at j)
+    where
+      by-test : at < j → (t : Bool) → boundary s j ≡ t → knownTo m s at j ≡ none
+      by-test l true e = known-on j l e ∙ known-none m (part s at j) (none-there l)
+      by-test l false e = known-off j e
+
+  -- what ends at the walk's node is the string so far
+  pub ends-known : (i k : ℕ) → at < i → walk (m .trie) 0 (part s at i) ≡ some k → endsHere m s k i ≡ knownTo m s at i
+  ends-known i k l w = by-test (boundary s i) refl
+    where
+      by-test : (t : Bool) → boundary s i ≡ t → endsHere m s k i ≡ knownTo m s at i
+      by-test true e = ends-on m k s i e ∙ sym (known-on i l e ∙ known-at m (part s at i) k w)
+      by-test false e = ends-off m k s i e ∙ sym (known-off i e)
+
+  -- one byte more
+  part-more : (i : ℕ) → at ≤ i → i < length s → part s at (i + 1) ≡ part s at i ++ (getD s i 0 ∷ [])
+  part-more i l h =
+      let e : (i + 1) - at ≡ suc (i - at) = omega arith in
+      let there : at + (i - at) ≡ i = omega arith in
+      ap (λ (n : ℕ). take n (drop at s)) e
+      ∙ take-suc (drop at s) (i - at) 0 (omega (arith, length-drop at s))
+      ∙ ap (λ (b : ℕ). part s at i ++ (b ∷ [])) (getD-drop at s (i - at) 0 ∙ ap (λ (n : ℕ). getD s n 0) there)
+
+  pub walk-none-yet : walk (m .trie) 0 (part s at at) ≡ some 0
+  walk-none-yet = ap (λ (n : ℕ). walk (m .trie) 0 (take n (drop at s))) (let e : at - at ≡ 0 = omega arith in e) ∙ walk-nil (m .trie) 0
+
+  module _ (i k : ℕ) (l : at ≤ i) (h : i < length s) (w : walk (m .trie) 0 (part s at i) ≡ some k) where
+    stepped : walk (m .trie) 0 (part s at (i + 1)) ≡ step (m .trie) k (getD s i 0)
+    unfolding bind
+    stepped =
+        ap (walk (m .trie) 0) (part-more i l h)
+        ∙ walk-snoc (m .trie) 0 (part s at i) (getD s i 0)
+        ∙ ap (λ (o : Option ℕ). bind o (λ j. step (m .trie) j (getD s i 0))) w
+
+    pub walk-on : (j : ℕ) → step (m .trie) k (getD s i 0) ≡ some j → walk (m .trie) 0 (part s at (i + 1)) ≡ some j
+    walk-on j e = stepped ∙ e
+
+    -- where the walk stops no longer string has an id
+    pub walk-over : step (m .trie) k (getD s i 0) ≡ none → (j : ℕ) → i < j → knownTo m s at j ≡ none
+    walk-over e j p =
+        known-stopped j
+        (λ q.
+        let n = (i + 1) - at in
+        let all : n + (j - (i + 1)) ≡ j - at = omega arith in
+        ap (λ (u : ℕ). walk (m .trie) 0 (take u (drop at s))) (sym all)
+        ∙ ap (walk (m .trie) 0) (take-add n (j - (i + 1)) (drop at s))
+        ∙ walk-append-none (m .trie) 0 (part s at (i + 1)) (take (j - (i + 1)) (drop n (drop at s))) (stepped ∙ e))
+
+-- ---- the turns of the walk
+
+or-no : (a b : Bool) → (a || (false && b)) ≡ a
+or-no true b = refl
+or-no false b = refl
+
+-- a test passed at `one`, once the walk has come one byte further
+spot : (f : ℕ → Bool) (one i : ℕ) → ((leb one i && f one) || (eqb (i + 1) one && f (i + 1))) ≡ (leb one (i + 1) && f one)
+spot f one i =
+    ⊎-elim
+    (λ (l : i < one).
+    ⊎-elim
+    (λ (k : i + 1 < one). left false false (lt-leb one i l) (ne-eqb (i + 1) one (λ e. omega arith)) ∙ sym (right false (lt-leb one (i + 1) k)))
+    (λ (k : one ≤ i + 1).
+    let e : i + 1 ≡ one = omega arith in
+    left false true (lt-leb one i l) (eq-eqb (i + 1) one e) ∙ ap f e ∙ sym (right true (le-leb one (i + 1) k)))
+    (below-or (i + 1) one))
+    (λ (l : one ≤ i).
+    left true false (le-leb one i l) (ne-eqb (i + 1) one (λ e. omega arith))
+    ∙ or-no (f one) (f (i + 1))
+    ∙ sym (right true (le-leb one (i + 1) (omega arith))))
+    (below-or i one)
+  where
+    left : (u v : Bool) → leb one i ≡ u → eqb (i + 1) one ≡ v → ((leb one i && f one) || (eqb (i + 1) one && f (i + 1))) ≡ ((u && f one) || (v && f (i + 1)))
+    left u v p q = ap (λ (t : Bool). (t && f one) || (eqb (i + 1) one && f (i + 1))) p ∙ ap (λ (t : Bool). (u && f one) || (t && f (i + 1))) q
+
+    right : (w : Bool) → leb one (i + 1) ≡ w → (leb one (i + 1) && f one) ≡ (w && f one)
+    right w p = ap (λ (t : Bool). t && f one) p
+
+module _ (m : Model) (s : List ℕ) (at one : ℕ) (x : Double) (b : Slots) where
+  -- the slots, and whether a string of one character was seen, once the walk has come to i
+  abbrev goal : ℕ → Slot
+  goal k = afterOffer (knownTo m s at k) x at (slotAt b k)
+
+  pub record Offered (i : ℕ) (now : Slots) (single : Bool) : Type 0 where
+    pub slots : Filled goal b (i + 1) now
+    pub seen : single ≡ (leb one i && isSome (knownTo m s at one))
+
+  untouched : (k : ℕ) → knownTo m s at k ≡ none → slotAt b k ≡ goal k
+  unfolding afterOffer
+  untouched k e = ap (λ (o : Option Piece). afterOffer o x at (slotAt b k)) (sym e)
+
+  pub offered-none : at < one → Offered at b false
+  offered-none l =
+      record {
+        slots = filled-of (at + 1) b (λ k h. untouched k (known-back m s at k (omega arith))) (λ k h. refl);
+        seen = ap (λ (t : Bool). t && isSome (knownTo m s at one)) (sym (lt-leb one at l));
+      }
+
+  pub offered-more : {i node : ℕ} {now after : Slots} {single r : Bool} → at ≤ i → walk (m .trie) 0 (part s at (i + 1)) ≡ some node → Offered i now single → Ended m s node (i + 1) one single at x now after r → Offered (i + 1) after r
+  offered-more {i} {node} {now} {after} {single} {r} l w o e =
+      record {
+        slots =
+            filled-more (o .slots)
+            (put-as (e .put)
+            (ap (λ (q : Slot). afterOffer (endsHere m s node (i + 1)) x at q) (filled-above (o .slots) (i + 1) (omega arith))
+            ∙ ap (λ (p : Option Piece). afterOffer p x at (slotAt b (i + 1))) ends));
+        seen = e .seen ∙ ap (λ (p : Option Piece). single || (eqb (i + 1) one && isSome p)) ends ∙ ap (λ (t : Bool). t || (eqb (i + 1) one && isSome (knownTo m s at (i + 1)))) (o .seen) ∙ spot (λ k. isSome (knownTo m s at k)) one i;
+      }
+    where
+      ends : endsHere m s node (i + 1) ≡ knownTo m s at (i + 1)
+      ends = ends-known m s at (i + 1) node (omega arith) w
+
+  pub offered-all : {i : ℕ} {now : Slots} {single : Bool} → Offered i now single → ((j : ℕ) → i < j → knownTo m s at j ≡ none) → KnownOffered m s at one x b now single
+  unfolding isSome
+  offered-all {i} {now} {single} o none-past =
+      record {
+        slots = λ k.
+            ⊎-elim (λ (l : k < i + 1). filled-below (o .slots) k l) (λ (l : i + 1 ≤ k). filled-above (o .slots) k l ∙ untouched k (none-past k (omega arith))) (below-or k (i + 1));
+        seen = o .seen ∙ ⊎-elim (λ (l : i < one). ap (λ (t : Bool). t && isSome (knownTo m s at one)) (lt-leb one i l) ∙ ap isSome (sym (none-past one l))) (λ (l : one ≤ i). ap (λ (t : Bool). t && isSome (knownTo m s at one)) (le-leb one i l)) (below-or i one);
+      }
+
+-- ---- with the one character that has no id, that is every piece
+
+here-other : (o : Option Piece) (u : Piece) → pieceHere o false u ≡ o
+unfolding pieceHere
+here-other none u = refl
+here-other (some p) u = refl
+
+here-one : (o : Option Piece) (u p : Piece) → o ≡ some p → pieceHere o true u ≡ some p
+unfolding pieceHere
+here-one o u p e = ap (λ (q : Option Piece). pieceHere q true u) e
+
+here-unknown : (o : Option Piece) (u : Piece) → o ≡ none → pieceHere o true u ≡ some u
+unfolding pieceHere
+here-unknown o u e = ap (λ (q : Option Piece). pieceHere q true u) e
+
+is-some : (o : Option Piece) → isSome o ≡ true → (p : Piece) × (o ≡ some p)
+unfolding isSome
+is-some none e = absurd (true-false e refl)
+is-some (some p) e = (p, refl)
+
+is-none : (o : Option Piece) → isSome o ≡ false → o ≡ none
+unfolding isSome
+is-none none e = refl
+is-none (some p) e = absurd (true-false refl e)
+
+module _ (m : Model) (s : List ℕ) (at : ℕ) (on : boundary s at ≡ true) where
+  -- any other length
+  pub piece-known : (k : ℕ) → (k ≡ next s at → ⊥) → pieceOf m s at k ≡ knownTo m s at k
+  piece-known k other = by-tests (boundary s k) refl (below-or at k)
+    where
+      absent-piece : ((p : Piece) → pieceOf m s at k ≡ some p → ⊥) → pieceOf m s at k ≡ none
+      absent-piece no-such = ⊎-elim (λ (e : pieceOf m s at k ≡ none). e) (λ (w : (p : Piece) × (pieceOf m s at k ≡ some p)). absurd (no-such (w .0) (w .1))) (looked (pieceOf m s at k))
+
+      by-tests : (t : Bool) → boundary s k ≡ t → (at < k) ⊎ (k ≤ at) → pieceOf m s at k ≡ knownTo m s at k
+      by-tests true e (inl l) =
+          piece-between m s at k l on e
+          ∙ ap (λ (t : Bool). pieceHere (known m (part s at k)) t (m .unknown)) (ne-eqb k (next s at) other)
+          ∙ here-other (known m (part s at k)) (m .unknown)
+          ∙ sym (known-on m s at k l e)
+      by-tests true e (inr l) =
+          absent-piece (λ p q. let h : at < k = between m s at k p q .forward in omega arith) ∙ sym (known-back m s at k l)
+      by-tests false e w = absent-piece (λ p q. true-false (between m s at k p q .to) e) ∙ sym (known-off m s at k e)
+
+  module _ (well : wellFormed s ≡ true) (below : at < length s) where
+    one-char : pieceOf m s at (next s at) ≡ pieceHere (knownTo m s at (next s at)) true (m .unknown)
+    one-char =
+        let l = next-above s well at on below in
+        let e = next-boundary s well at on below in
+        piece-between m s at (next s at) l on e
+        ∙ ap (λ (t : Bool). pieceHere (known m (part s at (next s at))) t (m .unknown)) (eq-eqb (next s at) (next s at) refl)
+        ∙ ap (λ (o : Option Piece). pieceHere o true (m .unknown)) (sym (known-on m s at (next s at) l e))
+
+    -- each piece from `at` has been offered
+    pub record AllOffered (x : Double) (before after : Slots) : Type 0 where
+      pub slots : (k : ℕ) → slotAt after k ≡ afterOffer (pieceOf m s at k) x at (slotAt before k)
+
+    module _ {x : Double} {before after : Slots} {r : Bool} (o : KnownOffered m s at (next s at) x before after r) where
+      at-next : (k : ℕ) → (k ≡ next s at) ⊎ (k ≡ next s at → ⊥)
+      at-next k = ⊎-elim (λ (l : k < next s at). inr (λ e. omega arith)) (λ (l : next s at ≤ k). ⊎-elim (λ (h : next s at < k). inr (λ e. omega arith)) (λ (h : k ≤ next s at). inl (omega arith)) (below-or (next s at) k)) (below-or k (next s at))
+
+      -- a string of one character has an id
+      pub all-known : r ≡ true → AllOffered x before after
+      all-known e =
+          let w = is-some (knownTo m s at (next s at)) (sym (o .seen) ∙ e) in
+          let here : pieceOf m s at (next s at) ≡ knownTo m s at (next s at) = one-char ∙ here-one (knownTo m s at (next s at)) (m .unknown) (w .0) (w .1) ∙ sym (w .1) in
+          record {
+            slots = λ k.
+                o .slots k
+                ∙ ap (λ (p : Option Piece). afterOffer p x at (slotAt before k))
+                (sym (⊎-elim (λ (h : k ≡ next s at). subst (λ (n : ℕ). pieceOf m s at n ≡ knownTo m s at n) (sym h) here) (λ h. piece-known k h) (at-next k)));
+          }
+
+      -- none has, and the unknown piece is offered
+      pub all-unknown : {last : Slots} → r ≡ false → PutAt after (next s at) (taken (slotAt after (next s at)) (candidate x at (m .unknown))) last → AllOffered x before last
+      unfolding afterOffer
+      all-unknown {last} e put =
+          let n = next s at in
+          let missing : knownTo m s at n ≡ none = is-none (knownTo m s at n) (sym (o .seen) ∙ e) in
+          let here : pieceOf m s at n ≡ some (m .unknown) = one-char ∙ here-unknown (knownTo m s at n) (m .unknown) missing in
+          let was : slotAt after n ≡ slotAt before n = o .slots n ∙ ap (λ (p : Option Piece). afterOffer p x at (slotAt before n)) missing in
+          let now : slotAt last n ≡ afterOffer (pieceOf m s at n) x at (slotAt before n) =
+          put .slots n
+          ∙ ap (λ (t : Bool). cond t (taken (slotAt after n) (candidate x at (m .unknown))) (slotAt after n)) (eq-eqb n n refl)
+          ∙ ap (λ (q : Slot). taken q (candidate x at (m .unknown))) was
+          ∙ ap (λ (p : Option Piece). afterOffer p x at (slotAt before n)) (sym here)
+          in
+          record {
+            slots = λ k.
+                ⊎-elim
+                (λ (h : k ≡ n). subst (λ (i : ℕ). slotAt last i ≡ afterOffer (pieceOf m s at i) x at (slotAt before i)) (sym h) now)
+                (λ h.
+                put .slots k
+                ∙ ap (λ (t : Bool). cond t (taken (slotAt after n) (candidate x at (m .unknown))) (slotAt after k)) (ne-eqb k n h)
+                ∙ o .slots k
+                ∙ ap (λ (p : Option Piece). afterOffer p x at (slotAt before k)) (sym (piece-known k h)))
+                (at-next k);
+          }
+
+-- ---- the slots hold the records of one start more
+
+taken-shown : (o : Option Slot) (q : Slot) → ((r : Slot) → o ≡ some r → r .start ≡ noId → ⊥) → taken (shown o) q ≡ offered o q
+unfolding shown offered
+taken-shown none q full = taken-empty (shown none) q refl
+taken-shown (some r) q full = taken-weighed r q (full r refl)
+
+module _ {m : Model} {s : List ℕ} (ready : Ready m s) where
+  rule : Pieces (boundary s) (length s) (pieceOf m s)
+  rule = given m s (ready .well) (ready .sound)
+
+  -- a start is a position of the text, and no mark
+  start-small : (from k : ℕ) → from ≤ length s → (r : Slot) → best (pieceOf m s) from k ≡ some r → r .start ≡ noId → ⊥
+  start-small from k l r e mark =
+      ⊎-elim
+      (λ v. no-piece (sym (v .0) ∙ e))
+      (λ v. let h : v .0 .start < from = v .2 .below in let same : v .0 ≡ r = cc in let big = ready .size in omega (arith, ap (λ (q : Slot). q .start) same))
+      (status rule from k)
+
+  -- the law of demand 3 at a boundary that has been come to
+  pub best-held : (from : ℕ) (c : Slots) → Holds m s from c → (j : ℕ) → 0 < j → j ≤ from → j ≤ length s → boundary s j ≡ true → Best (pieceOf m s) j (slotAt c j)
+  unfolding shown
+  best-held from c h j l p inside at =
+      let w = filled rule j l inside at in
+      subst (Best (pieceOf m s) j) (sym (h .slots j inside ∙ ap shown (settled-le rule from j p ∙ w .1))) (is-best rule j (w .0) inside (w .1))
+
+  pub score-held : (from j : ℕ) (c : Slots) → Holds m s from c → j ≤ length s → slotAt c j .score ≡ scoreOf (best (pieceOf m s) from j)
+  unfolding shown scoreOf
+  score-held from j c h l = ap (λ (q : Slot). q .score) (h .slots j l) ∙ shown-score (best (pieceOf m s) from j)
+    where
+      shown-score : (o : Option Slot) → shown o .score ≡ scoreOf o
+      shown-score none = refl
+      shown-score (some r) = refl
+
+  module _ (at : ℕ) (on : boundary s at ≡ true) (below : at < length s) where
+    pub worked-all : {x : Double} {before after : Slots} → Holds m s at before → x ≡ slotAt before at .score → AllOffered m s at on (ready .well) below x before after → Worked m s at before after (next s at)
+    unfolding shown afterOffer
+    worked-all {x} {before} {after} h e o =
+        record {
+          next = refl;
+          holds = held-next;
+          best = λ j l p b. best-held (next s at) after held-next j l p (boundary-le s j b) b;
+          past = λ k l.
+              o .slots k
+              ∙ ap (λ (p : Option Piece). afterOffer p x at (slotAt before k)) (piece-known m s at on k (λ q. omega (arith, next-inside s (ready .well) at on below)) ∙ known-past m s at k l);
+        }
+      where
+        score : x ≡ scoreOf (best (pieceOf m s) at at)
+        score = e ∙ score-held at at before h (omega arith)
+
+        one-more : (k : ℕ) → k ≤ length s → afterOffer (pieceOf m s at k) x at (slotAt before k) ≡ shown (best (pieceOf m s) (suc at) k)
+        one-more k l =
+            ⊎-elim
+            (λ (n : pieceOf m s at k ≡ none).
+            ap (λ (p : Option Piece). afterOffer p x at (slotAt before k)) n ∙ h .slots k l ∙ ap shown (sym (passed (pieceOf m s) at k n)))
+            (λ (w : (p : Piece) × (pieceOf m s at k ≡ some p)).
+            ap (λ (p : Option Piece). afterOffer p x at (slotAt before k)) (w .1)
+            ∙ ap (λ (q : Slot). taken q (candidate x at (w .0))) (h .slots k l)
+            ∙ taken-shown (best (pieceOf m s) at k) (candidate x at (w .0)) (start-small at k (omega arith))
+            ∙ ap (λ (y : Double). offered (best (pieceOf m s) at k) (candidate y at (w .0))) score
+            ∙ sym (ap shown (worked (pieceOf m s) at k (w .0) (w .1))))
+            (looked (pieceOf m s at k))
+
+        held-next : Holds m s (next s at) after
+        held-next =
+            record {
+              slots = λ k l.
+                  o .slots k
+                  ∙ one-more k l
+                  ∙ ap shown (sym (jumped rule (suc at) (next s at) k (next-above s (ready .well) at on below) (λ i p q. next-first s (ready .well) at on below i p q)));
+            }
+
+-- ---- before the first start, and after the last
+
+pub holds-none : {m : Model} {s : List ℕ} {before after : Slots} {n : ℕ} → n ≡ length s → Cleared before n after → Holds m s 0 after
+holds-none {m} {s} {before} {after} {n} e c =
+    record {
+      slots = λ k l.
+          c .slots k
+          ∙ ap (λ (t : Bool). cond t (shown none) (slotAt before k)) (le-leb k n (omega arith))
+          ∙ ap shown (sym (none-before (pieceOf m s) k));
+    }
+
+pub cleared-past : {before after : Slots} {n : ℕ} → Cleared before n after → (k : ℕ) → n < k → slotAt after k ≡ slotAt before k
+cleared-past {before} {after} {n} c k l = c .slots k ∙ ap (λ (t : Bool). cond t (shown none) (slotAt before k)) (lt-leb k n l)
+
+pub recorded : {m : Model} {s : List ℕ} (ready : Ready m s) {before after : Slots} (at : ℕ) → at ≡ length s → Holds m s at after → ((k : ℕ) → length s < k → slotAt after k ≡ slotAt before k) → Recorded m s before after
+recorded {m} {s} ready {before} {after} at e h past =
+    let all : Holds m s (length s) after = subst (λ (n : ℕ). Holds m s n after) e h in
+    record { holds = all; best = λ j l inside b. best-held ready (length s) after all j l inside inside b; past = past }

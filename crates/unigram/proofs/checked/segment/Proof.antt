@@ -1,0 +1,102 @@
+-- `unigram::checked::segment` meets its contract: the records, the path that they give, and the ids merged from it (`cut-of`). Assumes nothing.
+use mathlib.Core.Path.{_≡_, refl, sym, ap, subst, _∙_}
+use mathlib.Core.List.{List, map}
+use Prim.Native.Nat.{ℕ, _≤_, _<_}
+use native.Mathlib.Omega.{arith}
+use lib.ListN.{length, take}
+use lib.Seq.{length-take-le}
+use Rattle.unigram.specs.Pieces.{Model, piecesOf}
+use Rattle.unigram.specs.Work.{modelOf, pieceWith}
+use Rattle.unigram.proofs.Segmenting.{falls, ends-few, front-is, mergeable, cut-of}
+use borrow.Author.Needs.{needs}
+use Rattle.unigram.proofs.checked.segment.Statement.{statement}
+use Rattle.unigram.proofs.checked.segment.Tie as tie
+
+-- the function's start, from after the records are filled
+abbrev entry : tie.After-fill → tie.Start
+entry c = c .before .before .before .before .before .before .before .before .before .before .before .before .before .before .before .before
+
+-- the records, from after the path is traced
+abbrev filled : tie.After-trace → tie.After-fill
+filled c = c .before .before .before .before .before .before .before .before .before
+
+abbrev model : tie.Start → Model
+model c =
+    let a = c .args in
+    modelOf (a .edge-at .now) (a .edge-n .now) (a .id .now) (a .score .now) (a .byte .now) (a .to .now) (pieceWith (a .unknown) (a .unknown-score))
+
+-- the first places of the path
+front : (c : tie.After-trace) → let e = entry (filled c) in take (c .trace .result) (c .trace .last .1 .1 .0) ≡ map (λ p. p .end) (piecesOf (model e) (e .args .text .now))
+front c =
+    let f = filled c in
+    front-is (entry f .pre .ready) (f .fill .ensures) (c .trace .ensures .0) (c .trace .ensures .1)
+
+-- the path holds them
+fits : (c : tie.After-trace) → c .trace .result ≤ length (c .trace .last .1 .1 .0)
+fits c =
+    let f = filled c in
+    let e = entry f in
+    omega (arith, c .trace .ensures .1, ends-few (e .pre .ready) (f .fill .ensures), e .pre .path, c .trace .kept .1 .1 .0)
+
+fill-requires : tie.Need-fill-requires
+fill-requires c κs = search needs
+
+trace-requires : tie.Need-trace-requires
+trace-requires c κs =
+    let f = c .before .before .before .before .before .before .before .before in
+    let e = entry f in
+    (falls (e .pre .ready) (f .fill .ensures) (omega (arith, f .fill .kept .1 .1 .1 .1 .1 .1 .1 .1 .1 .0, e .pre .slots .start)), omega (arith, ends-few (e .pre .ready) (f .fill .ensures), e .pre .path))
+
+slice-reshare-prefix-merge : tie.Need-slice-reshare-prefix-merge
+slice-reshare-prefix-merge c = fits (c .before .before .before)
+
+slice-aggregate-merge : tie.Need-slice-aggregate-merge
+slice-aggregate-merge c = let t = c .before .before .before .before in sym (length-take-le (t .trace .result) (t .trace .last .1 .1 .0) (fits t))
+
+merge-requires : tie.Need-merge-requires
+merge-requires c κs =
+    let t = c .before .before .before .before .before in
+    let f = filled t in
+    let e = entry f in
+    let l = f .fill .last .1 .1 .1 .1 .1 .1 .1 .1 .1 in
+    mergeable (e .pre .ready) (l .0) (l .1 .0) (l .1 .1 .0) (e .pre .slots) (f .fill .ensures) (front t) (f .fill .kept .1 .1 .1 .1 .1 .1 .1 .1 .1 .1 .0) (e .pre .ids)
+
+same-length : tie.Need-same-length
+same-length c = search needs
+
+same-length-2 : tie.Need-same-length-2
+same-length-2 c = search needs
+
+same-length-3 : tie.Need-same-length-3
+same-length-3 c = search needs
+
+same-length-4 : tie.Need-same-length-4
+same-length-4 c = search needs
+
+same-length-5 : tie.Need-same-length-5
+same-length-5 c = search needs
+
+returns : tie.Need-returns
+returns c =
+    let g = c .before .before in
+    let t = g .before .before .before .before .before .before in
+    let f = filled t in
+    let e = entry f in
+    let l = f .fill .last .1 .1 .1 .1 .1 .1 .1 .1 .1 in
+    cut-of (e .pre .ready) (l .0) (l .1 .0) (l .1 .1 .0) (e .pre .slots) (f .fill .ensures) (f .fill .kept .1 .1 .1 .1 .1 .1 .1 .1 .1 .0) (f .fill .kept .1 .1 .1 .1 .1 .1 .1 .1 .1 .1 .0) (f .fill .kept .1 .1 .1 .1 .1 .1 .1 .1 .1 .1 .1 .0) (t .trace .ensures .0) (front t) (g .merge .ensures)
+
+pub segment-spec : {M : Type 1} → statement M
+segment-spec =
+    tie.close
+    (tie.spec
+    fill-requires
+    trace-requires
+    slice-reshare-prefix-merge
+    slice-aggregate-merge
+    merge-requires
+    same-length
+    same-length-2
+    same-length-3
+    same-length-4
+    same-length-5
+    returns)

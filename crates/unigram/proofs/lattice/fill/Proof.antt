@@ -1,0 +1,147 @@
+-- `unigram::lattice::fill` meets its contract. The loop's invariant: the slots hold the records as they are when the starts before `at` have been
+-- worked, and `at` is a boundary. The next boundary is above it, so what is left of the text falls. Assumes nothing.
+use mathlib.Core.Path.{_≡_, refl, sym, ap, subst, _∙_}
+use mathlib.Core.Bool.{true}
+use mathlib.Core.List.{List}
+use Prim.Native.Nat.{ℕ, _-_, _≤_, _<_}
+use native.Mathlib.Omega.{arith}
+use lib.ListN.{length}
+use Rattle.text.specs.Text.{boundary, next}
+use Rattle.text.proofs.Boundaries.{boundary-zero, next-above, next-inside, next-boundary}
+use Rattle.unigram.specs.Pieces.{Model}
+use Rattle.unigram.specs.Slots.{Slots, slotsOf, slotAt, Inside}
+use Rattle.unigram.specs.Work.{modelOf, pieceWith, Holds, Come}
+use Rattle.unigram.proofs.Offering.{holds-none, cleared-past, recorded}
+use Rattle.unigram.proofs.lattice.fill.Statement.{statement}
+use Rattle.unigram.proofs.lattice.fill.Tie as tie
+
+abbrev Inv-loop : tie.InvT-loop
+Inv-loop edge-at edge-n id score byte to unknown unknown-score text start₀ slot-id₀ slot-score₀ at₀ start slot-id slot-score at =
+    (at ≤ length text)
+    × (boundary text at ≡ true)
+    × (length start ≡ length start₀)
+    × (length slot-id ≡ length slot-id₀)
+    × (length slot-score ≡ length slot-score₀)
+    × Holds (modelOf edge-at edge-n id score byte to (pieceWith unknown unknown-score)) text at (slotsOf start slot-id slot-score)
+    × ((k : ℕ) → length text < k → slotAt (slotsOf start slot-id slot-score) k ≡ slotAt (slotsOf start₀ slot-id₀ slot-score₀) k)
+
+abbrev μ-loop : tie.MeasureT-loop
+μ-loop edge-at edge-n id score byte to unknown unknown-score text start₀ slot-id₀ slot-score₀ at₀ start slot-id slot-score at = length text - at
+
+-- the function's start, from before and after the slots are emptied
+abbrev entry : tie.After-slice-known3 Inv-loop μ-loop → tie.Start Inv-loop μ-loop
+entry c = c .before .before .before .before .before .before .before .before .before .before
+
+abbrev begun : tie.After-clear Inv-loop μ-loop → tie.Start Inv-loop μ-loop
+begun c = entry (c .before .before .before .before)
+
+-- back from where the loop begins, and from after a turn's work
+abbrev emptied : tie.After-slice-known6 Inv-loop μ-loop → tie.After-clear Inv-loop μ-loop
+emptied c = c .before .before .before .before .before .before
+
+abbrev worked : tie.After-slice-known9 Inv-loop μ-loop → tie.After-work-at Inv-loop μ-loop
+worked c = c .before .before .before .before .before .before
+
+abbrev turn : tie.After-work-at Inv-loop μ-loop → tie.In-loop Inv-loop μ-loop
+turn c = c .before .before .before .before
+
+abbrev text : tie.Start Inv-loop μ-loop → List ℕ
+text c = c .args .text .now
+
+-- the next boundary is above
+goes-on :
+    (c : tie.After-work-at Inv-loop μ-loop) → let h = turn c .before in
+    h .loop .at < next (text (begun (emptied (h .before)))) (h .loop .at)
+goes-on c =
+    let t = turn c in
+    let h = t .before in
+    let e = begun (emptied (h .before)) in
+    next-above (text e) (e .pre .0 .well) (h .loop .at) (h .loop .inv .1) (t .loop-test .taken)
+
+clear-requires : tie.Need-clear-requires Inv-loop μ-loop
+clear-requires c κs = entry (c .before .before .before) .pre .1
+
+loop-holds : tie.Need-loop-holds Inv-loop μ-loop
+loop-holds c =
+    let d = emptied c in
+    let e = begun d in
+    (omega arith, boundary-zero (text e) (e .pre .0 .well), refl, refl, refl, holds-none refl (d .clear .ensures), λ k l. refl)
+
+work-at-requires : tie.Need-work-at-requires Inv-loop μ-loop
+work-at-requires c κs =
+    let t = c .before .before .before in
+    let h = t .before in
+    let d = emptied (h .before) in
+    let e = begun d in
+    let s = e .pre .1 in
+    let kept = d .clear .kept in
+    record {
+      ready = e .pre .0;
+      below = t .loop-test .taken;
+      boundary = h .loop .inv .1;
+      inside =
+          record {
+            start = omega (arith, s .start, h .loop .inv .2, kept .0);
+            id = omega (arith, s .id, h .loop .inv .3, kept .1 .0);
+            score = omega (arith, s .score, h .loop .inv .4, kept .1 .1 .0);
+          };
+      holds = h .loop .inv .5;
+    }
+
+loop-less : tie.Need-loop-less Inv-loop μ-loop
+loop-less c =
+    let w = worked c in
+    let above = goes-on w in
+    let more = turn w .loop-test .taken in
+    omega (arith, w .work-at .ensures .next)
+
+loop-again : tie.Need-loop-again Inv-loop μ-loop
+loop-again c =
+    let w = worked c in
+    let t = turn w in
+    let h = t .before in
+    let e = begun (emptied (h .before)) in
+    let k = w .work-at .kept .1 .1 .1 .1 .1 .1 .1 .1 .1 .1 in
+    let a = h .loop .at in
+    let well = e .pre .0 .well in (
+      omega (arith, w .work-at .ensures .next, next-inside (text e) well a (h .loop .inv .1) (t .loop-test .taken)),
+      ap (boundary (text e)) (w .work-at .ensures .next) ∙ next-boundary (text e) well a (h .loop .inv .1) (t .loop-test .taken),
+      k .0 ∙ h .loop .inv .2,
+      k .1 .0 ∙ h .loop .inv .3,
+      k .1 .1 .0 ∙ h .loop .inv .4,
+      w .work-at .ensures .holds,
+      λ i l. w .work-at .ensures .past i l ∙ h .loop .inv .6 i l,
+    )
+
+same-length : tie.Need-same-length Inv-loop μ-loop
+same-length c = c .before .loop .inv .2 ∙ emptied (c .before .before) .clear .kept .0
+
+same-length-2 : tie.Need-same-length-2 Inv-loop μ-loop
+same-length-2 c = c .before .loop .inv .3 ∙ emptied (c .before .before) .clear .kept .1 .0
+
+same-length-3 : tie.Need-same-length-3 Inv-loop μ-loop
+same-length-3 c = c .before .loop .inv .4 ∙ emptied (c .before .before) .clear .kept .1 .1 .0
+
+returns : tie.Need-returns Inv-loop μ-loop
+returns c =
+    let h = c .before in
+    let d = emptied (h .before) in
+    let e = begun d in
+    recorded (e .pre .0) (h .loop .at) (omega (arith, h .loop .inv .0, c .loop-test .left)) (h .loop .inv .5)
+    (λ k l. h .loop .inv .6 k l ∙ cleared-past (d .clear .ensures) k l)
+
+pub fill-spec : {M : Type 1} → statement M
+fill-spec =
+    tie.close
+    (tie.spec
+    Inv-loop
+    μ-loop
+    clear-requires
+    loop-holds
+    work-at-requires
+    loop-less
+    loop-again
+    same-length
+    same-length-2
+    same-length-3
+    returns)

@@ -1,0 +1,66 @@
+-- `unigram::runs::run_id` meets its contract: the second look-up, of the whole run's bytes. Assumes nothing.
+use mathlib.Core.Path.{_≡_, refl, sym, ap, subst, _∙_}
+use mathlib.Core.List.{List, [], _∷_, _++_}
+use Prim.Native.Nat.{ℕ, _+_, _<_}
+use native.Mathlib.Omega.{arith}
+use lib.ListN.{length}
+use Rattle.trie.specs.Trie.{Trie, partsOf}
+use Rattle.trie.specs.Walks.{idIn}
+use Rattle.unigram.specs.Merge.{partId}
+use Rattle.unigram.proofs.Laws.{run-known, run-unknown}
+use borrow.Author.Needs.{needs}
+use Rattle.unigram.proofs.runs.run_id.Statement.{statement}
+use Rattle.unigram.proofs.runs.run_id.Tie as tie
+
+-- the function's start, from after the look-up
+abbrev entry : tie.After-exact → tie.Start
+entry c = c .before .before .before .before .before .before .before .before
+
+abbrev parts : tie.Start → Trie
+parts c = let a = c .args in partsOf (a .edge-at .now) (a .edge-n .now) (a .id .now) (a .byte .now) (a .to .now)
+
+sub-exact : tie.Need-sub-exact
+sub-exact c = search needs
+
+part-exact-start : tie.Need-part-exact-start
+part-exact-start c = search needs
+
+part-exact-end : tie.Need-part-exact-end
+part-exact-end c = search needs
+
+exact-requires : tie.Need-exact-requires
+exact-requires c κs = search needs
+
+enum-known-i : tie.Need-enum-known-i
+enum-known-i c = search needs
+
+enum-told : tie.Need-enum-told
+enum-told c = search needs
+
+returns : tie.Need-returns
+returns c =
+    let i = c .before in
+    let x = i .before .before in
+    let e = entry x in
+    let a = e .args in
+    sym (run-known (partId (parts e) (a .text .now)) (a .unknown) (a .run) (a .at) _ (sym (x .exact .ensures) ∙ ap idIn (i .i .given .1)))
+
+returns-2 : tie.Need-returns-2
+returns-2 c =
+    let x = c .before .before in
+    let e = entry x in
+    let a = e .args in
+    sym (run-unknown (partId (parts e) (a .text .now)) (a .unknown) (a .run) (a .at) (sym (x .exact .ensures) ∙ ap idIn (c .enum-told .given .1)))
+
+pub run-id-spec : {M : Type 1} → statement M
+run-id-spec =
+    tie.close
+    (tie.spec
+    sub-exact
+    part-exact-start
+    part-exact-end
+    exact-requires
+    enum-known-i
+    enum-told
+    returns
+    returns-2)

@@ -1,0 +1,67 @@
+-- What merging reads and writes: the path, the slots' ids, the lent id places. Definitions only; assumes nothing.
+use mathlib.Core.Path.{_≡_}
+use Prim.Native.Nat.{ℕ, _+_, _≤_, _<_}
+use mathlib.Core.Bool.{cond}
+use mathlib.Core.List.{List, [], _∷_, _++_, map}
+use mathlib.Core.Option.{Option, none, some}
+use lib.Dec.{ltb, eqb}
+use lib.ListN.{length, getD, take, drop}
+use Rattle.refusal.specs.Sizes.{noId}
+use Rattle.refusal.specs.Places.{overlay}
+use Rattle.text.specs.Text.{part}
+use Rattle.trie.specs.Trie.{Trie, idOf}
+use Rattle.trie.specs.Sound.{Sound}
+use Rattle.unigram.specs.Cuttings.{Step}
+use Rattle.unigram.specs.Runs.{runId, merged}
+
+-- the pieces that end at these places, with the ids of the slots there
+abbrev pub stepsAt : List ℕ → List ℕ → List Step
+stepsAt ids path = map (λ e. record { end = e; id = getD ids e noId }) path
+
+-- the ends rise from `at` and are at most n
+pub data Ends (n : ℕ) : ℕ → List ℕ → Type 0 where
+  no-more : {at : ℕ} → Ends n at []
+  and-then : {at e : ℕ} {es : List ℕ} → at < e → e ≤ n → Ends n e es → Ends n at (e ∷ es)
+
+-- the id of the bytes from i up to j, where they have one
+abbrev pub partId : Trie → List ℕ → ℕ → ℕ → Option ℕ
+partId t s i j = idOf t (part s i j)
+
+-- the run from `run` up to `at`, whose id is still to come: none where the two are one
+unfoldable pub runOf : ℕ → ℕ → Option ℕ
+runOf run at = cond (ltb run at) (some run) none
+
+-- how many ids it will take
+unfoldable pub waiting : ℕ → ℕ → ℕ
+waiting run at = cond (ltb run at) 1 0
+
+-- its ids
+unfoldable pub runIds : (ℕ → ℕ → Option ℕ) → ℕ → ℕ → ℕ → List ℕ
+runIds idOf unknown run at = cond (ltb run at) (runId idOf unknown run at ∷ []) []
+
+-- what is written when a piece with the id x comes at `at`: nothing where it is the unknown id, else the run's id and x
+unfoldable pub closing : (ℕ → ℕ → Option ℕ) → ℕ → ℕ → ℕ → ℕ → List ℕ
+closing idOf unknown run at x = cond (eqb x unknown) [] (runIds idOf unknown run at ++ (x ∷ []))
+
+-- the ids ws stand from place n on, the others as they were, and r is the place after them
+pub record Placed (ws before : List ℕ) (n : ℕ) (after : List ℕ) (r : ℕ) : Type 0 where
+  pub ids : after ≡ take n before ++ (ws ++ drop (n + length ws) before)
+  pub next : r ≡ n + length ws
+
+-- the run may be looked up: in sound parts, within the text
+pub record Run (t : Trie) (s : List ℕ) (run at : ℕ) : Type 0 where
+  pub sound : Sound t
+  pub forward : run ≤ at
+  pub inside : at ≤ length s
+
+-- the path may be merged: it rises within the text, each of its places has a slot, and there is an id place for each
+pub record Mergeable (t : Trie) (s slotIds path ids : List ℕ) : Type 0 where
+  pub sound : Sound t
+  pub ends : Ends (length s) 0 path
+  pub slots : length s < length slotIds
+  pub room : length path ≤ length ids
+
+-- "ids in order; places past them unchanged": the path's ids, merged
+pub record Merged (t : Trie) (unknown : ℕ) (s slotIds path before after : List ℕ) (r : ℕ) : Type 0 where
+  pub ids : after ≡ overlay (merged (partId t s) unknown none 0 (stepsAt slotIds path)) before
+  pub count : r ≡ length (merged (partId t s) unknown none 0 (stepsAt slotIds path))

@@ -1,0 +1,91 @@
+-- What the work at one boundary does to the slots, and what it rests on. Definitions only; assumes nothing.
+use mathlib.Core.Path.{_≡_}
+use Prim.Native.Nat.{ℕ, _≤_, _<_}
+use mathlib.Core.Bool.{Bool, true, false, _&&_, _||_, cond}
+use mathlib.Core.List.{List, map}
+use mathlib.Core.Option.{Option, none, some}
+use lib.Dec.{leb, ltb, eqb}
+use lib.Ieee.{Float}
+use lib.ListN.{length}
+use Rattle.doubles.specs.Double.{Double}
+use Rattle.doubles.specs.Units.{units}
+use Rattle.refusal.specs.Sizes.{maxText}
+use Rattle.text.specs.Text.{wellFormed, boundary, next, part}
+use Rattle.trie.specs.Trie.{partsOf}
+use Rattle.trie.specs.Sound.{Sound, SoundScored}
+use Rattle.unigram.specs.Cuttings.{Piece, Best}
+use Rattle.unigram.specs.Records.{best, shown}
+use Rattle.unigram.specs.Pieces.{Model, pieceAt, known, pieceOf}
+use Rattle.unigram.specs.Slots.{Slots, slotAt, afterOffer, Inside, PutAt}
+
+-- the model in lent columns
+abbrev pub modelOf : List ℕ → List ℕ → List ℕ → List Float → List ℕ → List ℕ → Piece → Model
+modelOf edgeAt edgeN id score byte to unknown = record { trie = partsOf edgeAt edgeN id byte to; score = map units score; unknown = unknown }
+
+abbrev pub pieceWith : ℕ → Float → Piece
+pieceWith id score = record { id = id; score = units score }
+
+-- every slot but the first n + 1 is as it was, and those are empty
+pub record Cleared (before : Slots) (n : ℕ) (after : Slots) : Type 0 where
+  pub slots : (k : ℕ) → slotAt after k ≡ cond (leb k n) (shown none) (slotAt before k)
+
+unfoldable pub isSome : Option Piece → Bool
+isSome none = false
+isSome (some p) = true
+
+-- the piece that node k ends at i, if i is a boundary
+unfoldable pub endsHere : Model → List ℕ → ℕ → ℕ → Option Piece
+endsHere m s k i = elim (boundary s i) [ true ↦ pieceAt m k | false ↦ none ]
+
+-- The work at one end i of a walk from `at`: the piece that ends there is offered, and `single` becomes true where it is one character long.
+pub record Ended (m : Model) (s : List ℕ) (node i one : ℕ) (single : Bool) (at : ℕ) (x : Double) (before after : Slots) (r : Bool) : Type 0 where
+  pub put : PutAt before i (afterOffer (endsHere m s node i) x at (slotAt before i)) after
+  pub seen : r ≡ (single || (eqb i one && isSome (endsHere m s node i)))
+
+-- the string from `at` to j with an id, where j is a boundary
+unfoldable pub knownTo : Model → List ℕ → ℕ → ℕ → Option Piece
+knownTo m s at j = elim (ltb at j && boundary s j) [ true ↦ known m (part s at j) | false ↦ none ]
+
+-- a walk may be begun at `at`, in sound parts with a score for each node; `one` is past it, and the text is within the limit
+pub record Walkable (edgeAt edgeN id : List ℕ) (score : List Float) (byte to s : List ℕ) (at one : ℕ) : Type 0 where
+  pub parts : Sound (partsOf edgeAt edgeN id byte to)
+  pub level-score : length score ≡ length edgeAt
+  pub inside : at ≤ length s
+  pub ahead : at < one
+  pub size : length s ≤ maxText
+
+-- Each string with an id that starts at `at` has been offered, and r says whether one is `one - at` bytes long.
+pub record KnownOffered (m : Model) (s : List ℕ) (at one : ℕ) (x : Double) (before after : Slots) (r : Bool) : Type 0 where
+  pub slots : (k : ℕ) → slotAt after k ≡ afterOffer (knownTo m s at k) x at (slotAt before k)
+  pub seen : r ≡ isSome (knownTo m s at one)
+
+-- the slots hold the records as they are when the starts before `from` have been worked
+pub record Holds (m : Model) (s : List ℕ) (from : ℕ) (c : Slots) : Type 0 where
+  pub slots : (k : ℕ) → k ≤ length s → slotAt c k ≡ shown (best (pieceOf m s) from k)
+
+-- what the core rests on: sound parts and a well-formed text within the limit
+pub record Ready (m : Model) (s : List ℕ) : Type 0 where
+  pub sound : SoundScored (m .trie) (m .score) (m .unknown .score)
+  pub well : wellFormed s ≡ true
+  pub size : length s ≤ maxText
+
+-- the work has come to the boundary `at`
+pub record Come (m : Model) (s : List ℕ) (at : ℕ) (starts ids : List ℕ) (scores : List Float) (c : Slots) : Type 0 where
+  pub ready : Ready m s
+  pub below : at < length s
+  pub boundary : boundary s at ≡ true
+  pub inside : Inside starts ids scores (length s)
+  pub holds : Holds m s at c
+
+-- The work at `at` is done, and r is the next boundary. The record law of demand 3 holds at every boundary come to so far.
+pub record Worked (m : Model) (s : List ℕ) (at : ℕ) (before after : Slots) (r : ℕ) : Type 0 where
+  pub next : r ≡ next s at
+  pub holds : Holds m s r after
+  pub best : (j : ℕ) → 0 < j → j ≤ r → boundary s j ≡ true → Best (pieceOf m s) j (slotAt after j)
+  pub past : (k : ℕ) → length s < k → slotAt after k ≡ slotAt before k
+
+-- All of the work is done: every slot up to the text's length holds its record, and demand 3's law holds at every boundary.
+pub record Recorded (m : Model) (s : List ℕ) (before after : Slots) : Type 0 where
+  pub holds : Holds m s (length s) after
+  pub best : (j : ℕ) → 0 < j → j ≤ length s → boundary s j ≡ true → Best (pieceOf m s) j (slotAt after j)
+  pub past : (k : ℕ) → length s < k → slotAt after k ≡ slotAt before k

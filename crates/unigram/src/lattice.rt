@@ -1,0 +1,195 @@
+// The records, filled boundary by boundary: each piece that starts at a boundary is offered to the slot where it ends.
+use crate::slots::Slot;
+use trie::checked::NodeId;
+use trie::checked::Step;
+use trie::checked::Walk;
+ghost use mathlib.Core.Path.{_≡_};
+ghost use mathlib.Core.List.{map};
+ghost use Prim.Native.Nat.{_≤_, _<_};
+ghost use lib.ListN.{length};
+ghost use Rattle.doubles.specs.Units.{units};
+ghost use Rattle.trie.specs.Trie.{partsOf};
+ghost use Rattle.trie.specs.Sound.{Sound};
+ghost use Rattle.unigram.specs.Cuttings.{Piece};
+ghost use Rattle.unigram.specs.Pieces.{Model};
+ghost use Rattle.unigram.specs.Slots.{slotsOf, Inside};
+ghost use Rattle.unigram.specs.Work.{modelOf, pieceWith, Ended, Walkable, KnownOffered, Ready, Come, Worked, Recorded};
+
+// A walk from `at` has come to `node` at i. If i is a boundary and the node has an id, the piece is offered to the slot at i. Answers `single`, or
+// true where that piece ends at `one`.
+fn end_at(
+    id: &[u32],
+    score: &[f64],
+    text: &[u8],
+    node: u32,
+    i: usize,
+    one: usize,
+    single: bool,
+    at: usize,
+    till: f64,
+    start: &mut [u32],
+    slot_id: &mut [u32],
+    slot_score: &mut [f64],
+) -> bool
+    requires { ⌜ (node < length (now id)) × (node < length (now score)) × (at ≤ 65536) × Inside (now start) (now «slot_id») (now «slot_score») i ⌝ }
+    ensures { λ r. ⌜ ((m : Model) → m .trie .id ≡ now (id .entry) → m .score ≡ map units (now (score .entry)) → Ended m (now (text .entry)) node i one single at (units till) (slotsOf (now (start .entry)) (now («slot_id» .entry)) (now («slot_score» .entry))) (slotsOf (now (start .exit)) (now («slot_id» .exit)) (now («slot_score» .exit))) r) ⌝ }
+{
+    if !text::utf8::is_boundary(text, i) {
+        return single;
+    }
+    match trie::checked::id_at(id, Walk { node }) {
+        NodeId::Is(x) => {
+            let k = node as usize;
+            let q = Slot {
+                start: at as u32,
+                id: x,
+                score: doubles::added(till, score[k]),
+            };
+            crate::slots::offer(start, slot_id, slot_score, i, q);
+            if i == one {
+                return true;
+            }
+            single
+        }
+        NodeId::Missing => single,
+    }
+}
+
+// Offers each string with an id that starts at `at`, longer by a byte at each turn. Answers whether one of them ends at `one`. `till` is the
+// score that stands before them.
+fn offer_known(
+    edge_at: &[u32],
+    edge_n: &[u16],
+    id: &[u32],
+    score: &[f64],
+    byte: &[u8],
+    to: &[u32],
+    text: &[u8],
+    at: usize,
+    one: usize,
+    till: f64,
+    start: &mut [u32],
+    slot_id: &mut [u32],
+    slot_score: &mut [f64],
+) -> bool
+    requires { ⌜ Walkable (now «edge_at») (now «edge_n») (now id) (now score) (now byte) (now to) (now text) at one × Inside (now start) (now «slot_id») (now «slot_score») (length (now text)) ⌝ }
+    ensures { λ r. ⌜ ((u : Piece) → KnownOffered (modelOf (now («edge_at» .entry)) (now («edge_n» .entry)) (now (id .entry)) (now (score .entry)) (now (byte .entry)) (now (to .entry)) u) (now (text .entry)) at one (units till) (slotsOf (now (start .entry)) (now («slot_id» .entry)) (now («slot_score» .entry))) (slotsOf (now (start .exit)) (now («slot_id» .exit)) (now («slot_score» .exit))) r) ⌝ }
+{
+    let mut node: u32 = 0;
+    let mut single = false;
+    let mut i = at;
+    while i < text.len() {
+        let here = Walk { node };
+        match here.step(edge_at, edge_n, byte, to, text[i]) {
+            Step::To(next) => {
+                node = next.node;
+            }
+            Step::Stop => {
+                return single;
+            }
+        }
+        i += 1;
+        single = end_at(
+            id,
+            score,
+            text,
+            node,
+            i,
+            one,
+            single,
+            at,
+            till,
+            start,
+            slot_id,
+            slot_score,
+        );
+    }
+    single
+}
+
+// The work from the boundary `at` to the next, which it answers: each piece that starts here is offered. If no string with an id is exactly one
+// character long, that one character is also a piece, with the unknown id and score.
+pub(crate) fn work_at(
+    edge_at: &[u32],
+    edge_n: &[u16],
+    id: &[u32],
+    score: &[f64],
+    byte: &[u8],
+    to: &[u32],
+    unknown: u32,
+    unknown_score: f64,
+    text: &[u8],
+    at: usize,
+    start: &mut [u32],
+    slot_id: &mut [u32],
+    slot_score: &mut [f64],
+) -> usize
+    requires { ⌜ Come (modelOf (now «edge_at») (now «edge_n») (now id) (now score) (now byte) (now to) (pieceWith unknown «unknown_score»)) (now text) at (now start) (now «slot_id») (now «slot_score») (slotsOf (now start) (now «slot_id») (now «slot_score»)) ⌝ }
+    ensures { λ r. ⌜ Worked (modelOf (now («edge_at» .entry)) (now («edge_n» .entry)) (now (id .entry)) (now (score .entry)) (now (byte .entry)) (now (to .entry)) (pieceWith unknown «unknown_score»)) (now (text .entry)) at (slotsOf (now (start .entry)) (now («slot_id» .entry)) (now («slot_score» .entry))) (slotsOf (now (start .exit)) (now («slot_id» .exit)) (now («slot_score» .exit))) r ⌝ }
+{
+    let till = slot_score[at];
+    let one = at + text::lead::char_len(text[at]);
+    if offer_known(
+        edge_at,
+        edge_n,
+        id,
+        score,
+        byte,
+        to,
+        text,
+        at,
+        one,
+        till,
+        start,
+        slot_id,
+        slot_score,
+    ) {
+        return one;
+    }
+    let q = Slot {
+        start: at as u32,
+        id: unknown,
+        score: doubles::added(till, unknown_score),
+    };
+    crate::slots::offer(start, slot_id, slot_score, one, q);
+    one
+}
+
+// Fills the slots up to the text's length with the records, boundary by boundary.
+pub(crate) fn fill(
+    edge_at: &[u32],
+    edge_n: &[u16],
+    id: &[u32],
+    score: &[f64],
+    byte: &[u8],
+    to: &[u32],
+    unknown: u32,
+    unknown_score: f64,
+    text: &[u8],
+    start: &mut [u32],
+    slot_id: &mut [u32],
+    slot_score: &mut [f64],
+)
+    requires { ⌜ Ready (modelOf (now «edge_at») (now «edge_n») (now id) (now score) (now byte) (now to) (pieceWith unknown «unknown_score»)) (now text) × Inside (now start) (now «slot_id») (now «slot_score») (length (now text)) ⌝ }
+    ensures { λ _. ⌜ Recorded (modelOf (now («edge_at» .entry)) (now («edge_n» .entry)) (now (id .entry)) (now (score .entry)) (now (byte .entry)) (now (to .entry)) (pieceWith unknown «unknown_score»)) (now (text .entry)) (slotsOf (now (start .entry)) (now («slot_id» .entry)) (now («slot_score» .entry))) (slotsOf (now (start .exit)) (now («slot_id» .exit)) (now («slot_score» .exit))) ⌝ }
+{
+    crate::slots::clear(start, slot_id, slot_score, text.len());
+    let mut at: usize = 0;
+    while at < text.len() {
+        at = work_at(
+            edge_at,
+            edge_n,
+            id,
+            score,
+            byte,
+            to,
+            unknown,
+            unknown_score,
+            text,
+            at,
+            start,
+            slot_id,
+            slot_score,
+        );
+    }
+}

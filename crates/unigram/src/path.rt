@@ -1,0 +1,43 @@
+// The records followed back from the text's end: where the pieces of the best cutting end, in order.
+ghost use mathlib.Core.Path.{_≡_};
+ghost use Prim.Native.Nat.{_≤_};
+ghost use lib.ListN.{length};
+ghost use Rattle.unigram.specs.Tracing.{endsFrom, Falling, Traced};
+
+// How many pieces there are before n.
+fn count(start: &[u32], n: usize) -> usize
+    requires { ⌜ Falling (now start) n ⌝ }
+    ensures { λ r. ⌜ r ≡ length (endsFrom (now (start .entry)) n n) ⌝ }
+{
+    let mut pieces: usize = 0;
+    let mut at = n;
+    while 0 < at {
+        pieces += 1;
+        at = start[at] as usize;
+    }
+    pieces
+}
+
+// Writes the ends of these pieces from the last to the first.
+fn write(start: &[u32], n: usize, pieces: usize, path: &mut [u32])
+    requires { ⌜ Falling (now start) n × (pieces ≡ length (endsFrom (now start) n n)) × (pieces ≤ length (now path)) ⌝ }
+    ensures { λ _. ⌜ Traced (now (start .entry)) n (now (path .entry)) (now (path .exit)) ⌝ }
+{
+    let mut k = pieces;
+    let mut at = n;
+    while 0 < at {
+        k -= 1;
+        path[k] = at as u32;
+        at = start[at] as usize;
+    }
+}
+
+// The ends of the pieces before n go to the first path places. Answers how many there are.
+pub(crate) fn trace(start: &[u32], n: usize, path: &mut [u32]) -> usize
+    requires { ⌜ Falling (now start) n × (length (endsFrom (now start) n n) ≤ length (now path)) ⌝ }
+    ensures { λ r. ⌜ Traced (now (start .entry)) n (now (path .entry)) (now (path .exit)) × (r ≡ length (endsFrom (now (start .entry)) n n)) ⌝ }
+{
+    let pieces = count(start, n);
+    write(start, n, pieces, path);
+    pieces
+}
