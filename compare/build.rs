@@ -31,6 +31,12 @@ fn main() {
         fs::write(out.join(format!("{module}.rs")), copy).unwrap();
     }
 
+    // for one benchmark only: the same WordPiece without its wide rows, to tell what share of the time they save
+    let whole = read(&src.join("wordpiece.rs"));
+    let narrow = whole.replace("const WIDE_AT: usize = 8;", "const WIDE_AT: usize = 1000;");
+    assert!(whole != narrow, "wordpiece.rs has the constant WIDE_AT");
+    fs::write(out.join("narrow.rs"), narrow).unwrap();
+
     if env::var("CARGO_FEATURE_PORT").is_ok() {
         let folder = here.join("../target/staticlib");
         println!("cargo:rerun-if-changed={}", folder.join("libexports.a").display());
@@ -42,7 +48,7 @@ fn main() {
         let path = out.join(format!("{module}.rs"));
         format!("#[allow(dead_code)]\n#[path = {:?}]\npub mod {module};\n", path.display().to_string())
     };
-    fs::write(out.join("modules.rs"), MODULES.map(declare).concat()).unwrap();
+    fs::write(out.join("modules.rs"), MODULES.map(declare).concat() + &declare("narrow")).unwrap();
 }
 
 /// The function `text` of `file.rs`, as it stands there.

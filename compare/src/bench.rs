@@ -4,7 +4,7 @@ use std::hint::black_box;
 use std::time::Instant;
 
 use crate::random::Random;
-use crate::tokie::{Lattice, VocabTrie};
+use crate::tokie::{self, Lattice, VocabTrie};
 use crate::{large, port, text, wordpieces};
 
 /// Nanoseconds a call: the least of some runs of many calls, so that other work on the machine counts little.
@@ -28,22 +28,17 @@ pub fn nanoseconds<R>(mut call: impl FnMut() -> R) -> f64 {
     (0..15).map(run).fold(f64::INFINITY, f64::min)
 }
 
-/// How far bytes are text, and how many characters they have.
+/// How far bytes are text.
 pub fn texts() {
-    println!(
-        "| text | bytes | from_utf8, ns | valid_up_to, ns | ratio | chars().count(), ns | characters, ns | ratio |"
-    );
-    println!("|---|---|---|---|---|---|---|---|");
+    println!("| text | bytes | from_utf8, ns | valid_up_to, ns | ratio |");
+    println!("|---|---|---|---|---|");
     let mut r = Random::new(1);
     for (name, kind) in &text::KINDS[..4] {
         for bytes in [16, 64, 256, 1024, 4096, 65536] {
             let s = text::made_of(&mut r, kind, bytes);
-            let t = std::str::from_utf8(&s).unwrap();
             let a = nanoseconds(|| std::str::from_utf8(black_box(&s)));
             let b = nanoseconds(|| port::valid_up_to(black_box(&s)));
-            let c = nanoseconds(|| black_box(t).chars().count());
-            let d = nanoseconds(|| port::characters(black_box(&s)));
-            println!("| {name} | {} | {a:.1} | {b:.1} | {:.2} | {c:.1} | {d:.1} | {:.2} |", s.len(), b / a, d / c);
+            println!("| {name} | {} | {a:.1} | {b:.1} | {:.2} |", s.len(), b / a);
         }
     }
 }
@@ -64,7 +59,9 @@ pub fn tries() {
 /// 10,000 words, core against core: the parts are tested once, outside.
 pub fn wordpieces() {
     let mut r = Random::new(1);
-    let trie = VocabTrie::build(&wordpieces::real(&mut r));
+    let vocabulary = wordpieces::real(&mut r);
+    let trie = VocabTrie::build(&vocabulary);
+    let narrow = tokie::narrow_encode(&vocabulary);
     let parts = trie.parts();
     let tested = port::Tested::new(&parts);
     let given = port::Given { unknown: 0, max_chars: 100, prefix: b"##" };
@@ -73,8 +70,8 @@ pub fn wordpieces() {
         ("of several pieces", Box::new(|r: &mut Random| large::word(r) + &large::word(r) + &large::word(r))),
         ("with a late miss", Box::new(|r: &mut Random| large::word(r) + &large::word(r) + "€")),
     ];
-    println!("| 10,000 words | Rust, ns a word | port, ns a word | ratio |");
-    println!("|---|---|---|---|");
+    println!("| 10,000 words | Rust, ns a word | Rust without wide rows | port | port / Rust | port / Rust without |");
+    println!("|---|---|---|---|---|---|");
     for (name, make) in kinds {
         let words: Vec<String> = (0..10_000).map(|_| make(&mut r)).collect();
         let mut out = Vec::new();
@@ -83,8 +80,14 @@ pub fn wordpieces() {
             words.iter().for_each(|w| trie.encode_into(w, 100, &mut out));
             out.len()
         });
+        let without = nanoseconds(|| {
+            out.clear();
+            words.iter().for_each(|w| narrow(w, 100, &mut out));
+            out.len()
+        });
         let mut ids = vec![0u32; 256];
         let port = nanoseconds(|| words.iter().map(|w| tested.encode(given, w, &mut ids)).sum::<usize>());
-        println!("| {name} | {:.0} | {:.0} | {:.2} |", rust / 10_000.0, port / 10_000.0, port / rust);
+        let [a, b, c] = [rust, without, port].map(|ns| ns / 10_000.0);
+        println!("| {name} | {a:.0} | {b:.0} | {c:.0} | {:.2} | {:.2} |", c / a, c / b);
     }
 }

@@ -13,6 +13,8 @@
 //!
 //! Run from anywhere; the repository is the folder above this package.
 
+#![cfg_attr(not(feature = "port"), allow(dead_code))]
+
 #[cfg(feature = "port")]
 mod bench;
 mod definitions;

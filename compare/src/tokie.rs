@@ -128,3 +128,11 @@ impl VocabTrie {
 pub fn span(table: &[u8], off: u32, len: u32) -> Result<&str, u32> {
     file::text_of(table, off, len).map_err(|said| if said.contains("not utf-8") { 4 } else { 2 })
 }
+
+/// `encode` of the Rust without its wide rows: for one benchmark.
+#[allow(dead_code)]
+pub fn narrow_encode(v: &Wordpiece) -> impl Fn(&str, u32, &mut Vec<u32>) {
+    let trie = narrow::VocabTrie::from_rows(v.rows.clone());
+    let (unknown, prefix) = (v.unknown, v.prefix.clone());
+    move |word, max_chars, out| trie.encode(word, unknown, max_chars as usize, &prefix, out)
+}
