@@ -23,3 +23,5 @@ pub mod Tracing
 pub mod Placing
 -- the whole cutting
 pub mod Segmenting
+-- which test gives which fault, and the promise of `segment`
+pub mod Refusing
