@@ -1,13 +1,19 @@
 -- Answers as numbers, for callers in other languages. Definitions only; assumes nothing.
+use mathlib.Core.Path.{_≡_}
 use Prim.Native.Nat.{ℕ, _+_, _^_}
 use mathlib.Core.Bool.{cond}
 use mathlib.Core.List.{List}
 use mathlib.Core.Option.{Option, none, some}
+use lib.ListN.{length}
 use Rattle.refusal.specs.declared.Fault.{Fault}
 use Rattle.refusal.specs.Refusal.{number}
 use Rattle.text.specs.Text.{wellFormed, characters}
 use Rattle.trie.specs.declared.LookupAnswer.{LookupAnswer}
 use Rattle.trie.specs.declared.LookupAnswer.the-variants.{Found, Absent, Refused}
+use Rattle.unigram.specs.declared.SegmentAnswer.{SegmentAnswer}
+use Rattle.unigram.specs.declared.SegmentAnswer.the-variants as segment-is
+use Rattle.unigram.specs.Pieces.{Model, idsOf}
+use Rattle.unigram.specs.Segment.{Scratch, segmentFault, segmentAnswer, segmentLeaves, RecordLaw}
 use Rattle.wordpiece.specs.declared.EncodeAnswer.{EncodeAnswer}
 use Rattle.wordpiece.specs.declared.EncodeAnswer.the-variants as encode-is
 
@@ -30,3 +36,13 @@ lookupNumber (Refused f) = 2 ^ 32 + number f
 abbrev pub encodeNumber : EncodeAnswer → ℕ
 encodeNumber (encode-is.Ids n) = n
 encodeNumber (encode-is.Refused f) = 2 ^ 32 + number f
+
+abbrev pub segmentNumber : SegmentAnswer → ℕ
+segmentNumber (segment-is.Ids n) = n
+segmentNumber (segment-is.Refused f) = 2 ^ 32 + number f
+
+-- what `segment` promises, its answer as a number
+pub record SegmentedAs (m : Model) (s : List ℕ) (before : Scratch) (answer : ℕ) (after : Scratch) : Type 0 where
+  pub answered : answer ≡ segmentNumber (segmentAnswer (segmentFault m s before) (length (idsOf m s)))
+  pub left : after ≡ segmentLeaves (segmentFault m s before) m s before
+  pub law : segmentFault m s before ≡ none → RecordLaw m s after

@@ -2,6 +2,7 @@
 // it passes what the parameters' types say.
 use text::SpanAnswer;
 use trie::LookupAnswer;
+use unigram::SegmentAnswer;
 use wordpiece::EncodeAnswer;
 ghost use mathlib.Core.Path.{_≡_};
 ghost use mathlib.Core.List.{map};
@@ -12,11 +13,13 @@ ghost use Rattle.text.specs.Span.{spanFault, spanOf, givenFor};
 ghost use Rattle.trie.specs.Trie.{partsOf, idOf};
 ghost use Rattle.trie.specs.Sound.{sound, soundScored};
 ghost use Rattle.trie.specs.Lookup.{lookupFault, lookupAnswer};
+ghost use Rattle.unigram.specs.Work.{modelOf, pieceWith};
+ghost use Rattle.unigram.specs.Core.{scratchOf, Prepared, Cut};
 ghost use Rattle.wordpiece.specs.Pieces.{idsOf};
 ghost use Rattle.wordpiece.specs.Encode.{encodeFault, encodeAnswer, encodeLeaves};
 ghost use Rattle.wordpiece.specs.Checked.{Ready};
 ghost use Rattle.refusal.specs.Places.{overlay};
-ghost use Rattle.exports.specs.Flat.{status, charactersOf, lookupNumber, encodeNumber};
+ghost use Rattle.exports.specs.Flat.{status, charactersOf, lookupNumber, encodeNumber, segmentNumber, SegmentedAs};
 
 // The length of the longest prefix made of whole well-formed characters.
 #[no_mangle]
@@ -212,6 +215,93 @@ pub extern "C" fn sk_encode_checked(
         max_chars,
         prefix,
         word,
+        ids,
+    )
+}
+
+// An answer of `segment` as one number.
+fn segment_number(a: SegmentAnswer) -> usize
+    ensures { λ r. ⌜ r ≡ segmentNumber a ⌝ }
+{
+    match a {
+        SegmentAnswer::Ids(n) => n,
+        SegmentAnswer::Refused(f) => 4_294_967_296 + refusal::number(f) as usize,
+    }
+}
+
+// The ids of a text by its best cutting, its pieces' ends and its records: how many ids, or 2^32 and 1, 8, 4, 9 or 10.
+#[no_mangle]
+pub extern "C" fn sk_segment(
+    edge_at: &[u32],
+    edge_n: &[u16],
+    id: &[u32],
+    score: &[f64],
+    byte: &[u8],
+    to: &[u32],
+    unknown: u32,
+    unknown_score: f64,
+    text: &[u8],
+    start: &mut [u32],
+    slot_id: &mut [u32],
+    slot_score: &mut [f64],
+    path: &mut [u32],
+    ids: &mut [u32],
+) -> usize
+    ensures { λ r. ⌜ SegmentedAs (modelOf (now («edge_at» .entry)) (now («edge_n» .entry)) (now (id .entry)) (now (score .entry)) (now (byte .entry)) (now (to .entry)) (pieceWith unknown «unknown_score»)) (now (text .entry)) (scratchOf (now (start .entry)) (now («slot_id» .entry)) (now («slot_score» .entry)) (now (path .entry)) (now (ids .entry))) r (scratchOf (now (start .exit)) (now («slot_id» .exit)) (now («slot_score» .exit)) (now (path .exit)) (now (ids .exit))) ⌝ }
+{
+    segment_number(unigram::segment(
+        edge_at,
+        edge_n,
+        id,
+        score,
+        byte,
+        to,
+        unknown,
+        unknown_score,
+        text,
+        start,
+        slot_id,
+        slot_score,
+        path,
+        ids,
+    ))
+}
+
+// The same for a caller that has tested the parts, the text and the places, and calls it for many texts.
+#[no_mangle]
+pub extern "C" fn sk_segment_checked(
+    edge_at: &[u32],
+    edge_n: &[u16],
+    id: &[u32],
+    score: &[f64],
+    byte: &[u8],
+    to: &[u32],
+    unknown: u32,
+    unknown_score: f64,
+    text: &[u8],
+    start: &mut [u32],
+    slot_id: &mut [u32],
+    slot_score: &mut [f64],
+    path: &mut [u32],
+    ids: &mut [u32],
+) -> usize
+    requires { ⌜ Prepared (modelOf (now «edge_at») (now «edge_n») (now id) (now score) (now byte) (now to) (pieceWith unknown «unknown_score»)) (now text) (now start) (now «slot_id») (now «slot_score») (now path) (now ids) ⌝ }
+    ensures { λ r. ⌜ Cut (modelOf (now («edge_at» .entry)) (now («edge_n» .entry)) (now (id .entry)) (now (score .entry)) (now (byte .entry)) (now (to .entry)) (pieceWith unknown «unknown_score»)) (now (text .entry)) (scratchOf (now (start .entry)) (now («slot_id» .entry)) (now («slot_score» .entry)) (now (path .entry)) (now (ids .entry))) (scratchOf (now (start .exit)) (now («slot_id» .exit)) (now («slot_score» .exit)) (now (path .exit)) (now (ids .exit))) r ⌝ }
+{
+    unigram::checked::segment(
+        edge_at,
+        edge_n,
+        id,
+        score,
+        byte,
+        to,
+        unknown,
+        unknown_score,
+        text,
+        start,
+        slot_id,
+        slot_score,
+        path,
         ids,
     )
 }
