@@ -5,7 +5,7 @@ use std::time::Instant;
 
 use crate::random::Random;
 use crate::tokie::{self, Lattice, VocabTrie};
-use crate::{large, port, text, wordpieces};
+use crate::{large, port, segments, text, wordpieces};
 
 /// Nanoseconds a call: the least of some runs of many calls, so that other work on the machine counts little.
 pub fn nanoseconds<R>(mut call: impl FnMut() -> R) -> f64 {
@@ -89,5 +89,56 @@ pub fn wordpieces() {
         let port = nanoseconds(|| words.iter().map(|w| tested.encode(given, w, &mut ids)).sum::<usize>());
         let [a, b, c] = [rust, without, port].map(|ns| ns / 10_000.0);
         println!("| {name} | {a:.0} | {b:.0} | {c:.0} | {:.2} | {:.2} |", c / a, c / b);
+    }
+}
+
+/// 10,000 short comments, core against core; and one long comment of growing length, for how the time grows.
+pub fn segments() {
+    let mut r = Random::new(1);
+    let v = large::unigram(&mut r);
+    let lattice = Lattice::build(&v);
+    let parts = lattice.parts();
+    let tested = port::Tested::scored(&parts);
+    let places = 70_000;
+    let mut b = port::Scratch {
+        start: vec![0; places],
+        slot_id: vec![0; places],
+        slot_score: vec![0.0; places],
+        path: vec![0; places],
+        ids: vec![0; places],
+    };
+    println!("| texts | bytes a text | Rust, ns a text | port, ns a text | ratio | port, ns a byte |");
+    println!("|---|---|---|---|---|---|");
+    let short: Vec<String> = (0..10_000).map(|_| segments::comment(&mut r)).collect();
+    let long = |r: &mut Random, n: usize| -> Vec<String> {
+        let mut s = String::new();
+        while s.len() < n {
+            s += &(large::word(r) + "▁");
+        }
+        vec![s]
+    };
+    let rows = [
+        ("10,000 short comments", short),
+        ("one", long(&mut r, 1_000)),
+        ("one", long(&mut r, 8_000)),
+        ("one", long(&mut r, 64_000)),
+    ];
+    for (name, texts) in rows {
+        let (n, bytes) = (texts.len() as f64, texts.iter().map(String::len).sum::<usize>() as f64);
+        let mut out = Vec::new();
+        let rust = nanoseconds(|| {
+            out.clear();
+            texts.iter().for_each(|t| lattice.segment_into(t, &mut out));
+            out.len()
+        });
+        let port = nanoseconds(|| texts.iter().map(|t| tested.segment(v.unknown, t, &mut b)).sum::<usize>());
+        println!(
+            "| {name} | {:.0} | {:.0} | {:.0} | {:.2} | {:.1} |",
+            bytes / n,
+            rust / n,
+            port / n,
+            port / rust,
+            port / bytes
+        );
     }
 }

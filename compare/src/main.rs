@@ -9,7 +9,8 @@
 //!   compare text [SEED] [--quick]              RFC 3629 against Rust's library, spans against tokie's
 //!   compare tries [SEED] [--quick]             soundness against an independent test, look-ups against tokie's
 //!   compare wordpieces [SEED] [--quick]        `encode` against tokie's
-//!   compare bench-text, bench-tries, bench-wordpieces   times
+//!   compare segments [SEED] [--quick]          `segment` against tokie's, records against all cuttings
+//!   compare bench-text, bench-tries, bench-wordpieces, bench-segments   times
 //!
 //! Run from anywhere; the repository is the folder above this package.
 
@@ -24,6 +25,8 @@ mod large;
 #[cfg(feature = "port")]
 mod port;
 mod random;
+#[cfg(feature = "port")]
+mod segments;
 mod small;
 mod sums;
 #[cfg(feature = "port")]
@@ -57,6 +60,13 @@ fn main() -> ExitCode {
         #[cfg(feature = "port")]
         Some("wordpieces") => wordpieces::run(seed, quick),
         #[cfg(feature = "port")]
+        Some("segments") => segments::run(seed, quick),
+        #[cfg(feature = "port")]
+        Some("bench-segments") => {
+            bench::segments();
+            true
+        }
+        #[cfg(feature = "port")]
         Some("bench-wordpieces") => {
             bench::wordpieces();
             true
@@ -73,7 +83,7 @@ fn main() -> ExitCode {
         }
         _ => {
             eprintln!(
-                "usage: compare examples | sums [--print] | definitions [SEED..] [--cases N] | text [SEED] [--quick] | tries [SEED] [--quick] | wordpieces [SEED] [--quick] | bench-text | bench-tries | bench-wordpieces"
+                "usage: compare examples | sums [--print] | definitions [SEED..] [--cases N] | text [SEED] [--quick] | tries [SEED] [--quick] | wordpieces [SEED] [--quick] | segments [SEED] [--quick] | bench-text | bench-tries | bench-wordpieces | bench-segments"
             );
             return ExitCode::from(2);
         }

@@ -107,6 +107,62 @@ mod c {
             ids: *mut u32,
             ids_len: usize,
         ) -> usize;
+        pub fn sk_segment(
+            edge_at: *const u32,
+            edge_at_len: usize,
+            edge_n: *const u16,
+            edge_n_len: usize,
+            id: *const u32,
+            id_len: usize,
+            score: *const f64,
+            score_len: usize,
+            byte: *const u8,
+            byte_len: usize,
+            to: *const u32,
+            to_len: usize,
+            unknown: u32,
+            unknown_score: f64,
+            text: *const u8,
+            text_len: usize,
+            start: *mut u32,
+            start_len: usize,
+            slot_id: *mut u32,
+            slot_id_len: usize,
+            slot_score: *mut f64,
+            slot_score_len: usize,
+            path: *mut u32,
+            path_len: usize,
+            ids: *mut u32,
+            ids_len: usize,
+        ) -> usize;
+        pub fn sk_segment_checked(
+            edge_at: *const u32,
+            edge_at_len: usize,
+            edge_n: *const u16,
+            edge_n_len: usize,
+            id: *const u32,
+            id_len: usize,
+            score: *const f64,
+            score_len: usize,
+            byte: *const u8,
+            byte_len: usize,
+            to: *const u32,
+            to_len: usize,
+            unknown: u32,
+            unknown_score: f64,
+            text: *const u8,
+            text_len: usize,
+            start: *mut u32,
+            start_len: usize,
+            slot_id: *mut u32,
+            slot_id_len: usize,
+            slot_score: *mut f64,
+            slot_score_len: usize,
+            path: *mut u32,
+            path_len: usize,
+            ids: *mut u32,
+            ids_len: usize,
+        ) -> usize;
     }
 }
 
@@ -190,13 +246,50 @@ pub fn encode(p: &Parts, g: Given, word: &[u8], ids: &mut [u32]) -> Result<usize
     n.checked_sub(1 << 32).map_or(Ok(n), |number| Err(number as u32))
 }
 
-/// The core behind it, for parts that were tested once.
+/// The columns that `segment` is lent.
+#[derive(Clone, Debug, PartialEq)]
+pub struct Scratch {
+    pub start: Vec<u32>,
+    pub slot_id: Vec<u32>,
+    pub slot_score: Vec<f64>,
+    pub path: Vec<u32>,
+    pub ids: Vec<u32>,
+}
+
+/// How many ids, or the number of the refusal.
+pub fn segment(p: &Parts, unknown: u32, text: &[u8], b: &mut Scratch) -> Result<usize, u32> {
+    let n = call!(sk_segment(p.edge_at, p.edge_n, p.id, p.score, p.byte, p.to;
+        unknown, p.unknown_score, text.as_ptr(), text.len(),
+        b.start.as_mut_ptr(), b.start.len(), b.slot_id.as_mut_ptr(), b.slot_id.len(),
+        b.slot_score.as_mut_ptr(), b.slot_score.len(), b.path.as_mut_ptr(), b.path.len(), b.ids.as_mut_ptr(), b.ids.len()));
+    n.checked_sub(1 << 32).map_or(Ok(n), |number| Err(number as u32))
+}
+
+/// The cores behind the calls, for parts that were tested once.
 pub struct Tested<'a>(&'a Parts);
 
 impl<'a> Tested<'a> {
     pub fn new(p: &'a Parts) -> Self {
         assert!(sound(p));
         Tested(p)
+    }
+
+    /// Parts with sound scores too.
+    pub fn scored(p: &'a Parts) -> Self {
+        assert!(sound_scored(p));
+        Tested(p)
+    }
+
+    /// The text is not empty, and text, so that what is left to test is the room.
+    pub fn segment(&self, unknown: u32, text: &str, b: &mut Scratch) -> usize {
+        let n = text.len();
+        assert!((1..=65_536).contains(&n) && b.path.len() >= n && b.ids.len() >= n);
+        assert!(b.start.len() > n && b.slot_id.len() > n && b.slot_score.len() > n);
+        let p = self.0;
+        call!(sk_segment_checked(p.edge_at, p.edge_n, p.id, p.score, p.byte, p.to;
+            unknown, p.unknown_score, text.as_ptr(), n,
+            b.start.as_mut_ptr(), b.start.len(), b.slot_id.as_mut_ptr(), b.slot_id.len(),
+            b.slot_score.as_mut_ptr(), b.slot_score.len(), b.path.as_mut_ptr(), b.path.len(), b.ids.as_mut_ptr(), b.ids.len()))
     }
 
     /// The word is text, so that what is left to test is the room.

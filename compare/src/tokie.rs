@@ -63,6 +63,11 @@ impl Lattice {
         self.0.exact_of(text)
     }
 
+    /// The ids alone, after what `out` holds.
+    pub fn segment_into(&self, text: &str, out: &mut Vec<u32>) {
+        self.0.segment(text.as_bytes(), out);
+    }
+
     pub fn segment(&self, text: &str) -> Segmented {
         let mut ids = Vec::new();
         self.0.segment(text.as_bytes(), &mut ids);
