@@ -23,10 +23,11 @@ fn write(start: &[u32], n: usize, pieces: usize, path: &mut [u32])
     requires { ⌜ Falling (now start) n × (pieces ≡ length (endsFrom (now start) n n)) × (pieces ≤ length (now path)) ⌝ }
     ensures { λ _. ⌜ Traced (now (start .entry)) n (now (path .entry)) (now (path .exit)) ⌝ }
 {
-    let mut k = pieces;
+    let mut done: usize = 0;
     let mut at = n;
     while 0 < at {
-        k -= 1;
+        done += 1;
+        let k = pieces - done;
         path[k] = at as u32;
         at = start[at] as usize;
     }

@@ -1,5 +1,5 @@
--- `unigram::path::write` meets its contract. The loop's invariant: the pieces before `at` have the first k places, and the places from k on are
--- written. The start of a record lies below it, so `at` falls. Assumes nothing.
+-- `unigram::path::write` meets its contract. The loop's invariant: the pieces done and those before `at` are all, and the places after those before
+-- `at` are written. The start of a record lies below it, so `at` falls. Assumes nothing.
 use mathlib.Core.Path.{_≡_, refl, sym, ap, subst, _∙_}
 use mathlib.Core.Bool.{true}
 use mathlib.Core.List.{List, _∷_, [], _++_}
@@ -11,21 +11,20 @@ use Rattle.refusal.specs.Sizes.{noId}
 use Rattle.refusal.specs.Places.{overlay}
 use Rattle.unigram.specs.Tracing.{endsFrom, Falling, Traced}
 use Rattle.unigram.proofs.Columns.{place-inside}
-use Rattle.unigram.proofs.Tracing.{ends-first, ends-few, ends-turn, written-back}
+use Rattle.unigram.proofs.Tracing.{ends-first, ends-turn, written-back}
 use Rattle.unigram.proofs.path.write.Statement.{statement}
 use Rattle.unigram.proofs.path.write.Tie as tie
 
 abbrev Inv-loop : tie.InvT-loop
-Inv-loop start n pieces path₀ k₀ at₀ path k at =
+Inv-loop start n pieces path₀ done₀ at₀ path done at =
     (at ≤ n)
     × ((f : Falling start n) → f .marks at ≡ true)
-    × (k ≤ pieces)
     × (length path ≡ length path₀)
-    × (k ≡ length (endsFrom start at at))
-    × (overlay (endsFrom start n n) path₀ ≡ endsFrom start at at ++ drop k path)
+    × (done + length (endsFrom start at at) ≡ pieces)
+    × (overlay (endsFrom start n n) path₀ ≡ endsFrom start at at ++ drop (length (endsFrom start at at)) path)
 
 abbrev μ-loop : tie.MeasureT-loop
-μ-loop start n pieces path₀ k₀ at₀ path k at = at
+μ-loop start n pieces path₀ done₀ at₀ path done at = at
 
 abbrev falling-of : (c : tie.Start Inv-loop μ-loop) → Falling (c .args .start .now) (c .args .n)
 falling-of c = c .pre .0
@@ -58,34 +57,35 @@ turn c f =
     ends-turn f (h .loop .at) (c .loop-test .taken) (h .loop .inv .0) (h .loop .inv .1 f)
     ∙ ap (λ (i : ℕ). endsFrom (a .start .now) i i ++ (h .loop .at ∷ [])) (sym (read c))
 
--- a place is left for the piece that ends at `at`
-pieces-left : (c : tie.In-loop Inv-loop μ-loop) → let h = c .before in let s = h .before .args .start .now in let i = getD s (h .loop .at) 0 in h .loop .k ≡ suc (length (endsFrom s i i))
-pieces-left c =
+-- the pieces before `at` are one more than those before its start
+many : (c : tie.In-loop Inv-loop μ-loop) → let h = c .before in let s = h .before .args .start .now in let i = getD s (h .loop .at) 0 in length (endsFrom s i i ++ (h .loop .at ∷ [])) ≡ suc (length (endsFrom s i i))
+many c =
     let h = c .before in
     let s = h .before .args .start .now in
     let i = getD s (h .loop .at) 0 in
-    omega (arith, h .loop .inv .4, ap length (turn c (falling-of (h .before))), length-append (endsFrom s i i) (h .loop .at ∷ []))
+    omega (arith, length-append (endsFrom s i i) (h .loop .at ∷ []))
 
-last-place : (c : tie.In-loop Inv-loop μ-loop) → let h = c .before in (1 ≤ h .loop .k) × (h .loop .k - 1 < length (h .loop .path))
-last-place c =
-    let h = c .before in
-    let l = pieces-left c in
-    (omega arith, omega (arith, h .loop .inv .2, h .loop .inv .3, h .before .pre .2))
+-- so there is one left to write
+left : (c : tie.In-loop Inv-loop μ-loop) → let h = c .before in let s = h .before .args .start .now in let i = getD s (h .loop .at) 0 in h .loop .done + suc (length (endsFrom s i i)) ≡ h .before .args .pieces
+left c = let h = c .before in omega (arith, h .loop .inv .3, ap length (turn c (falling-of (h .before))), many c)
 
 loop-holds : tie.Need-loop-holds Inv-loop μ-loop
-loop-holds c = (omega arith, λ f. f .marked, omega arith, refl, c .pre .1, ap (λ (k : ℕ). endsFrom (c .args .start .now) (c .args .n) (c .args .n) ++ drop k (c .args .path .now)) (sym (c .pre .1)))
+loop-holds c = (omega arith, λ f. f .marked, refl, omega (arith, c .pre .1), refl)
+
+add-done : tie.Need-add-done Inv-loop μ-loop
+add-done c = let l = left c in omega arith
 
 sub-k : tie.Need-sub-k Inv-loop μ-loop
-sub-k c = last-place c .0
+sub-k c = let l = left c in omega arith
 
 cast-path : tie.Need-cast-path Inv-loop μ-loop
 cast-path c = let h = c .before in omega (arith, h .loop .inv .0, falling-of (h .before) .size)
 
 mul-path : tie.Need-mul-path Inv-loop μ-loop
-mul-path c = search needs
+mul-path c = let h = c .before in let l = left c in omega (arith, h .loop .inv .2, h .before .pre .2)
 
 slice-write-path : tie.Need-slice-write-path Inv-loop μ-loop
-slice-write-path c = last-place c .1
+slice-write-path c = let h = c .before in let l = left c in omega (arith, h .loop .inv .2, h .before .pre .2)
 
 mul-at : tie.Need-mul-at Inv-loop μ-loop
 mul-at c = let f = falling-of (c .before .before) in omega (arith, f .inside, f .size)
@@ -107,34 +107,30 @@ loop-again c =
     let s = e .args .start .now in
     let i = getD s (h .loop .at) 0 in
     let es = endsFrom s i i in
-    let f = falling-of e in
-    let k = h .loop .k in
-    let one : k ≡ suc (length es) = pieces-left t in
-    let down : k - 1 ≡ length es = omega arith in
-    let up : k ≡ suc (k - 1) = omega arith in (
+    let one : h .loop .done + suc (length es) ≡ e .args .pieces = left t in
+    let place : e .args .pieces - (h .loop .done + 1) ≡ length es = omega arith in
+    let room : length es < length (h .loop .path) = omega (arith, h .loop .inv .2, e .pre .2) in (
       omega (arith, below t, h .loop .inv .0),
       stays t,
-      omega (arith, h .loop .inv .2),
-      length-set (h .loop .path) (k - 1) (h .loop .at) ∙ h .loop .inv .3,
-      down,
-      h .loop .inv .5
-          ∙ ap (λ (u : List ℕ). u ++ drop k (h .loop .path)) (turn t f)
-          ∙ ap (λ (n : ℕ). (es ++ (h .loop .at ∷ [])) ++ drop n (h .loop .path)) up
-          ∙ written-back es (h .loop .at) (h .loop .path) (k - 1) down (last-place t .1),
+      length-set (h .loop .path) (e .args .pieces - (h .loop .done + 1)) (h .loop .at) ∙ h .loop .inv .2,
+      omega arith,
+      h .loop .inv .4
+          ∙ ap (λ (u : List ℕ). u ++ drop (length u) (h .loop .path)) (turn t (falling-of e))
+          ∙ ap (λ (k : ℕ). (es ++ (h .loop .at ∷ [])) ++ drop k (h .loop .path)) (many t)
+          ∙ written-back es (h .loop .at) (h .loop .path) (length es) refl room
+          ∙ ap (λ (k : ℕ). es ++ drop (length es) (set (h .loop .path) k (h .loop .at))) (sym place),
     )
 
 same-length : tie.Need-same-length Inv-loop μ-loop
-same-length c = c .before .loop .inv .3
+same-length c = c .before .loop .inv .2
 
 returns : tie.Need-returns Inv-loop μ-loop
 returns c =
     let h = c .before in
-    let e = h .before in
-    let s = e .args .start .now in
+    let s = h .before .args .start .now in
     let z : h .loop .at ≡ 0 = omega (arith, c .loop-test .left) in
     let none-left : endsFrom s (h .loop .at) (h .loop .at) ≡ [] = ap (λ (j : ℕ). endsFrom s j j) z ∙ ends-first s 0 in
-    let at-front : h .loop .k ≡ 0 = h .loop .inv .4 ∙ ap length none-left in
-    record { path = sym (h .loop .inv .5 ∙ ap (λ (es : List ℕ). es ++ drop (h .loop .k) (h .loop .path)) none-left ∙ ap (λ (n : ℕ). drop n (h .loop .path)) at-front) }
+    record { path = sym (h .loop .inv .4 ∙ ap (λ (es : List ℕ). es ++ drop (length es) (h .loop .path)) none-left) }
 
 pub write-spec : {M : Type 1} → statement M
 write-spec =
@@ -143,6 +139,7 @@ write-spec =
     Inv-loop
     μ-loop
     loop-holds
+    add-done
     sub-k
     cast-path
     mul-path
