@@ -19,3 +19,4 @@ pub mod Children
 pub mod Out
 pub mod Zeros
 pub mod Filled
+pub mod Rooms
