@@ -2,7 +2,7 @@
 -- more than a u32 counts. Assumes nothing.
 use mathlib.Core.Path.{_≡_, refl, sym, ap, _∙_}
 use mathlib.Core.Bool.{Bool, true, false, _||_}
-use mathlib.Core.List.{List, []}
+use mathlib.Core.List.{List, [], _∷_}
 use Prim.Native.Nat.{ℕ, zero, suc, _+_, _-_, _*_, _/_, _≤_, _<_, min}
 use native.Mathlib.Omega.{arith}
 use native.Mathlib.Decide.{decLt}
@@ -61,10 +61,10 @@ for-room m n r =
     min-both (min (min (length (m .edgeAt)) (length (m .edgeN))) (min (length (m .id)) (length (m .byte) + 1)))
     (min (min (length (m .to) + 1) (length (m .work) / 2)) 4_294_967_295) n
     (min-both (min (length (m .edgeAt)) (length (m .edgeN))) (min (length (m .id)) (length (m .byte) + 1)) n
-      (min-both (length (m .edgeAt)) (length (m .edgeN)) n (r .starts) (r .counts))
-      (min-both (length (m .id)) (length (m .byte) + 1) n (r .ids) (r .bytes)))
+    (min-both (length (m .edgeAt)) (length (m .edgeN)) n (r .starts) (r .counts))
+    (min-both (length (m .id)) (length (m .byte) + 1) n (r .ids) (r .bytes)))
     (min-both (min (length (m .to) + 1) (length (m .work) / 2)) 4_294_967_295 n
-      (min-both (length (m .to) + 1) (length (m .work) / 2) n (r .targets) (omega (arith, r .links))) (r .small))
+    (min-both (length (m .to) + 1) (length (m .work) / 2) n (r .targets) (omega (arith, r .links))) (r .small))
 
 -- the room that `room` answers is room
 pub room-is : (m : Memory) → RoomFor (roomOf m) m
@@ -87,3 +87,62 @@ fits-all m n r =
       le-ltb (length (m .to)) (n - 1) (omega (arith, r .targets)),
       le-ltb (length (m .work)) (2 * n) (r .links),
     )
+
+-- no column below n
+none-below : (n a b : ℕ) → (ltb a n || (ltb b n || false)) ≡ false → (n ≤ a) × (n ≤ b)
+none-below n a b e =
+    let p = or-false (ltb a n) (ltb b n || false) e in
+    (ltb-false a n (p .0), ltb-false b n (or-false (ltb b n) false (p .1) .0))
+
+all-fit : (m : Memory) (n : ℕ) → 1 ≤ n → n ≤ 4_294_967_295 → noRoom n m ≡ false → RoomFor n m
+unfolding noRoom anyBelow
+all-fit m n some-node small e =
+    let nodes = anyBelow n (length (m .edgeAt) ∷ length (m .edgeN) ∷ length (m .id) ∷ []) in
+    let edges = anyBelow (n - 1) (length (m .byte) ∷ length (m .to) ∷ []) in
+    let work = ltb (length (m .work)) (2 * n) in
+    let p = or-false (nodes || edges) work e in
+    let q = or-false nodes edges (p .0) in
+    let s = or-false (ltb (length (m .edgeAt)) n) (ltb (length (m .edgeN)) n || (ltb (length (m .id)) n || false)) (q .0) in
+    let t = none-below n (length (m .edgeN)) (length (m .id)) (s .1) in
+    let u = none-below (n - 1) (length (m .byte)) (length (m .to)) (q .1) in
+    record {
+      starts = ltb-false (length (m .edgeAt)) n (s .0);
+      counts = t .0;
+      ids = t .1;
+      bytes = omega (arith, u .0);
+      targets = omega (arith, u .1);
+      links = ltb-false (length (m .work)) (2 * n) (p .1);
+      small = small;
+    }
+
+-- "with N nodes needed: fewer than N node, N-1 edge or 2N work places in any lent column"
+pub no-room : (m : Memory) (n : ℕ) → 1 ≤ n → n ≤ 4_294_967_295 → noRoom n m ≡ ltb (roomOf m) n
+no-room m n some-node small = go (noRoom n m) refl
+  where
+    go : (t : Bool) → noRoom n m ≡ t → noRoom n m ≡ ltb (roomOf m) n
+    go false e = e ∙ sym (le-ltb (roomOf m) n (for-room m n (all-fit m n some-node small e)))
+    go true e = e ∙ sym (lt-ltb (roomOf m) n (short (decLt (roomOf m) n)))
+      where
+        short : Dec (roomOf m < n) → roomOf m < n
+        short (yes h) = h
+        short (no h) =
+            let z : true ≡ false = sym e ∙ fits-all m n (room-for m n (omega arith)) in
+            let y : _≡_ {A = ℕ} 0 1 = cc in
+            absurd (omega arith)
+
+-- ---- how many nodes rows need
+
+pub nodes-some : (tab : List ℕ) (rows : List Row) → 1 ≤ nodesOf tab rows
+nodes-some tab rows = omega (arith, ap length (names-are (tokensOf tab rows)), entered-grows (tokensOf tab rows) ([] ∷ []))
+
+-- at most 1,048,576 rows of 1,024 bytes: 1,073,741,825 nodes
+pub nodes-few :
+    (tab : List ℕ) (rows : List Row) → length rows ≤ maxRows → ((i : ℕ) → i < length rows → length (tokenOf tab (getD rows i noRow)) ≤ maxToken)
+    → nodesOf tab rows ≤ 1_073_741_825
+nodes-few tab rows few short =
+    let tokens = tokensOf tab rows in
+    let each = bytes-few tokens maxToken
+    (λ i h.
+    let l : i < length rows = omega (arith, length-tokens tab rows) in
+    omega (arith, ap length (token-at tab rows i l), short i l)) in
+    omega (arith, names-few tokens, each, length-tokens tab rows)
