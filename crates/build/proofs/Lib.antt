@@ -20,3 +20,4 @@ pub mod Out
 pub mod Zeros
 pub mod Filled
 pub mod Rooms
+pub mod Judging
