@@ -3,7 +3,7 @@
 use mathlib.Core.Path.{_≡_, refl, sym, ap, _∙_}
 use mathlib.Core.Bool.{Bool, true, false, _||_}
 use mathlib.Core.List.{List, [], _∷_}
-use Prim.Native.Nat.{ℕ, zero, suc, _+_, _-_, _*_, _/_, _≤_, _<_, min}
+use Prim.Native.Nat.{ℕ, _+_, _-_, _*_, _/_, _≤_, _<_, min}
 use native.Mathlib.Omega.{arith}
 use native.Mathlib.Decide.{decLt}
 use borrow.Author.Tests.{lt-ltb, le-ltb, ltb-false}
@@ -11,11 +11,9 @@ use lib.Dec.{ltb}
 use lib.ListN.{length, getD}
 use Rattle.refusal.specs.Sizes.{maxRows, maxToken}
 use Rattle.rows.specs.Rows.{Row, tokenOf}
-use Rattle.build.specs.Names.{names}
 use Rattle.build.specs.Rules.{tokensOf}
 use Rattle.build.specs.Memory.{Memory, anyBelow, noRoom}
 use Rattle.build.specs.Core.{roomOf, RoomFor, nodesOf}
-use Rattle.build.proofs.Grown.{List²}
 use Rattle.build.proofs.Named.{names-are, names-few, bytes-few, entered-grows}
 use Rattle.build.proofs.Lookups.{noRow, token-at, length-tokens}
 
