@@ -1,8 +1,8 @@
 -- N nodes have N - 1 edges: each name but the root adds one edge, to the node that it extends, and has none itself when it comes.
 -- Assumes nothing.
-use mathlib.Core.Path.{_≡_, refl, sym, ap, _∙_, subst}
+use mathlib.Core.Path.{_≡_, refl, sym, ap, _∙_}
 use mathlib.Core.List.{List, [], _∷_, _++_, map, flatten}
-use mathlib.Core.Logic.{_⊎_, inl, inr, ⊎-elim}
+use mathlib.Core.Logic.{⊎-elim}
 use mathlib.Core.Option.{Option, none, some}
 use Prim.Native.Nat.{ℕ, zero, suc, _+_, _-_, _≤_, _<_}
 use native.Mathlib.Omega.{arith}
@@ -10,11 +10,10 @@ use lib.ListN.{length, getD, length-append}
 use Rattle.build.specs.Names.{place}
 use Rattle.build.specs.Grown.{Grown, root, more}
 use Rattle.build.specs.Parts.{Edge, edge, edgesFrom, edgesOf}
-use Rattle.build.proofs.Strings.{snoc-nil, snoc-front, snoc-last, snoc-longer, equal?}
+use Rattle.build.proofs.Strings.{snoc-nil, snoc-front, snoc-last, snoc-longer}
 use Rattle.build.proofs.Places.{found?, place-empty, place-below, place-at, place-end, place-other}
 use Rattle.build.proofs.Grown.{List², grown-distinct, grown-none}
-use Rattle.build.proofs.Edges.{edges-miss, edges-hit, edges-end, edges-none, at-or-above}
-use Rattle.build.proofs.Laid.{flatten-cons}
+use Rattle.build.proofs.Edges.{edges-miss, edges-hit, edges-none, at-or-above}
 
 -- ---- the edges of one node, with one name more
 

@@ -14,7 +14,7 @@ use lib.ListN.{length}
 use Rattle.build.specs.Names.{place}
 use Rattle.build.specs.Parts.{Edge, edge, edgesFrom, edgesOf}
 use Rattle.build.specs.Links.{Clear}
-use Rattle.build.proofs.Places.{found?, none-some, place-below}
+use Rattle.build.proofs.Places.{found?, place-below}
 use Rattle.build.proofs.Grown.{List²}
 
 -- ---- byte by byte

@@ -1,29 +1,28 @@
 -- The columns at the end: what stands in front is what was laid out, and what was zero behind it still is. Assumes nothing.
-use mathlib.Core.Path.{_≡_, refl, sym, ap, _∙_, subst}
+use mathlib.Core.Path.{_≡_, refl, sym, ap, _∙_}
 use mathlib.Core.Bool.{Bool, cond, true, false}
 use mathlib.Core.List.{List, [], _∷_, _++_, map}
-use mathlib.Core.Option.{Option, none, some, Option·getD}
+use mathlib.Core.Option.{Option, Option·getD}
 use Prim.Native.Nat.{ℕ, zero, suc, _+_, _-_, _≤_, _<_}
 use native.Mathlib.Omega.{arith}
 use native.Mathlib.Decide.{decLt}
 use borrow.Author.Tests.{lt-ltb, le-ltb}
 use lib.Dec.{ltb}
-use lib.ListN.{length, getD, drop, replicate, length-append, length-map, length-replicate, getD-replicate, List·getD-append}
+use lib.ListN.{length, getD, drop, replicate, length-append, length-map, length-replicate, List·getD-append}
 use lib.Seq.{sets, sets-eq, getD-append-add, ext-getD}
 use Rattle.refusal.specs.Sizes.{noId}
 use Rattle.refusal.specs.Places.{zeroed, filled}
 use Rattle.rows.specs.Rows.{Row}
 use Rattle.build.specs.declared.Built.the-variants.{Nodes, NoRoom}
-use Rattle.build.specs.Names.{place, names}
+use Rattle.build.specs.Names.{names}
 use Rattle.build.specs.Grown.{Grown}
-use Rattle.build.specs.Parts.{Edge, edgesOf, starts, lay, trieOf}
+use Rattle.build.specs.Parts.{edgesOf, starts, lay, trieOf}
 use Rattle.build.specs.Rules.{tokensOf}
 use Rattle.build.specs.Given.{rulesFrom, noRule, trieGiven}
 use Rattle.build.specs.Held.{ZeroFrom, Identified, Held, Roomy, RowDone, Ready}
 use Rattle.build.specs.Laying.{bytesOf, targetsOf, allEdges, countsOf, AllReady, AllDone, OutReady, OutDone}
 use Rattle.build.specs.Memory.{Memory, memory, cleared, holding}
 use Rattle.build.specs.Core.{RoomFor, BuiltOf}
-use Rattle.build.proofs.Places.{place-below}
 use Rattle.build.proofs.Grown.{List², grown-distinct, grown-some}
 use Rattle.build.proofs.Laid.{getD-map-of, length-starts}
 use Rattle.build.proofs.Counted.{count-names}

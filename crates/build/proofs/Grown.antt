@@ -1,18 +1,18 @@
 -- Names are distinct, the root is the first, and what a name extends stands before it: by induction on how the list grew. The names of
 -- tokens grow so, a prefix at a time. Assumes nothing.
 use mathlib.Core.Path.{_≡_, refl, sym, ap, _∙_, subst}
-use mathlib.Core.List.{List, [], _∷_, _++_, append-nil, append-assoc, flatMap}
+use mathlib.Core.List.{List, [], _∷_, _++_, append-nil}
 use mathlib.Core.Logic.{_⊎_, inl, inr, ⊎-elim}
-use mathlib.Core.Option.{Option, none, some}
+use mathlib.Core.Option.{none, some}
 use Prim.Native.Nat.{ℕ, zero, suc, _+_, _≤_, _<_}
 use native.Mathlib.Omega.{arith}
 use native.Mathlib.Decide.{decLt}
 use lib.ListN.{length, getD, List·getD-append}
 use lib.Seq.{getD-append-seam}
-use Rattle.build.specs.Names.{same, place, prefixes, add, enter, names}
+use Rattle.build.specs.Names.{place, prefixes, add, enter, names}
 use Rattle.build.specs.Grown.{Grown, root, more, Bytes}
-use Rattle.build.proofs.Strings.{snoc-nil, snoc-front, snoc-last, snoc-longer, snoc-append, same-refl, same-ne}
-use Rattle.build.proofs.Places.{none-some, found?, place-empty, missing, place-hit, place-miss, place-below, place-at, place-nowhere, place-one}
+use Rattle.build.proofs.Strings.{snoc-nil, snoc-front, snoc-last, snoc-append, same-refl}
+use Rattle.build.proofs.Places.{none-some, found?, place-empty, missing, place-hit, place-below}
 use Rattle.build.proofs.Places.{place-kept, place-end, place-other, place-more, add-there, add-new, length-more}
 
 abbrev pub List² : Type 0

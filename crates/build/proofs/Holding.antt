@@ -1,17 +1,17 @@
 -- What the columns hold as a byte is entered: the child that is there, or one node more, or no room for it. Assumes nothing.
 use mathlib.Core.Path.{_≡_, refl, sym, ap, _∙_, subst}
 use mathlib.Core.List.{List, [], _∷_, _++_}
-use mathlib.Core.Logic.{_⊎_, inl, inr, ⊎-elim}
+use mathlib.Core.Logic.{⊎-elim}
 use mathlib.Core.Option.{Option, none, some, Option·getD}
-use Prim.Native.Nat.{ℕ, zero, suc, _+_, _*_, _≤_, _<_}
+use Prim.Native.Nat.{ℕ, suc, _+_, _*_, _≤_, _<_}
 use native.Mathlib.Omega.{arith}
 use lib.ListN.{length, getD, set, length-set}
 use lib.Seq.{getD-set-same, getD-set-other}
 use Rattle.refusal.specs.Sizes.{noId}
 use Rattle.build.specs.Names.{place, add}
-use Rattle.build.specs.Links.{Clear, Least, Slot, Linked, Spelled, linkedWork}
-use Rattle.build.specs.Held.{ZeroFrom, Identified, Held, Roomy, Done}
-use Rattle.build.proofs.Places.{none-some, found?, missing, place-below, place-kept, place-end, place-more, add-there, add-new, length-more}
+use Rattle.build.specs.Links.{Slot, Linked, Spelled, linkedWork}
+use Rattle.build.specs.Held.{Held, Roomy, Done}
+use Rattle.build.proofs.Places.{none-some, missing, place-below, place-kept, place-end, place-more, add-there, add-new, length-more}
 use Rattle.build.proofs.Grown.{List²}
 use Rattle.build.proofs.Linking.{linked-more, spelled-more}
 use Rattle.build.proofs.Seeking.{seek-none, seek-least, seek-byte}

@@ -1,25 +1,25 @@
 -- The parts as they are laid out: where a node's edges stand among all, so that a step from a node leads to the child's place, and a walk
 -- over a string ends at the string's place. Assumes nothing.
-use mathlib.Core.Path.{_≡_, refl, sym, ap, _∙_, subst}
-use mathlib.Core.Bool.{cond, true, false}
+use mathlib.Core.Path.{_≡_, refl, sym, ap, _∙_}
+use mathlib.Core.Bool.{cond}
 use mathlib.Core.List.{List, [], _∷_, _++_, map, flatten, append-assoc, append-nil}
 use mathlib.Core.Logic.{_⊎_, inl, inr, ⊎-elim}
 use mathlib.Core.Option.{Option, none, some, Option·getD}
-use Prim.Native.Nat.{ℕ, zero, suc, _+_, _-_, _≤_, _<_}
+use Prim.Native.Nat.{ℕ, zero, suc, _+_, _<_}
 use native.Mathlib.Omega.{arith}
 use native.Mathlib.Decide.{decLt}
 use borrow.Author.Tests.{eq-eqb, ne-eqb}
 use lib.Dec.{eqb}
-use lib.ListN.{length, getD, drop, length-append, length-map, List·getD-map, List·getD-eq-default}
+use lib.ListN.{length, getD, drop, length-append, length-map}
 use lib.Seq.{drop-append-seam}
 use Rattle.refusal.specs.Sizes.{noId}
-use Rattle.trie.specs.Trie.{Trie, seek, step, walk, idAt, idFrom, idOf}
+use Rattle.trie.specs.Trie.{seek, step, walk, idAt, idFrom, idOf}
 use Rattle.build.specs.Names.{place}
 use Rattle.build.specs.Grown.{Grown}
 use Rattle.build.specs.Parts.{Edge, edgesOf, starts, lay}
 use Rattle.build.proofs.Strings.{snoc-append}
 use Rattle.build.proofs.Places.{found?, missing, none-some, place-below, place-at}
-use Rattle.build.proofs.Grown.{List², grown-root, grown-distinct, grown-parent, grown-begins}
+use Rattle.build.proofs.Grown.{List², grown-root, grown-parent, grown-begins}
 use Rattle.build.proofs.Edges.{target, target-of, target-no-byte}
 
 -- ---- lists of numbers and edges

@@ -1,14 +1,22 @@
--- The laws of tries and their builds, by subject.
+-- The laws of tries and their builds. A layer above cites the first three groups; the last serves this crate's functions.
+
+-- strings, their places, and names
 pub mod Strings
 pub mod Places
 pub mod Grown
 pub mod Named
+-- a built trie: its edges, steps, walks and look-ups, and that it is sound
 pub mod Edges
 pub mod Laid
 pub mod Counted
 pub mod Sounds
 pub mod Ruled
 pub mod Lookups
+-- the core's callers: room, judged rows, one outcome
+pub mod Rooms
+pub mod Judging
+pub mod Determinacy
+-- entering tokens and laying out nodes, step by step
 pub mod Linking
 pub mod Seeking
 pub mod Holding

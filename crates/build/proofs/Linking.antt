@@ -1,16 +1,16 @@
 -- One node more between a link and what it led to: all links are right again. Only the node's parent and the sibling before it see a
 -- change, and they lead to the new node; the new node leads to what stood there. Assumes nothing.
-use mathlib.Core.Path.{_≡_, refl, sym, ap, _∙_, subst}
+use mathlib.Core.Path.{_≡_, sym, ap, _∙_, subst}
 use mathlib.Core.List.{List, [], _∷_, _++_}
 use mathlib.Core.Logic.{_⊎_, inl, inr, ⊎-elim}
-use mathlib.Core.Option.{Option, none, some}
-use Prim.Native.Nat.{ℕ, zero, suc, _+_, _*_, _≤_, _<_}
+use mathlib.Core.Option.{none, some}
+use Prim.Native.Nat.{ℕ, suc, _+_, _*_, _≤_, _<_}
 use native.Mathlib.Omega.{arith}
 use native.Mathlib.Decide.{decLt}
 use lib.ListN.{length, getD, set, length-set}
 use lib.Seq.{getD-set-same, getD-set-other}
 use Rattle.build.specs.Names.{place}
-use Rattle.build.specs.Grown.{Grown, more}
+use Rattle.build.specs.Grown.{more}
 use Rattle.build.specs.Links.{Clear, Least, First, Slot, of-first, of-next, Linked, Spelled, linkedWork}
 use Rattle.build.proofs.Strings.{snoc-front, snoc-last, snoc-longer, equal?}
 use Rattle.build.proofs.Places.{none-some, place-below, place-one, place-kept, place-end, place-other, place-more, length-more}

@@ -1,17 +1,17 @@
 -- The look-up in a built trie is the row list's own: the first row with the string, or the id of the last. Assumes nothing.
-use mathlib.Core.Path.{_≡_, refl, sym, ap, _∙_, subst}
-use mathlib.Core.Bool.{Bool, true, false, cond}
-use mathlib.Core.List.{List, [], _∷_, _++_, map, append-nil}
-use mathlib.Core.Logic.{_⊎_, inl, inr, ⊎-elim}
-use mathlib.Core.Option.{Option, none, some}
-use Prim.Native.Nat.{ℕ, zero, suc, _+_, _≤_, _<_}
+use mathlib.Core.Path.{_≡_, refl, sym, _∙_, subst}
+use mathlib.Core.Bool.{true, false}
+use mathlib.Core.List.{List, [], _∷_, append-nil}
+use mathlib.Core.Logic.{⊎-elim}
+use mathlib.Core.Option.{none, some}
+use Prim.Native.Nat.{ℕ, suc, _+_, _≤_, _<_}
 use native.Mathlib.Omega.{arith}
-use lib.ListN.{length, getD, take, drop, length-map, length-take, length-drop}
+use lib.ListN.{length, getD, drop, length-map, length-take, length-drop}
 use lib.Seq.{getD-take, getD-drop}
 use Rattle.refusal.specs.Sizes.{noId}
 use Rattle.trie.specs.Trie.{idOf}
 use Rattle.text.specs.Span.{spanOf}
-use Rattle.rows.specs.Rows.{Row, Worth, id, tokenOf}
+use Rattle.rows.specs.Rows.{Row, id, tokenOf}
 use Rattle.build.specs.Names.{same, place, names}
 use Rattle.build.specs.Grown.{Bytes}
 use Rattle.build.specs.Parts.{trieOf}
@@ -19,7 +19,7 @@ use Rattle.build.specs.Rules.{firstRow, idOfWorth, tokensOf, unigramTrie
 use Rattle.build.proofs.Strings.{same-eq}
 use Rattle.build.proofs.Places.{either, none-some, found?, missing, place-below}
 use Rattle.build.proofs.Grown.{List²}
-use Rattle.build.proofs.Named.{AllBytes, Begins, grown-names, begins-name, token-name}
+use Rattle.build.proofs.Named.{AllBytes, grown-names, begins-name, token-name}
 use Rattle.build.proofs.Laid.{getD-map-of, lookup-built}
 
 -- ---- tokens of a table of bytes
@@ -114,14 +114,14 @@ last-within tab rows (b ∷ s) e =
     none-some (sym e ∙ begins-name (tokensOf tab rows) (b ∷ s) (w .0, [], omega (arith, w .1, length-tokens tab rows), at) .1))
 
 last-small :
-    (tab : List ℕ) (rows : List Row) → ((k : ℕ) → k < length rows → idOfWorth (getD rows k noRow .worth) < noId)
+    (tab : List ℕ) (rows : List Row) → ((k : ℕ) → k < length rows → idOfWorth (getD rows k noRow .worth) ≡ noId → ⊥)
     → (s : List ℕ) (i : ℕ) → lastId tab rows s ≡ some i → i ≡ noId → ⊥
 unfolding lastId
 last-small tab rows h [] i e z = none-some e
-last-small tab rows h (b ∷ s) i e z = let w = last-row tab rows (b ∷ s) i e in omega (arith, h (w .0) (w .1), w .3)
+last-small tab rows h (b ∷ s) i e z = let w = last-row tab rows (b ∷ s) i e in h (w .0) (w .1) (w .3 ∙ z)
 
 pub wordpiece-lookup :
-    (tab : List ℕ) (rows : List Row) → Bytes tab → ((k : ℕ) → k < length rows → idOfWorth (getD rows k noRow .worth) < noId) → (s : List ℕ)
+    (tab : List ℕ) (rows : List Row) → Bytes tab → ((k : ℕ) → k < length rows → idOfWorth (getD rows k noRow .worth) ≡ noId → ⊥) → (s : List ℕ)
     → idOf (wordpieceTrie tab rows) s ≡ lastId tab rows s
 unfolding wordpieceTrie trieOf
 wordpiece-lookup tab rows h small s =

@@ -1,22 +1,21 @@
 -- A row entered: its token's last node takes the row's id, where the rule says so. Assumes nothing.
 use mathlib.Core.Path.{_≡_, refl, sym, ap, _∙_, subst, fun-ext}
 use mathlib.Core.Bool.{Bool, true, false, cond}
-use mathlib.Core.List.{List, [], _∷_, _++_}
-use mathlib.Core.Logic.{_⊎_, inl, inr, ⊎-elim}
+use mathlib.Core.List.{List, [], _∷_}
+use mathlib.Core.Logic.{⊎-elim}
 use mathlib.Core.Option.{Option, none, some, Option·getD}
-use Prim.Native.Nat.{ℕ, zero, suc, _+_, _≤_, _<_}
+use Prim.Native.Nat.{ℕ, _+_, _≤_, _<_}
 use native.Mathlib.Omega.{arith}
 use borrow.Author.Tests.{eq-eqb, ne-eqb}
 use lib.Dec.{eqb}
-use lib.ListN.{length, getD, set, take, drop, length-set}
+use lib.ListN.{length, getD, set, length-set}
 use lib.Seq.{getD-set-same, getD-set-other}
 use Rattle.refusal.specs.Sizes.{noId}
-use Rattle.text.specs.Span.{spanOf}
 use Rattle.build.specs.Names.{place, prefixes, enter}
 use Rattle.build.specs.Given.{kept, marked}
-use Rattle.build.specs.Held.{ZeroFrom, Identified, Held, Done, markedIds, Unmarked, RowDone, RowEntered}
+use Rattle.build.specs.Held.{Identified, Held, Done, markedIds, Unmarked, RowDone, RowEntered}
 use Rattle.build.proofs.Strings.{equal?}
-use Rattle.build.proofs.Places.{none-some, found?, place-below, place-one, place-same}
+use Rattle.build.proofs.Places.{none-some, place-below, place-one, place-same}
 use Rattle.build.proofs.Grown.{List²}
 use Rattle.build.proofs.Ruled.{marked-nil, marked-self, marked-other}
 use Rattle.build.proofs.Entering.{prefixes-none}

@@ -1,9 +1,9 @@
 -- The names of tokens: they grew from the root; a name is empty or begins a token, and all that begin a token are names; one token more
 -- enters its own prefixes; there are at most one more than the tokens have bytes. Assumes nothing.
 use mathlib.Core.Path.{_≡_, refl, sym, ap, _∙_, subst}
-use mathlib.Core.List.{List, [], _∷_, _++_, append-nil, append-assoc, flatMap}
+use mathlib.Core.List.{List, [], _∷_, _++_, append-nil, flatMap}
 use mathlib.Core.Logic.{_⊎_, inl, inr, ⊎-elim}
-use mathlib.Core.Option.{Option, none, some}
+use mathlib.Core.Option.{some}
 use Prim.Native.Nat.{ℕ, zero, suc, _+_, _*_, _≤_, _<_}
 use native.Mathlib.Omega.{arith}
 use lib.ListN.{length, getD}
@@ -40,7 +40,7 @@ pub names-are : (tokens : List²) → names tokens ≡ entered ([] ∷ []) token
 unfolding names
 names-are tokens = refl
 
--- "one row more": its prefixes are entered after all others
+-- one row more: its prefixes are entered after all others
 pub names-more : (tokens : List²) (t : List ℕ) → names (tokens ++ (t ∷ [])) ≡ enter (names tokens) (prefixes [] t)
 unfolding names
 names-more tokens t =

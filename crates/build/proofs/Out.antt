@@ -1,13 +1,11 @@
 -- The nodes laid out one by one: what is written and what is still to be written are the columns of the parts. Assumes nothing.
-use mathlib.Core.Path.{_≡_, refl, sym, ap, _∙_, subst}
+use mathlib.Core.Path.{_≡_, refl, sym, ap, _∙_}
 use mathlib.Core.List.{List, [], _∷_, _++_, map, flatten}
-use mathlib.Core.Option.{Option, none, some}
-use Prim.Native.Nat.{ℕ, zero, suc, _+_, _-_, _*_, _≤_, _<_}
+use Prim.Native.Nat.{ℕ, suc, _+_, _<_}
 use native.Mathlib.Omega.{arith}
 use native.Mathlib.Numerals.{add-one}
 use lib.ListN.{length, getD, set, drop, length-map, length-set}
 use lib.Seq.{sets, drop-cons, drop-length, getD-set-other}
-use Rattle.build.specs.Names.{place}
 use Rattle.build.specs.Parts.{Edge, edgesOf, starts}
 use Rattle.build.specs.Links.{Linked, Spelled}
 use Rattle.build.specs.Laying.{bytesOf, targetsOf, allEdges, countsOf, NodeDone, AllDone}

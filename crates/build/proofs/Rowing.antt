@@ -1,11 +1,11 @@
 -- Rows entered one by one. After i rows the columns hold the nodes and ids of those, and what is still to be entered is the rest.
 -- Assumes nothing.
 use mathlib.Core.Path.{_≡_, refl, sym, ap, _∙_, subst}
-use mathlib.Core.Bool.{Bool, true, false, cond}
+use mathlib.Core.Bool.{Bool, true, false}
 use mathlib.Core.List.{List, [], _∷_, _++_, map}
-use mathlib.Core.Logic.{_⊎_, inl, inr, ⊎-elim}
-use mathlib.Core.Option.{Option, none, some, Option·getD}
-use Prim.Native.Nat.{ℕ, zero, suc, _+_, _-_, _*_, _≤_, _<_}
+use mathlib.Core.Logic.{inl, ⊎-elim}
+use mathlib.Core.Option.{Option, none, some}
+use Prim.Native.Nat.{ℕ, suc, _+_, _-_, _*_, _≤_, _<_}
 use native.Mathlib.Omega.{arith}
 use native.Mathlib.Numerals.{add-one}
 use lib.ListN.{length, getD, set, length-set}
@@ -15,12 +15,11 @@ use Rattle.text.specs.Span.{spanOf}
 use Rattle.rows.specs.Rows.{Row, tokenOf}
 use Rattle.build.specs.Names.{place, prefixes, enter, names}
 use Rattle.build.specs.Grown.{root}
-use Rattle.build.specs.Links.{Linked, Spelled}
 use Rattle.build.specs.Rules.{idOfWorth, tokensOf}
 use Rattle.build.specs.Given.{rowGiven, givenFrom, given, valueOf, kept, marked, rulesFrom, noRule}
 use Rattle.build.specs.Held.{ZeroFrom, Held, Roomy, Enterable, Unmarked, RowDone, valueGiven, Ready, Planted}
 use Rattle.build.proofs.Strings.{snoc-nil, equal?}
-use Rattle.build.proofs.Places.{none-some, found?, place-empty, place-other, place-below, place-at, place-hit}
+use Rattle.build.proofs.Places.{none-some, place-empty, place-other, place-below, place-at}
 use Rattle.build.proofs.Grown.{List², grown-root}
 use Rattle.build.proofs.Named.{entered, entered-none, entered-one, entered-grows, names-are}
 use Rattle.build.proofs.Ruled.{marked-hit, marked-other, marked-empty}

@@ -1,19 +1,19 @@
 -- Which row's id a string has: the first of its rows, or the last, as rows are entered one by one. Assumes nothing.
-use mathlib.Core.Path.{_≡_, refl, sym, ap, _∙_, subst, fun-ext}
+use mathlib.Core.Path.{_≡_, refl, sym, ap, _∙_, fun-ext}
 use mathlib.Core.Bool.{Bool, true, false, cond}
 use mathlib.Core.List.{List, [], _∷_, _++_, map}
-use mathlib.Core.Logic.{_⊎_, inl, inr, ⊎-elim}
+use mathlib.Core.Logic.{⊎-elim}
 use mathlib.Core.Option.{Option, none, some}
-use Prim.Native.Nat.{ℕ, zero, suc, _+_, _≤_, _<_}
+use Prim.Native.Nat.{ℕ, suc, _+_}
 use native.Mathlib.Omega.{arith}
-use lib.ListN.{length, getD}
-use Rattle.rows.specs.Rows.{Row, Worth, id, tokenOf}
+use lib.ListN.{length}
+use Rattle.rows.specs.Rows.{Row, id, tokenOf}
 use Rattle.build.specs.Names.{same, later, place}
 use Rattle.build.specs.Parts.{trieOf}
 use Rattle.build.specs.Rules.{firstRow, idOfWorth, tokensOf, unigramTrie, lastOf, lastId, wordpieceTrie}
-use Rattle.build.specs.Given.{rowGiven, givenFrom, valueOf, kept, marked, rulesFrom, noRule, trieGiven}
+use Rattle.build.specs.Given.{valueOf, kept, marked, rulesFrom, noRule, trieGiven}
 use Rattle.build.proofs.Strings.{same-refl, same-eq, same-ne, same-false}
-use Rattle.build.proofs.Places.{either, none-some, found?, place-hit, place-miss, place-empty, place-below, place-at, place-kept, place-end, place-other}
+use Rattle.build.proofs.Places.{either, none-some, place-hit, place-miss, place-empty, place-kept, place-end, place-other}
 use Rattle.build.proofs.Grown.{List²}
 
 -- ---- one row more

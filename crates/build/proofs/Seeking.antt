@@ -1,19 +1,19 @@
 -- Seeking a byte among a node's children: the bytes of the children that are passed rise, so the walk ends, and where it ends stands the
 -- link to the first child by the byte or a later one. Assumes nothing.
-use mathlib.Core.Path.{_≡_, refl, sym, ap, _∙_, subst}
+use mathlib.Core.Path.{_≡_, refl, ap}
 use mathlib.Core.Bool.{cond}
 use mathlib.Core.List.{List, [], _∷_, _++_}
-use mathlib.Core.Logic.{_⊎_, inl, inr, ⊎-elim}
-use mathlib.Core.Option.{Option, none, some}
-use Prim.Native.Nat.{ℕ, zero, suc, _+_, _-_, _*_, _/_, _≤_, _<_}
+use mathlib.Core.Logic.{⊎-elim}
+use mathlib.Core.Option.{none, some}
+use Prim.Native.Nat.{ℕ, suc, _+_, _-_, _*_, _/_, _≤_, _<_}
 use native.Mathlib.Omega.{arith}
 use native.Mathlib.Decide.{decLt}
 use borrow.Author.Tests.{eq-eqb, ne-eqb}
 use lib.Dec.{eqb}
 use lib.ListN.{length, getD}
 use Rattle.build.specs.Names.{place}
-use Rattle.build.specs.Links.{Clear, Least, First, Slot, of-first, of-next, Linked, Spelled}
-use Rattle.build.proofs.Places.{none-some, place-below, place-same}
+use Rattle.build.specs.Links.{Clear, Least, Slot, of-first, of-next, Linked, Spelled}
+use Rattle.build.proofs.Places.{place-below, place-same}
 use Rattle.build.proofs.Grown.{List², grown-parent}
 use Rattle.build.proofs.Linking.{slot-first}
 

@@ -3,19 +3,17 @@
 use mathlib.Core.Path.{_≡_, refl, sym, ap, _∙_, subst}
 use mathlib.Core.Bool.{Bool, true, false, _&&_}
 use mathlib.Core.List.{List, [], _∷_, _++_, map, flatten}
-use mathlib.Core.Logic.{_⊎_, inl, inr, ⊎-elim}
-use mathlib.Core.Option.{Option, none, some, Option·getD}
+use mathlib.Core.Option.{Option, Option·getD}
 use Prim.Native.Nat.{ℕ, zero, suc, _+_, _-_, _≤_, _<_}
 use native.Mathlib.Omega.{arith}
 use native.Mathlib.Decide.{decLt}
 use borrow.Author.Tests.{le-leb, lt-ltb, eq-eqb}
-use lib.Dec.{leb, ltb, eqb}
+use lib.Dec.{leb, ltb}
 use lib.ListN.{length, getD, drop, length-append, length-map, List·getD-append}
 use lib.Seq.{getD-append-add}
 use Rattle.refusal.specs.Sizes.{noId}
-use Rattle.trie.specs.Trie.{Trie}
 use Rattle.trie.specs.Sound.{every, soundNode, sound}
-use Rattle.build.specs.Names.{place, names}
+use Rattle.build.specs.Names.{names}
 use Rattle.build.specs.Grown.{Grown}
 use Rattle.build.specs.Parts.{Edge, edgesOf, starts, lay, trieOf}
 use Rattle.build.proofs.Grown.{List², grown-some}

@@ -5,7 +5,7 @@ use mathlib.Core.Option.{Option, none, some}
 use Prim.Native.Nat.{ℕ, zero, suc}
 use lib.ListN.{length, getD}
 use Rattle.trie.specs.Trie.{Trie}
-use Rattle.rows.specs.Rows.{Row, Worth, id, tokenOf}
+use Rattle.rows.specs.Rows.{Row, id, tokenOf}
 use Rattle.build.specs.Names.{same}
 use Rattle.build.specs.Rules.{idOfWorth, unigramTrie, wordpieceTrie}
 

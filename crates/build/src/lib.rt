@@ -1,9 +1,9 @@
 // The core of both builds: tokens entered in lent columns, their children linked in lent work places, laid out as trie parts.
 pub mod core;
-pub mod lay;
-pub mod links;
-pub mod tokens;
-pub mod vocabulary;
+mod lay;
+mod links;
+mod tokens;
+mod vocabulary;
 pub mod zero;
 
 // The mark for no id, which no row's id may be.

@@ -26,10 +26,10 @@ pub fn zero16(s: &mut [u16])
 pub fn zero32(s: &mut [u32])
     ensures { λ _. ⌜ now (s .exit) ≡ zeroed 0 (now (s .entry)) ⌝ }
 {
-    let mut i: usize = 0;
-    while i < s.len() {
-        s[i] = 0;
-        i += 1;
+    let mut at: usize = 0;
+    while at < s.len() {
+        s[at] = 0;
+        at += 1;
     }
 }
 

@@ -2,11 +2,10 @@
 -- The measure is what is left of the nodes. Assumes nothing.
 use mathlib.Core.Path.{_≡_, refl, _∙_}
 use mathlib.Core.List.{List}
-use Prim.Native.Nat.{ℕ, _+_, _-_, _≤_, _<_}
+use Prim.Native.Nat.{ℕ, _-_, _≤_, _<_}
 use native.Mathlib.Omega.{arith}
 use lib.ListN.{length}
 use Rattle.build.specs.Links.{Linked, Spelled}
-use Rattle.build.specs.Laying.{NodeDone}
 use Rattle.build.proofs.Out.{LaidTo, laid-start, laid-few, laid-turn, laid-end}
 use Rattle.build.proofs.lay.lay_all.Statement.{statement}
 use Rattle.build.proofs.lay.lay_all.Tie as tie

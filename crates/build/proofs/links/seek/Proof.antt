@@ -9,9 +9,7 @@ use borrow.Author.Needs.{needs}
 use lib.ListN.{length, getD}
 use Rattle.build.specs.Names.{place}
 use Rattle.build.specs.Links.{Slot, Linked, Spelled}
-use Rattle.build.specs.Held.{Chained}
 use Rattle.build.proofs.Places.{place-below}
-use Rattle.build.proofs.Linking.{slot-below}
 use Rattle.build.proofs.Seeking.{left, seek-start, seek-below, seek-on, seek-stop, seek-end, seek-falls}
 use Rattle.build.proofs.links.seek.Statement.{statement}
 use Rattle.build.proofs.links.seek.Tie as tie
@@ -84,7 +82,7 @@ mul-if2 : tie.Need-mul-if2 Inv-loop μ-loop
 mul-if2 c = omega (arith, below (c .before .before) (c .if1 .left))
 
 shared-slice-read-if2 : tie.Need-shared-slice-read-if2 Inv-loop μ-loop
-shared-slice-read-if2 c = below (c .before .before .before) (c .before .if1 .left) .0
+shared-slice-read-if2 c = let t = c .before in below (t .before .before) (t .if1 .left) .0
 
 returns-2 : tie.Need-returns-2 Inv-loop μ-loop
 returns-2 c =

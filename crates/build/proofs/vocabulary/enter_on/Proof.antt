@@ -1,14 +1,14 @@
 -- `build::vocabulary::enter_on` meets its contract. The loop's invariant: the first i rows are entered. The measure is what is left of them.
 -- Assumes nothing.
-use mathlib.Core.Path.{_≡_, refl, _∙_}
+use mathlib.Core.Path.{refl, _∙_}
 use mathlib.Core.List.{List, []}
-use Prim.Native.Nat.{ℕ, _+_, _-_, _≤_, _<_}
+use Prim.Native.Nat.{ℕ, _-_, _≤_}
 use native.Mathlib.Omega.{arith}
 use lib.ListN.{length, getD}
 use Rattle.text.specs.Span.{spanOf}
 use Rattle.build.specs.Names.{prefixes, enter}
 use Rattle.build.specs.Given.{marked}
-use Rattle.build.specs.Held.{Roomy, RowDone, valueGiven}
+use Rattle.build.specs.Held.{RowDone, valueGiven}
 use Rattle.build.proofs.Entering.{Kept, roomy-kept}
 use Rattle.build.proofs.Rowing.{Rowed, rowed-start, rowed-small, rowed-turn, rowed-full, rowed-end, rowed-enterable}
 use Rattle.build.proofs.vocabulary.enter_on.Statement.{statement}

@@ -1,0 +1,146 @@
+-- How many nodes fit: the room of the lent columns is enough for n nodes exactly where 7 does not refuse them, and judged rows never need
+-- more than a u32 counts. Assumes nothing.
+use mathlib.Core.Path.{_≡_, refl, sym, ap, _∙_}
+use mathlib.Core.Bool.{Bool, true, false, _||_}
+use mathlib.Core.List.{List, [], _∷_}
+use Prim.Native.Nat.{ℕ, _+_, _-_, _*_, _/_, _≤_, _<_, min}
+use native.Mathlib.Omega.{arith}
+use native.Mathlib.Decide.{decLt}
+use borrow.Author.Tests.{lt-ltb, le-ltb, ltb-false}
+use lib.Dec.{ltb}
+use lib.ListN.{length, getD}
+use Rattle.refusal.specs.Sizes.{maxRows, maxToken}
+use Rattle.rows.specs.Rows.{Row, tokenOf}
+use Rattle.build.specs.Rules.{tokensOf}
+use Rattle.build.specs.Memory.{Memory, anyBelow, noRoom}
+use Rattle.build.specs.Core.{roomOf, RoomFor, nodesOf}
+use Rattle.build.proofs.Named.{names-are, names-few, bytes-few, entered-grows}
+use Rattle.build.proofs.Lookups.{noRow, token-at, length-tokens}
+
+-- ---- the least of all
+
+min-left : (a b n : ℕ) → n ≤ min a b → n ≤ a
+min-left a b n h = omega arith
+
+min-right : (a b n : ℕ) → n ≤ min a b → n ≤ b
+min-right a b n h = omega arith
+
+min-both : (a b n : ℕ) → n ≤ a → n ≤ b → n ≤ min a b
+min-both a b n p q = omega arith
+
+-- what fits fits every column
+pub room-for : (m : Memory) (n : ℕ) → n ≤ roomOf m → RoomFor n m
+room-for m n h =
+    let at = length (m .edgeAt) in
+    let en = length (m .edgeN) in
+    let im = length (m .id) in
+    let by = length (m .byte) + 1 in
+    let tt′ = length (m .to) + 1 in
+    let wo = length (m .work) / 2 in
+    let nodes = min-left (min (min at en) (min im by)) (min (min tt′ wo) 4_294_967_295) n h in
+    let edges = min-right (min (min at en) (min im by)) (min (min tt′ wo) 4_294_967_295) n h in
+    let starts = min-left (min at en) (min im by) n nodes in
+    let ids = min-right (min at en) (min im by) n nodes in
+    let links = min-left (min tt′ wo) 4_294_967_295 n edges in
+    let half = min-right tt′ wo n links in
+    record {
+      starts = min-left at en n starts;
+      counts = min-right at en n starts;
+      ids = min-left im by n ids;
+      bytes = min-right im by n ids;
+      targets = min-left tt′ wo n links;
+      links = omega arith;
+      small = min-right (min tt′ wo) 4_294_967_295 n edges;
+    }
+
+-- and what fits every column fits
+pub for-room : (m : Memory) (n : ℕ) → RoomFor n m → n ≤ roomOf m
+for-room m n r =
+    min-both (min (min (length (m .edgeAt)) (length (m .edgeN))) (min (length (m .id)) (length (m .byte) + 1)))
+    (min (min (length (m .to) + 1) (length (m .work) / 2)) 4_294_967_295) n
+    (min-both (min (length (m .edgeAt)) (length (m .edgeN))) (min (length (m .id)) (length (m .byte) + 1)) n
+    (min-both (length (m .edgeAt)) (length (m .edgeN)) n (r .starts) (r .counts))
+    (min-both (length (m .id)) (length (m .byte) + 1) n (r .ids) (r .bytes)))
+    (min-both (min (length (m .to) + 1) (length (m .work) / 2)) 4_294_967_295 n
+    (min-both (length (m .to) + 1) (length (m .work) / 2) n (r .targets) (omega (arith, r .links))) (r .small))
+
+-- the room that `room` answers is room
+pub room-is : (m : Memory) → RoomFor (roomOf m) m
+room-is m = room-for m (roomOf m) (omega arith)
+
+-- ---- 7
+
+pub or-false : (a b : Bool) → (a || b) ≡ false → (a ≡ false) × (b ≡ false)
+or-false true b e = let z : _≡_ {A = ℕ} 0 1 = cc in absurd (omega arith)
+or-false false b e = (refl, e)
+
+fits-all : (m : Memory) (n : ℕ) → RoomFor n m → noRoom n m ≡ false
+unfolding noRoom anyBelow
+fits-all m n r =
+    rw (
+      le-ltb (length (m .edgeAt)) n (r .starts),
+      le-ltb (length (m .edgeN)) n (r .counts),
+      le-ltb (length (m .id)) n (r .ids),
+      le-ltb (length (m .byte)) (n - 1) (omega (arith, r .bytes)),
+      le-ltb (length (m .to)) (n - 1) (omega (arith, r .targets)),
+      le-ltb (length (m .work)) (2 * n) (r .links),
+    )
+
+-- no column below n
+none-below : (n a b : ℕ) → (ltb a n || (ltb b n || false)) ≡ false → (n ≤ a) × (n ≤ b)
+none-below n a b e =
+    let p = or-false (ltb a n) (ltb b n || false) e in
+    (ltb-false a n (p .0), ltb-false b n (or-false (ltb b n) false (p .1) .0))
+
+all-fit : (m : Memory) (n : ℕ) → 1 ≤ n → n ≤ 4_294_967_295 → noRoom n m ≡ false → RoomFor n m
+unfolding noRoom anyBelow
+all-fit m n some-node small e =
+    let nodes = anyBelow n (length (m .edgeAt) ∷ length (m .edgeN) ∷ length (m .id) ∷ []) in
+    let edges = anyBelow (n - 1) (length (m .byte) ∷ length (m .to) ∷ []) in
+    let work = ltb (length (m .work)) (2 * n) in
+    let p = or-false (nodes || edges) work e in
+    let q = or-false nodes edges (p .0) in
+    let s = or-false (ltb (length (m .edgeAt)) n) (ltb (length (m .edgeN)) n || (ltb (length (m .id)) n || false)) (q .0) in
+    let t = none-below n (length (m .edgeN)) (length (m .id)) (s .1) in
+    let u = none-below (n - 1) (length (m .byte)) (length (m .to)) (q .1) in
+    record {
+      starts = ltb-false (length (m .edgeAt)) n (s .0);
+      counts = t .0;
+      ids = t .1;
+      bytes = omega (arith, u .0);
+      targets = omega (arith, u .1);
+      links = ltb-false (length (m .work)) (2 * n) (p .1);
+      small = small;
+    }
+
+-- "with N nodes needed: fewer than N node, N-1 edge or 2N work places in any lent column"
+pub no-room : (m : Memory) (n : ℕ) → 1 ≤ n → n ≤ 4_294_967_295 → noRoom n m ≡ ltb (roomOf m) n
+no-room m n some-node small = go (noRoom n m) refl
+  where
+    go : (t : Bool) → noRoom n m ≡ t → noRoom n m ≡ ltb (roomOf m) n
+    go false e = e ∙ sym (le-ltb (roomOf m) n (for-room m n (all-fit m n some-node small e)))
+    go true e = e ∙ sym (lt-ltb (roomOf m) n (short (decLt (roomOf m) n)))
+      where
+        short : Dec (roomOf m < n) → roomOf m < n
+        short (yes h) = h
+        short (no h) =
+            let z : true ≡ false = sym e ∙ fits-all m n (room-for m n (omega arith)) in
+            let y : _≡_ {A = ℕ} 0 1 = cc in
+            absurd (omega arith)
+
+-- ---- how many nodes rows need
+
+pub nodes-some : (tab : List ℕ) (rows : List Row) → 1 ≤ nodesOf tab rows
+nodes-some tab rows = omega (arith, ap length (names-are (tokensOf tab rows)), entered-grows (tokensOf tab rows) ([] ∷ []))
+
+-- at most 1,048,576 rows of 1,024 bytes: 1,073,741,825 nodes
+pub nodes-few :
+    (tab : List ℕ) (rows : List Row) → length rows ≤ maxRows → ((i : ℕ) → i < length rows → length (tokenOf tab (getD rows i noRow)) ≤ maxToken)
+    → nodesOf tab rows ≤ 1_073_741_825
+nodes-few tab rows few short =
+    let tokens = tokensOf tab rows in
+    let each = bytes-few tokens maxToken
+    (λ i h.
+    let l : i < length rows = omega (arith, length-tokens tab rows) in
+    omega (arith, ap length (token-at tab rows i l), short i l)) in
+    omega (arith, names-few tokens, each, length-tokens tab rows)
