@@ -3,4 +3,5 @@ pub mod Longest
 pub mod Rest
 pub mod Plans
 pub mod Faults
+pub mod Readers
 pub mod Determinacy
