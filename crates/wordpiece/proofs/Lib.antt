@@ -4,3 +4,6 @@ pub mod Rest
 pub mod Plans
 pub mod Faults
 pub mod Determinacy
+pub mod Rooms
+pub mod FineRows
+pub mod Builds
