@@ -8,6 +8,7 @@ use Prim.Native.Nat.{ℕ, _≤_, _<_}
 use native.Mathlib.Omega.{arith}
 use borrow.Author.Tests.{ltb-false}
 use lib.Dec.{ltb, eqb}
+use lib.Ieee.{Float}
 use lib.ListN.{length}
 use Rattle.doubles.specs.Double.{isFinite}
 use Rattle.refusal.specs.declared.Fault.{Fault}
@@ -19,17 +20,23 @@ use Rattle.refusal.proofs.Tests.{found, not-found}
 use Rattle.rows.specs.declared.Kind.the-variants.{WordPiece}
 use Rattle.rows.specs.Rows.{Row, Worth, score, id, worthFault, rowFault, firstBad}
 use Rattle.rows.specs.Columns.{Columns, rowAt, rowsOf, columnsFault}
+use Rattle.rows.specs.Answers.{columns}
 use Rattle.rows.proofs.FirstBad.{first-bad-says}
 use Rattle.rows.proofs.ListFaults.{size, rows-left, sizes-first}
+use Rattle.build.specs.declared.Built as core
 use Rattle.build.specs.declared.Built.the-variants.{Nodes, NoRoom}
 use Rattle.build.specs.Names.{names}
 use Rattle.build.specs.Rules.{tokensOf, wordpieceTrie}
-use Rattle.build.specs.Given.{trieGiven}
+use Rattle.build.specs.Given.{given, trieGiven}
 use Rattle.build.specs.Memory.{Memory, noRoom, cleared, holding, leaves}
 use Rattle.build.specs.Core.{roomOf, nodesOf, builtAnswer, BuiltOf}
 use Rattle.wordpiece.specs.declared.BuildAnswer.the-variants as answer-is
 use Rattle.wordpiece.specs.Build.{buildFault, buildAnswer, Built}
-use Rattle.wordpiece.proofs.Rooms.{room-is}
+use Rattle.wordpiece.proofs.Rooms.{room-for, room-is}
+use Rattle.wordpiece.proofs.FineRows.{given-rows, nodes-few}
+
+below : {n a b c : ℕ} → n ≤ a → a ≡ b → b ≤ c → n ≤ c
+below p e q = omega (arith, p, e, q)
 
 -- ---- no fault of the rows has the number 7
 
@@ -130,7 +137,7 @@ module _ (tab : List ℕ) (c : Columns) (m : Memory) where
     fault-is e =
         fault-fine fine ∙ ap (λ (b : Bool). refuse b (reason.Call fault.Room) none) (sym (room-is nodes m few) ∙ e)
 
-    pub core-full : {after : Memory} → BuiltOf false tab (rowsOf c) (roomOf m) m after NoRoom → Built tab c m (answer-is.Refused (reason.Call fault.Room)) after
+    core-full : {after : Memory} → BuiltOf false tab (rowsOf c) (roomOf m) m after NoRoom → Built tab c m (answer-is.Refused (reason.Call fault.Room)) after
     unfolding refuse
     core-full {after = after} d = go (ltb (roomOf m) nodes) refl
       where
@@ -141,7 +148,7 @@ module _ (tab : List ℕ) (c : Columns) (m : Memory) where
             let y : _≡_ {A = ℕ} 0 1 = cc in
             absurd (omega arith)
 
-    pub core-built : {after : Memory} {n : ℕ} → BuiltOf false tab (rowsOf c) (roomOf m) m after (Nodes n) → Built tab c m (answer-is.Built n) after
+    core-built : {after : Memory} {n : ℕ} → BuiltOf false tab (rowsOf c) (roomOf m) m after (Nodes n) → Built tab c m (answer-is.Built n) after
     unfolding refuse trieGiven
     core-built {after = after} {n = n} d = go (ltb (roomOf m) nodes) refl
       where
@@ -156,16 +163,48 @@ module _ (tab : List ℕ) (c : Columns) (m : Memory) where
             subst (λ (k : ℕ). Built tab c m (answer-is.Built k) after) (sym s)
             (built-held (fault-is e) (d .left ∙ ap (λ (b : Bool). cond b (cleared m) (holding (trieGiven false tab (rowsOf c)) m)) e))
 
--- a built number of nodes is no more than the room
-pub core-fits : {b : Bool} {tab : List ℕ} {rows : List Row} {room n : ℕ} {before after : Memory} → BuiltOf b tab rows room before after (Nodes n) → n ≤ room
-core-fits {tab = tab} {rows = rows} {room = room} {n = n} d = go (ltb room (nodesOf tab rows)) refl
+-- ---- from what the core says of the lent lists
+
+module _
+    {b : Bool} {tab : List ℕ} {rows : List Row} {room : ℕ} {before after : Memory} {answer : core.Built} {n : ℕ}
+    (d : BuiltOf b tab rows room before after answer) (e : answer ≡ Nodes n)
   where
-    go : (t : Bool) → ltb room (nodesOf tab rows) ≡ t → n ≤ room
-    go true e =
-        let z : Nodes n ≡ NoRoom = d .answered ∙ ap (λ (t : Bool). cond t NoRoom (Nodes (nodesOf tab rows))) e in
-        let y : _≡_ {A = ℕ} 0 1 = cc in
-        absurd (omega arith)
-    go false e =
-        let z : Nodes n ≡ Nodes (nodesOf tab rows) = d .answered ∙ ap (λ (t : Bool). cond t NoRoom (Nodes (nodesOf tab rows))) e in
-        let s : n ≡ nodesOf tab rows = cc in
-        omega (arith, s, ltb-false room (nodesOf tab rows) e)
+    -- a built number of nodes is no more than the room
+    core-fits : n ≤ room
+    core-fits = go (ltb room (nodesOf tab rows)) refl
+      where
+        go : (t : Bool) → ltb room (nodesOf tab rows) ≡ t → n ≤ room
+        go true p =
+            let z : Nodes n ≡ NoRoom = sym e ∙ d .answered ∙ ap (λ (t : Bool). cond t NoRoom (Nodes (nodesOf tab rows))) p in
+            let y : _≡_ {A = ℕ} 0 1 = cc in
+            absurd (omega arith)
+        go false p =
+            let z : Nodes n ≡ Nodes (nodesOf tab rows) =
+            sym e ∙ d .answered ∙ ap (λ (t : Bool). cond t NoRoom (Nodes (nodesOf tab rows))) p in
+            let s : n ≡ nodesOf tab rows = cc in
+            omega (arith, s, ltb-false room (nodesOf tab rows) p)
+
+    -- so it fits a u32
+    pub nodes-fit : room ≡ roomOf before → n ≤ 4_294_967_295
+    nodes-fit r =
+        let small = room-for before .small in
+        below core-fits r small
+
+module _ (tab off len : List ℕ) (ids : List ℕ) (m after : Memory) {room : ℕ} {answer : core.Built}
+    (r : room ≡ roomOf m) (d : BuiltOf false tab (given off len ids) room m after answer)
+    (scored : List Bool) (scores : List Float) (fine : columnsFault WordPiece tab (columns off len scored scores ids) ≡ none)
+  where
+    abbrev c : Columns
+    c = columns off len scored scores ids
+
+    said : {a : core.Built} → answer ≡ a → BuiltOf false tab (rowsOf c) (roomOf m) m after a
+    said e =
+        subst (λ (a : core.Built). BuiltOf false tab (rowsOf c) (roomOf m) m after a) e
+        (subst (λ (k : ℕ). BuiltOf false tab (rowsOf c) k m after answer) r
+        (subst (λ (rows : List Row). BuiltOf false tab rows room m after answer) (given-rows tab off len scored scores ids fine) d))
+
+    pub lists-full : answer ≡ NoRoom → Built tab c m (answer-is.Refused (reason.Call fault.Room)) after
+    lists-full e = core-full tab c m fine (nodes-few tab c fine) (said e)
+
+    pub lists-built : {n : ℕ} → answer ≡ Nodes n → Built tab c m (answer-is.Built n) after
+    lists-built e = core-built tab c m fine (nodes-few tab c fine) (said e)
