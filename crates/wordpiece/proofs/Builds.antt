@@ -1,16 +1,15 @@
 -- What `from_rows` promises, in each case. A fault of the rows comes first, and its number is never 7, so nothing is written; then the room
 -- decides, and what the core says of its rows is said of the columns. Assumes nothing.
 use mathlib.Core.Path.{_≡_, refl, sym, ap, _∙_, subst}
-use mathlib.Core.Bool.{Bool, true, false, cond, not}
+use mathlib.Core.Bool.{Bool, true, false, cond}
 use mathlib.Core.List.{List}
 use mathlib.Core.Option.{Option, none, some}
-use Prim.Native.Nat.{ℕ, _≤_, _<_}
+use Prim.Native.Nat.{ℕ, _≤_}
 use native.Mathlib.Omega.{arith}
 use borrow.Author.Tests.{ltb-false}
 use lib.Dec.{ltb, eqb}
 use lib.Ieee.{Float}
 use lib.ListN.{length}
-use Rattle.doubles.specs.Double.{isFinite}
 use Rattle.refusal.specs.declared.Fault.{Fault}
 use Rattle.refusal.specs.declared.Fault.the-variants as fault
 use Rattle.refusal.specs.declared.Reason.{Reason}
@@ -18,7 +17,7 @@ use Rattle.refusal.specs.declared.Reason.the-variants as reason
 use Rattle.refusal.specs.Refusal.{number, numberOf, refuse, first}
 use Rattle.refusal.proofs.Tests.{found, not-found}
 use Rattle.rows.specs.declared.Kind.the-variants.{WordPiece}
-use Rattle.rows.specs.Rows.{Row, Worth, score, id, worthFault, rowFault, firstBad}
+use Rattle.rows.specs.Rows.{Row, Worth, score, id, worthFault, rowFault}
 use Rattle.rows.specs.Columns.{Columns, rowAt, rowsOf, columnsFault}
 use Rattle.rows.specs.Answers.{columns}
 use Rattle.rows.proofs.FirstBad.{first-bad-says}
@@ -29,7 +28,7 @@ use Rattle.build.specs.Names.{names}
 use Rattle.build.specs.Rules.{tokensOf, wordpieceTrie}
 use Rattle.build.specs.Given.{given, trieGiven}
 use Rattle.build.specs.Memory.{Memory, noRoom, cleared, holding, leaves}
-use Rattle.build.specs.Core.{roomOf, nodesOf, builtAnswer, BuiltOf}
+use Rattle.build.specs.Core.{roomOf, nodesOf, BuiltOf}
 use Rattle.wordpiece.specs.declared.BuildAnswer.the-variants as answer-is
 use Rattle.wordpiece.specs.Build.{buildFault, buildAnswer, Built}
 use Rattle.wordpiece.proofs.Rooms.{room-for, room-is}

@@ -1,19 +1,17 @@
 -- WordPiece rows without a fault, as the core of the build is given them. The core asks that the columns are level and each token stands inside
 -- the table, which the faults say; its rows are the rows of the columns, for each has an id; and its nodes are at most 1 and the bytes of all
 -- tokens, so their number fits a u32. Assumes nothing.
-use mathlib.Core.Path.{_≡_, refl, sym, ap, ap₂, _∙_}
-use mathlib.Core.Bool.{Bool, true, false, cond}
+use mathlib.Core.Path.{_≡_, refl, ap, ap₂, _∙_}
+use mathlib.Core.Bool.{Bool, false}
 use mathlib.Core.List.{List, [], _∷_}
 use mathlib.Core.Option.{none}
-use Prim.Native.Nat.{ℕ, zero, suc, _+_, _*_, _≤_, _<_}
+use Prim.Native.Nat.{ℕ, zero, suc, _+_, _≤_, _<_}
 use native.Mathlib.Omega.{arith}
 use lib.Ieee.{Float}
 use lib.ListN.{length, getD}
-use Rattle.doubles.specs.Double.{plusZero}
-use Rattle.doubles.specs.Units.{units}
 use Rattle.refusal.specs.Sizes.{maxToken}
 use Rattle.rows.specs.declared.Kind.the-variants.{WordPiece}
-use Rattle.rows.specs.Rows.{Row, tokenOf}
+use Rattle.rows.specs.Rows.{tokenOf}
 use Rattle.rows.specs.Columns.{Columns, rowAt, rowsFrom, rowsOf, columnsFault}
 use Rattle.rows.specs.Answers.{columns}
 use Rattle.rows.proofs.ListFaults.{lists-fine, rows-few, row-inside, row-short, row-token-length, wordpiece-numbered}

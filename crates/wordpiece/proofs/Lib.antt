@@ -7,3 +7,4 @@ pub mod Determinacy
 pub mod Rooms
 pub mod FineRows
 pub mod Builds
+pub mod BuiltTries

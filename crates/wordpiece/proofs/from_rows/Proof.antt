@@ -1,9 +1,8 @@
 -- `wordpiece::from_rows` meets its contract: what `judge` finds is refused, and rows without a fault are what the build asks for.
 -- Assumes nothing.
 use mathlib.Core.Path.{_≡_, sym, ap, _∙_}
-use mathlib.Core.Option.{Option, none}
+use mathlib.Core.Option.{none}
 use borrow.Author.Needs.{needs}
-use Rattle.refusal.specs.declared.Reason.{Reason}
 use Rattle.rows.specs.declared.Kind.the-variants.{WordPiece}
 use Rattle.rows.specs.Columns.{Columns, columnsFault}
 use Rattle.rows.specs.Answers.{columns, reasonIn}
