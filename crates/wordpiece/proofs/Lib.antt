@@ -5,3 +5,7 @@ pub mod Plans
 pub mod Faults
 pub mod Readers
 pub mod Determinacy
+pub mod Rooms
+pub mod FineRows
+pub mod Builds
+pub mod BuiltTries

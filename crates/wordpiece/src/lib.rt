@@ -1,14 +1,20 @@
 // WordPiece: `from_rows`, a trie from rows; `encode`, the longest token first.
 use refusal::Fault;
 use refusal::Reason;
+use rows::Kind;
+use rows::columns::RowsAnswer;
 
 pub mod checked;
+pub mod fine;
 
 ghost use mathlib.Core.Path.{_≡_};
 ghost use mathlib.Core.List.{List};
 ghost use Prim.Native.Nat.{ℕ};
 ghost use lib.ListN.{length};
 ghost use Rattle.trie.specs.Trie.{partsOf};
+ghost use Rattle.rows.specs.Answers.{columns};
+ghost use Rattle.build.specs.Memory.{memory};
+ghost use Rattle.wordpiece.specs.Build.{Built};
 ghost use Rattle.wordpiece.specs.Encode.{encodeFault, Encoded};
 ghost use Rattle.wordpiece.specs.Checked.{faultIn};
 
@@ -21,6 +27,47 @@ const MAX_PREFIX: usize = 64;
 pub enum BuildAnswer {
     Built(u32),
     Refused(Reason),
+}
+
+// The trie of the rows, in the lent columns. Refused are sizes above their limits or lists of unequal length, then the first bad row, and then
+// too few lent places. A refusal of the rows writes nothing; a refusal of the places leaves every lent place zero. After a build the work
+// places and the places past the trie are zero.
+pub fn from_rows(
+    tab: &[u8],
+    off: &[u32],
+    len: &[u32],
+    scored: &[bool],
+    score: &[f64],
+    id: &[u32],
+    edge_at: &mut [u32],
+    edge_n: &mut [u16],
+    node_id: &mut [u32],
+    byte: &mut [u8],
+    to: &mut [u32],
+    work: &mut [u32],
+) -> BuildAnswer
+    ensures { λ r.
+        ⌜ Built (now (tab .entry)) (columns (now (off .entry)) (now (len .entry)) (now (scored .entry)) (now (score .entry)) (now (id .entry)))
+        (memory (now («edge_at» .entry)) (now («edge_n» .entry)) (now («node_id» .entry)) (now (byte .entry)) (now (to .entry)) (now (work .entry)))
+        r
+        (memory (now («edge_at» .exit)) (now («edge_n» .exit)) (now («node_id» .exit)) (now (byte .exit)) (now (to .exit)) (now (work .exit))) ⌝ }
+{
+    let found = rows::columns::judge(Kind::WordPiece, tab, off, len, scored, score, id);
+    match found {
+        RowsAnswer::Refused(r) => BuildAnswer::Refused(r),
+        RowsAnswer::Fine => fine::build_rows(
+            tab,
+            off,
+            len,
+            id,
+            edge_at,
+            edge_n,
+            node_id,
+            byte,
+            to,
+            work,
+        ),
+    }
 }
 
 // What `encode` answers: how many ids it wrote, or why it wrote nothing.
