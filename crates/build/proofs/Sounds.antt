@@ -19,6 +19,7 @@ use Rattle.build.specs.Parts.{Edge, edgesOf, starts, lay, trieOf}
 use Rattle.build.proofs.Grown.{List², grown-some}
 use Rattle.build.proofs.Named.{AllBytes, grown-names}
 use Rattle.build.proofs.Edges.{Rising, end, next, rising-edges, edges-few}
+use Rattle.build.proofs.Counted.{count-names}
 use Rattle.build.proofs.Laid.{getD-map-of, drop-head, map-head, length-starts, laid-at}
 
 both : (a b : Bool) → a ≡ true → b ≡ true → (a && b) ≡ true
@@ -152,3 +153,29 @@ pub sound-built :
     (rule : List ℕ → Option ℕ) (tokens : List²) → AllBytes tokens → length (names tokens) ≤ 4_294_967_295 → sound (trieOf rule tokens) ≡ true
 unfolding trieOf
 sound-built rule tokens h few = sound-laid rule (names tokens) (grown-names tokens h) few
+
+-- ---- its columns: a place for each node, and one for each edge
+
+module _ (rule : List ℕ → Option ℕ) (tokens : List²) where
+  abbrev n : ℕ
+  n = length (names tokens)
+
+  pub length-edgeAt : length (trieOf rule tokens .edgeAt) ≡ n
+  unfolding trieOf lay
+  length-edgeAt = level-at rule (names tokens)
+
+  pub length-edgeN : length (trieOf rule tokens .edgeN) ≡ n
+  unfolding trieOf lay
+  length-edgeN = length-map (parts rule (names tokens)) length ∙ length-map (names tokens) (edgesOf (names tokens))
+
+  pub length-id : length (trieOf rule tokens .id) ≡ n
+  unfolding trieOf lay
+  length-id = length-map (names tokens) (λ s. Option·getD (rule s) noId)
+
+  pub length-byte : AllBytes tokens → length (trieOf rule tokens .byte) ≡ n - 1
+  unfolding trieOf lay
+  length-byte h = length-map (edges rule (names tokens)) (λ e. e .byte) ∙ count-names (grown-names tokens h)
+
+  pub length-to : AllBytes tokens → length (trieOf rule tokens .to) ≡ n - 1
+  unfolding trieOf lay
+  length-to h = length-map (edges rule (names tokens)) (λ e. e .to) ∙ count-names (grown-names tokens h)

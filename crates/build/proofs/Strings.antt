@@ -60,9 +60,6 @@ equal? s t = go (same s t) refl
 
 -- ---- one byte more
 
-nil-cons : {A : Type 0} (s : List ℕ) (b : ℕ) → [] ≡ b ∷ s → A
-nil-cons s b e = let z : _≡_ {A = ℕ} 0 1 = cc in absurd (omega arith)
-
 pub length-snoc : (s : List ℕ) (b : ℕ) → length (s ++ (b ∷ [])) ≡ suc (length s)
 length-snoc s b = omega (arith, length-append s (b ∷ []))
 
@@ -91,6 +88,3 @@ snoc-longer s b e = absurd (omega (arith, ap length e, length-snoc s b))
 
 pub snoc-append : (s : List ℕ) (b : ℕ) (t : List ℕ) → s ++ (b ∷ []) ++ t ≡ s ++ (b ∷ t)
 snoc-append s b t = append-assoc s (b ∷ []) t
-
-pub getD-last : (s : List ℕ) (b : ℕ) (t : List ℕ) → getD (s ++ (b ∷ t)) (length s) 0 ≡ b
-getD-last s b t = getD-append-seam s b t 0
