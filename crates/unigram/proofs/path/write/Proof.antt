@@ -112,7 +112,7 @@ loop-again c =
     let room : length es < length (h .loop .path) = omega (arith, h .loop .inv .2, e .pre .2) in (
       omega (arith, below t, h .loop .inv .0),
       stays t,
-      length-set (h .loop .path) (e .args .pieces - (h .loop .done + 1)) (h .loop .at) ∙ h .loop .inv .2,
+      simp length-set (h .loop .inv .2),
       omega arith,
       h .loop .inv .4
           ∙ ap (λ (u : List ℕ). u ++ drop (length u) (h .loop .path)) (turn t (falling-of e))
