@@ -1,172 +1,43 @@
 //! The compiled port, over its exported functions. Each is declared once here, and wrapped in a safe function that
 //! passes what the parameters' types say.
 
-mod c {
-    unsafe extern "C" {
-        pub fn sk_valid_up_to(s: *const u8, s_len: usize) -> usize;
-        pub fn sk_char_len(b: u8) -> usize;
-        pub fn sk_is_boundary(s: *const u8, s_len: usize, i: usize) -> bool;
-        pub fn sk_characters(s: *const u8, s_len: usize) -> usize;
-        pub fn sk_text(tab: *const u8, tab_len: usize, off: u32, len: u32) -> u32;
-        pub fn sk_text_len(tab: *const u8, tab_len: usize, off: u32, len: u32) -> usize;
-        pub fn sk_sound(
-            edge_at: *const u32,
-            edge_at_len: usize,
-            edge_n: *const u16,
-            edge_n_len: usize,
-            id: *const u32,
-            id_len: usize,
-            byte: *const u8,
-            byte_len: usize,
-            to: *const u32,
-            to_len: usize,
-        ) -> bool;
-        pub fn sk_sound_scored(
-            edge_at: *const u32,
-            edge_at_len: usize,
-            edge_n: *const u16,
-            edge_n_len: usize,
-            id: *const u32,
-            id_len: usize,
-            score: *const f64,
-            score_len: usize,
-            byte: *const u8,
-            byte_len: usize,
-            to: *const u32,
-            to_len: usize,
-            unknown_score: f64,
-        ) -> bool;
-        pub fn sk_exact(
-            edge_at: *const u32,
-            edge_at_len: usize,
-            edge_n: *const u16,
-            edge_n_len: usize,
-            id: *const u32,
-            id_len: usize,
-            score: *const f64,
-            score_len: usize,
-            byte: *const u8,
-            byte_len: usize,
-            to: *const u32,
-            to_len: usize,
-            unknown_score: f64,
-            s: *const u8,
-            s_len: usize,
-        ) -> u64;
-        pub fn sk_exact_unscored(
-            edge_at: *const u32,
-            edge_at_len: usize,
-            edge_n: *const u16,
-            edge_n_len: usize,
-            id: *const u32,
-            id_len: usize,
-            byte: *const u8,
-            byte_len: usize,
-            to: *const u32,
-            to_len: usize,
-            s: *const u8,
-            s_len: usize,
-        ) -> u64;
-        pub fn sk_encode(
-            edge_at: *const u32,
-            edge_at_len: usize,
-            edge_n: *const u16,
-            edge_n_len: usize,
-            id: *const u32,
-            id_len: usize,
-            byte: *const u8,
-            byte_len: usize,
-            to: *const u32,
-            to_len: usize,
-            unknown: u32,
-            max_chars: u32,
-            prefix: *const u8,
-            prefix_len: usize,
-            word: *const u8,
-            word_len: usize,
-            ids: *mut u32,
-            ids_len: usize,
-        ) -> usize;
-        pub fn sk_encode_checked(
-            edge_at: *const u32,
-            edge_at_len: usize,
-            edge_n: *const u16,
-            edge_n_len: usize,
-            id: *const u32,
-            id_len: usize,
-            byte: *const u8,
-            byte_len: usize,
-            to: *const u32,
-            to_len: usize,
-            unknown: u32,
-            max_chars: u32,
-            prefix: *const u8,
-            prefix_len: usize,
-            word: *const u8,
-            word_len: usize,
-            ids: *mut u32,
-            ids_len: usize,
-        ) -> usize;
-        pub fn sk_segment(
-            edge_at: *const u32,
-            edge_at_len: usize,
-            edge_n: *const u16,
-            edge_n_len: usize,
-            id: *const u32,
-            id_len: usize,
-            score: *const f64,
-            score_len: usize,
-            byte: *const u8,
-            byte_len: usize,
-            to: *const u32,
-            to_len: usize,
-            unknown: u32,
-            unknown_score: f64,
-            text: *const u8,
-            text_len: usize,
-            start: *mut u32,
-            start_len: usize,
-            slot_id: *mut u32,
-            slot_id_len: usize,
-            slot_score: *mut f64,
-            slot_score_len: usize,
-            path: *mut u32,
-            path_len: usize,
-            ids: *mut u32,
-            ids_len: usize,
-        ) -> usize;
-        pub fn sk_segment_checked(
-            edge_at: *const u32,
-            edge_at_len: usize,
-            edge_n: *const u16,
-            edge_n_len: usize,
-            id: *const u32,
-            id_len: usize,
-            score: *const f64,
-            score_len: usize,
-            byte: *const u8,
-            byte_len: usize,
-            to: *const u32,
-            to_len: usize,
-            unknown: u32,
-            unknown_score: f64,
-            text: *const u8,
-            text_len: usize,
-            start: *mut u32,
-            start_len: usize,
-            slot_id: *mut u32,
-            slot_id_len: usize,
-            slot_score: *mut f64,
-            slot_score_len: usize,
-            path: *mut u32,
-            path_len: usize,
-            ids: *mut u32,
-            ids_len: usize,
-        ) -> usize;
-    }
+use crate::tokie::Parts;
+
+/// Declares an exported function by the types of its parameters: a slice `[T]`, or lent `mut [T]`, is a pointer and a
+/// length.
+macro_rules! declare {
+    ($name:ident($($arg:tt)*) -> $r:ty) => { declare!(@ $name [] ($($arg)*) -> $r); };
+    (@ $name:ident [$($done:tt)*] () -> $r:ty) => { unsafe extern "C" { pub fn $name($($done)*) -> $r; } };
+    (@ $name:ident [$($done:tt)*] ([$t:ty], $($rest:tt)*) -> $r:ty) => {
+        declare!(@ $name [$($done)* _: *const $t, _: usize,] ($($rest)*) -> $r);
+    };
+    (@ $name:ident [$($done:tt)*] (mut [$t:ty], $($rest:tt)*) -> $r:ty) => {
+        declare!(@ $name [$($done)* _: *mut $t, _: usize,] ($($rest)*) -> $r);
+    };
+    (@ $name:ident [$($done:tt)*] ($t:ty, $($rest:tt)*) -> $r:ty) => {
+        declare!(@ $name [$($done)* _: $t,] ($($rest)*) -> $r);
+    };
 }
 
-use crate::tokie::Parts;
+#[rustfmt::skip]
+mod c {
+    declare!(sk_valid_up_to([u8],) -> usize);
+    declare!(sk_char_len(u8,) -> usize);
+    declare!(sk_is_boundary([u8], usize,) -> bool);
+    declare!(sk_characters([u8],) -> usize);
+    declare!(sk_text([u8], u32, u32,) -> u32);
+    declare!(sk_text_len([u8], u32, u32,) -> usize);
+    declare!(sk_sound([u32], [u16], [u32], [u8], [u32],) -> bool);
+    declare!(sk_sound_scored([u32], [u16], [u32], [f64], [u8], [u32], f64,) -> bool);
+    declare!(sk_exact([u32], [u16], [u32], [f64], [u8], [u32], f64, [u8],) -> u64);
+    declare!(sk_exact_unscored([u32], [u16], [u32], [u8], [u32], [u8],) -> u64);
+    declare!(sk_encode([u32], [u16], [u32], [u8], [u32], u32, u32, [u8], [u8], mut [u32],) -> usize);
+    declare!(sk_encode_checked([u32], [u16], [u32], [u8], [u32], u32, u32, [u8], [u8], mut [u32],) -> usize);
+    declare!(sk_segment([u32], [u16], [u32], [f64], [u8], [u32], u32, f64, [u8],
+        mut [u32], mut [u32], mut [f64], mut [u32], mut [u32],) -> usize);
+    declare!(sk_segment_checked([u32], [u16], [u32], [f64], [u8], [u32], u32, f64, [u8],
+        mut [u32], mut [u32], mut [f64], mut [u32], mut [u32],) -> usize);
+}
 
 /// A slice as a pointer and a length, in the middle of a call's arguments.
 macro_rules! call {
