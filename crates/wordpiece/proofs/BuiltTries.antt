@@ -19,20 +19,18 @@ use Rattle.refusal.proofs.Tests.{not-found}
 use Rattle.trie.specs.Trie.{Trie, partsOf, idOf}
 use Rattle.trie.specs.Sound.{sound}
 use Rattle.rows.specs.declared.Kind.the-variants.{WordPiece}
-use Rattle.rows.specs.Rows.{Row}
 use Rattle.rows.specs.Columns.{Columns, rowsOf, columnsFault}
-use Rattle.rows.proofs.ListFaults.{columns-level, wordpiece-id, wordpiece-row}
-use Rattle.rows.proofs.RowLists.{rows-length, rows-at, level-id}
 use Rattle.build.specs.Names.{names}
 use Rattle.build.specs.Grown.{Grown, Bytes}
 use Rattle.build.specs.Parts.{edgesOf, starts, lay, trieOf}
-use Rattle.build.specs.Rules.{tokensOf, idOfWorth, lastId, wordpieceTrie}
+use Rattle.build.specs.Rules.{tokensOf, lastId, wordpieceTrie}
 use Rattle.build.specs.Memory.{Memory, cleared, holding, leaves}
 use Rattle.build.proofs.Named.{grown-names}
 use Rattle.build.proofs.Counted.{count-names}
 use Rattle.build.proofs.Laid.{length-starts}
 use Rattle.build.proofs.Sounds.{sound-built}
-use Rattle.build.proofs.Lookups.{noRow, tokens-bytes, wordpiece-lookup}
+use Rattle.build.proofs.Lookups.{tokens-bytes, wordpiece-lookup}
+use Rattle.build.proofs.Judging.{ids-marked}
 use Rattle.wordpiece.specs.declared.BuildAnswer.the-variants as answer-is
 use Rattle.wordpiece.specs.Build.{buildFault, buildAnswer, Built}
 use Rattle.wordpiece.specs.Encode.{encodeFault}
@@ -69,10 +67,6 @@ cut-laid rule ns g m =
 
 -- ---- the trie of fine rows
 
--- the ids of the columns are u32 numbers
-abbrev pub SmallIds : Columns → Type 0
-SmallIds c = (i : ℕ) → i < length (c .id) → getD (c .id) i 0 ≤ noId
-
 module _ (tab : List ℕ) (c : Columns) (bytes : Bytes tab) (fine : columnsFault WordPiece tab c ≡ none) where
   pub rows-sound : sound (wordpieceTrie tab (rowsOf c)) ≡ true
   unfolding wordpieceTrie
@@ -84,22 +78,8 @@ module _ (tab : List ℕ) (c : Columns) (bytes : Bytes tab) (fine : columnsFault
       cut-laid (lastId tab (rowsOf c)) (names (tokensOf tab (rowsOf c)))
       (grown-names (tokensOf tab (rowsOf c)) (tokens-bytes tab (rowsOf c) bytes)) m
 
-  module _ (small : SmallIds c) where
-    small-row : (k : ℕ) → k < length (rowsOf c) → idOfWorth (getD (rowsOf c) k noRow .worth) < noId
-    unfolding idOfWorth
-    small-row k h =
-        let inside : k < length (c .off) = omega (arith, h, rows-length c) in
-        let own : idOfWorth (getD (rowsOf c) k noRow .worth) ≡ getD (c .id) k 0 =
-        ap (λ (r : Row). idOfWorth (r .worth)) (rows-at c noRow k inside) ∙ ap idOfWorth (wordpiece-row tab c k inside fine) in
-        below (idOfWorth (getD (rowsOf c) k noRow .worth)) (getD (c .id) k 0) own
-        (small k (omega (arith, inside, level-id c (columns-level WordPiece tab c fine))))
-        (wordpiece-id tab c k inside fine)
-      where
-        below : (a b : ℕ) → a ≡ b → b ≤ noId → (b ≡ noId → ⊥) → a < noId
-        below a b e p q = omega (arith, e, p, q)
-
-    pub rows-lookup : (s : List ℕ) → idOf (wordpieceTrie tab (rowsOf c)) s ≡ lastId tab (rowsOf c) s
-    rows-lookup = wordpiece-lookup tab (rowsOf c) bytes small-row
+  pub rows-lookup : (s : List ℕ) → idOf (wordpieceTrie tab (rowsOf c)) s ≡ lastId tab (rowsOf c) s
+  rows-lookup = wordpiece-lookup tab (rowsOf c) bytes (ids-marked tab c fine)
 
 -- ---- sound parts are not refused with 8
 
@@ -166,5 +146,5 @@ module _ (tab : List ℕ) (c : Columns) (m after : Memory) (n : ℕ) (bytes : By
   built-not-refused prefix w ids = sound-not-refused (trieIn n after) prefix w ids built-sound
 
   -- a string has in it the id that the row list gives it
-  pub built-lookup : SmallIds c → (s : List ℕ) → idOf (trieIn n after) s ≡ lastId tab (rowsOf c) s
-  built-lookup small s = ap (λ (t : Trie). idOf t s) built-parts ∙ rows-lookup tab c bytes built-fine small s
+  pub built-lookup : (s : List ℕ) → idOf (trieIn n after) s ≡ lastId tab (rowsOf c) s
+  built-lookup s = ap (λ (t : Trie). idOf t s) built-parts ∙ rows-lookup tab c bytes built-fine s
