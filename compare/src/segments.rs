@@ -4,7 +4,7 @@
 use crate::port::{self, Scratch};
 use crate::random::Random;
 use crate::text::Tally;
-use crate::tokie::{Lattice, Parts, Slot};
+use crate::tokie::{Lattice, Parts, Slot, Unigram};
 use crate::{large, small};
 
 /// What the lent columns hold before a call: a pattern, so that a stray or a missing write shows.
@@ -214,10 +214,33 @@ fn enumeration(seed: u64, count: usize) -> bool {
     t.say("Unigram, records against all cuttings")
 }
 
+/// 01's examples 1 to 8: the port gives what the Rust gives, which `compare examples` holds to 01.
+fn examples() -> bool {
+    let mut t = Tally::default();
+    let unk = ("<unk>", 0.0);
+    let vocabularies: [(&[(&str, f64)], u32, &[&str]); 8] = [
+        (&[unk, ("a", -1.0), ("b", -1.0), ("ab", -2.0)], 0, &["ab"]),
+        (&[unk, ("a", -1.0), ("ab", -2.0), ("bc", -2.0), ("c", -1.0)], 0, &["abc"]),
+        (&[unk, ("a", 0.1), ("b", 0.2), ("ab", 0.3)], 0, &["ab"]),
+        (&[unk, ("a", -1.0)], 0, &["xya"]),
+        (&[("<unk>", 30.0), ("ab", 30.0)], 0, &["ab", "abab"]),
+        (&[unk, ("x", -1.0)], 0, &["q<unk>"]),
+        (&[unk, ("a", -3.0), ("a", -1.0)], 0, &["a"]),
+        (&[("", -50.0), ("a", -1.0)], 7, &["x"]),
+    ];
+    for (rows, unknown, texts) in vocabularies {
+        let rows = rows.iter().map(|&(token, score)| (token.to_string(), score)).collect();
+        let lattice = Lattice::build(&Unigram { rows, unknown });
+        let parts = lattice.parts();
+        texts.iter().for_each(|s| text_alike(&mut t, &parts, &lattice, unknown, s));
+    }
+    t.say("Unigram, 01's examples 1 to 8")
+}
+
 /// The order of refusals: 1, 8, 4, before 9 and 10.
 fn refusals() -> bool {
     let mut t = Tally::default();
-    let good = Lattice::build(&crate::tokie::Unigram { rows: vec![("ab".into(), -1.0)], unknown: 0 }).parts();
+    let good = Lattice::build(&Unigram { rows: vec![("ab".into(), -1.0)], unknown: 0 }).parts();
     let mut bad = good.clone();
     bad.unknown_score = f64::INFINITY;
     let long = vec![b'a'; 65_537];
@@ -243,6 +266,7 @@ fn refusals() -> bool {
 pub fn run(seed: u64, quick: bool) -> bool {
     let (vocabularies, most, count) = if quick { (20, 4, 1_000) } else { (300, 7, 100_000) };
     let parts = [
+        examples(),
         refusals(),
         exhaustive(seed, vocabularies, most),
         foreign(seed, count),

@@ -105,6 +105,27 @@ fn random(seed: u64, count: usize) -> bool {
     t.say("WordPiece, random words over 30,000 tokens")
 }
 
+/// 01's examples 9 to 12 and its pack case: the port gives what the Rust gives, which `compare examples` holds to 01.
+fn examples() -> bool {
+    let (mut t, mut known) = (Tally::default(), 0);
+    let vocabularies: [(&[(&str, u32)], &[(&str, u32)]); 4] = [
+        (&[("ab", 1), ("abc", 2), ("##cd", 3)], &[("abcd", 100)]),
+        (&[("un", 1), ("##able", 2)], &[("##able", 100), ("unable", 100), ("", 100), ("unx", 100)]),
+        (&[("a", 1), ("a", 2)], &[("a", 100)]),
+        (&[("éé", 5)], &[("éé", 2), ("éé", 1)]),
+    ];
+    for (rows, words) in vocabularies {
+        let rows = rows.iter().map(|&(token, id)| (token.to_string(), id)).collect();
+        let trie = VocabTrie::build(&Wordpiece { rows, unknown: 0, prefix: "##".to_string() });
+        let parts = trie.parts();
+        for &(word, max_chars) in words {
+            let case = Case { parts: &parts, trie: &trie, given: Given { unknown: 0, max_chars, prefix: b"##" } };
+            case.alike(&mut t, &mut known, word);
+        }
+    }
+    t.say("WordPiece, 01's examples 9 to 12 and its case")
+}
+
 /// Each refusal, alone and with a later one, and the limits at the number and one above.
 fn refusals() -> bool {
     let mut t = Tally::default();
@@ -143,5 +164,5 @@ fn refusals() -> bool {
 
 pub fn run(seed: u64, quick: bool) -> bool {
     let (vocabularies, count) = if quick { (20, 2_000) } else { (400, 100_000) };
-    [refusals(), exhaustive(seed, vocabularies), random(seed, count)].iter().all(|&same| same)
+    [examples(), refusals(), exhaustive(seed, vocabularies), random(seed, count)].iter().all(|&same| same)
 }
