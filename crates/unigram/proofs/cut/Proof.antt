@@ -23,9 +23,15 @@ use Rattle.unigram.proofs.cut.Tie as tie
 abbrev entry : tie.After-characters → tie.Start
 entry c = c .before .before .before .before .before .before .before .before .before .before .before .before .before
 
--- from after the places are found enough
+-- from after the places are found enough, and from the call
+abbrev counted : tie.Else2 → tie.After-characters
+counted c = c .before .before .before
+
+abbrev asked : tie.After-segment-arg5 → tie.Else3
+asked c = c .before .before .before .before .before
+
 abbrev begun : tie.Else2 → tie.Start
-begun c = entry (c .before .before .before)
+begun c = entry (counted c)
 
 abbrev cutting : tie.After-slice-known10 → tie.After-segment
 cutting c = c .before .before .before .before .before .before .before .before .before .before
@@ -85,9 +91,9 @@ returns-3 c =
 
 segment-requires : tie.Need-segment-requires
 segment-requires c κs =
-    let u = c .before .before .before .before .before in
+    let u = asked c in
     let t = u .before in
-    let w = t .before .before .before in
+    let w = counted t in
     let e = begun t in
     let a = e .args in
     let many = w .characters .ensures in
@@ -118,7 +124,7 @@ same-length-5 c = search needs
 returns-4 : tie.Need-returns-4
 returns-4 c =
     let g = cutting c in
-    let u = g .before .before .before .before .before .before in
+    let u = asked (g .before) in
     let t = u .before in
     let e = begun t in
     cut-for (model e) (text e) (columns e) (e .pre) (free t) (u .if3 .left) (g .segment .ensures)

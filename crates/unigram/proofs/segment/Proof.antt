@@ -23,6 +23,10 @@ use Rattle.unigram.proofs.segment.Tie as tie
 abbrev entry : tie.After-slice-known5 → tie.Start
 entry c = c .before .before .before .before .before .before .before .before .before .before .before .before
 
+-- from the call of `cut`
+abbrev asked : tie.After-cut-arg5 → tie.Else3
+asked c = c .before .before .before .before .before
+
 abbrev model : tie.Start → Model
 model c =
     let a = c .args in
@@ -35,7 +39,7 @@ abbrev columns : tie.Start → Scratch
 columns c = let a = c .args in scratchOf (a .start .now) (a .slot-id .now) (a .slot-score .now) (a .path .now) (a .ids .now)
 
 -- the parts are sound
-sound : (c : tie.Else2) → let m = model (entry (c .before .before .before)) in soundScored (m .trie) (m .score) (m .unknown .score) ≡ true
+sound : (c : tie.Else2) → let t = c .before .before in let m = model (entry (t .before)) in soundScored (m .trie) (m .score) (m .unknown .score) ≡ true
 sound c = sym (c .before .sound-scored .ensures) ∙ not-false (c .before .sound-scored .result) (c .if2 .left)
 
 returns : tie.Need-returns
@@ -65,7 +69,7 @@ returns-3 c =
 
 cut-requires : tie.Need-cut-requires
 cut-requires c κs =
-    let w = c .before .before .before .before .before in
+    let w = asked c in
     let v = w .before in
     let u = v .before in
     let t = u .before .before in

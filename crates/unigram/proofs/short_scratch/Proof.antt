@@ -13,7 +13,10 @@ returns : tie.Need-returns
 returns c = let a = c .before .args in short-empty (a .bytes) (a .characters) (a .starts) (a .slot-ids) (a .slot-scores) (a .places) (c .if1 .taken)
 
 returns-2 : tie.Need-returns-2
-returns-2 c = let a = c .before .before .args in short-first (a .bytes) (a .characters) (a .starts) (a .slot-ids) (a .slot-scores) (a .places) (some-bytes (c .before)) (c .if2 .taken)
+returns-2 c =
+    let t = c .before in
+    let a = t .before .args in
+    short-first (a .bytes) (a .characters) (a .starts) (a .slot-ids) (a .slot-scores) (a .places) (some-bytes t) (c .if2 .taken)
 
 returns-3 : tie.Need-returns-3
 returns-3 c =

@@ -20,6 +20,13 @@ entry c = c .before .before .before .before .before .before .before .before .bef
 abbrev filled : tie.After-trace → tie.After-fill
 filled c = c .before .before .before .before .before .before .before .before .before
 
+abbrev recorded : tie.After-trace-arg2 → tie.After-fill
+recorded c = c .before .before .before .before .before .before .before .before
+
+-- the path, from where its first places are lent
+abbrev traced : tie.After-merge-arg → tie.After-trace
+traced c = c .before .before .before
+
 abbrev model : tie.Start → Model
 model c =
     let a = c .args in
@@ -43,19 +50,19 @@ fill-requires c κs = search needs
 
 trace-requires : tie.Need-trace-requires
 trace-requires c κs =
-    let f = c .before .before .before .before .before .before .before .before in
+    let f = recorded c in
     let e = entry f in
     (falls (e .pre .ready) (f .fill .ensures) (omega (arith, f .fill .kept .1 .1 .1 .1 .1 .1 .1 .1 .1 .0, e .pre .slots .start)), omega (arith, ends-few (e .pre .ready) (f .fill .ensures), e .pre .path))
 
 slice-reshare-prefix-merge : tie.Need-slice-reshare-prefix-merge
-slice-reshare-prefix-merge c = fits (c .before .before .before)
+slice-reshare-prefix-merge c = fits (traced c)
 
 slice-aggregate-merge : tie.Need-slice-aggregate-merge
-slice-aggregate-merge c = let t = c .before .before .before .before in sym (length-take-le (t .trace .result) (t .trace .last .1 .1 .0) (fits t))
+slice-aggregate-merge c = let t = traced (c .before) in sym (length-take-le (t .trace .result) (t .trace .last .1 .1 .0) (fits t))
 
 merge-requires : tie.Need-merge-requires
 merge-requires c κs =
-    let t = c .before .before .before .before .before in
+    let t = traced (c .before .before) in
     let f = filled t in
     let e = entry f in
     let l = f .fill .last .1 .1 .1 .1 .1 .1 .1 .1 .1 in
@@ -79,7 +86,8 @@ same-length-5 c = search needs
 returns : tie.Need-returns
 returns c =
     let g = c .before .before in
-    let t = g .before .before .before .before .before .before in
+    let m = g .before in
+    let t = traced (m .before .before) in
     let f = filled t in
     let e = entry f in
     let l = f .fill .last .1 .1 .1 .1 .1 .1 .1 .1 .1 in

@@ -35,7 +35,10 @@ columns e = let a = e .args in slotsOf (a .start .now) (a .slot-id .now) (a .slo
 
 -- the position is a boundary
 on : (c : tie.Else1) (m : Model) → let a = entry (c .before) .args in endsHere m (a .text .now) (a .node) (a .i) ≡ pieceAt m (a .node)
-on c m = let a = entry (c .before) .args in ends-on m (a .node) (a .text .now) (a .i) (sym (c .before .is-boundary .ensures) ∙ not-false (c .before .is-boundary .result) (c .if1 .left))
+on c m =
+    let b = c .before in
+    let a = entry b .args in
+    ends-on m (a .node) (a .text .now) (a .i) (sym (b .is-boundary .ensures) ∙ not-false (b .is-boundary .result) (c .if1 .left))
 
 -- the node's id was found, and the piece offered
 abbrev summed : tie.After-offer → tie.After-added

@@ -32,8 +32,11 @@ abbrev μ-loop : tie.MeasureT-loop
 abbrev entry : tie.After-slice-known3 Inv-loop μ-loop → tie.Start Inv-loop μ-loop
 entry c = c .before .before .before .before .before .before .before .before .before .before
 
+abbrev asked : tie.After-clear-arg3 Inv-loop μ-loop → tie.Start Inv-loop μ-loop
+asked c = entry (c .before .before .before)
+
 abbrev begun : tie.After-clear Inv-loop μ-loop → tie.Start Inv-loop μ-loop
-begun c = entry (c .before .before .before .before)
+begun c = asked (c .before)
 
 -- back from where the loop begins, and from after a turn's work
 abbrev emptied : tie.After-slice-known6 Inv-loop μ-loop → tie.After-clear Inv-loop μ-loop
@@ -42,8 +45,11 @@ emptied c = c .before .before .before .before .before .before
 abbrev worked : tie.After-slice-known9 Inv-loop μ-loop → tie.After-work-at Inv-loop μ-loop
 worked c = c .before .before .before .before .before .before
 
+abbrev come : tie.After-work-at-arg3 Inv-loop μ-loop → tie.In-loop Inv-loop μ-loop
+come c = c .before .before .before
+
 abbrev turn : tie.After-work-at Inv-loop μ-loop → tie.In-loop Inv-loop μ-loop
-turn c = c .before .before .before .before
+turn c = come (c .before)
 
 abbrev text : tie.Start Inv-loop μ-loop → List ℕ
 text c = c .args .text .now
@@ -59,7 +65,7 @@ goes-on c =
     next-above (text e) (e .pre .0 .well) (h .loop .at) (h .loop .inv .1) (t .loop-test .taken)
 
 clear-requires : tie.Need-clear-requires Inv-loop μ-loop
-clear-requires c κs = entry (c .before .before .before) .pre .1
+clear-requires c κs = asked c .pre .1
 
 loop-holds : tie.Need-loop-holds Inv-loop μ-loop
 loop-holds c =
@@ -69,7 +75,7 @@ loop-holds c =
 
 work-at-requires : tie.Need-work-at-requires Inv-loop μ-loop
 work-at-requires c κs =
-    let t = c .before .before .before in
+    let t = come c in
     let h = t .before in
     let d = emptied (h .before) in
     let e = begun d in
@@ -114,13 +120,13 @@ loop-again c =
     )
 
 same-length : tie.Need-same-length Inv-loop μ-loop
-same-length c = c .before .loop .inv .2 ∙ emptied (c .before .before) .clear .kept .0
+same-length c = let h = c .before in h .loop .inv .2 ∙ emptied (h .before) .clear .kept .0
 
 same-length-2 : tie.Need-same-length-2 Inv-loop μ-loop
-same-length-2 c = c .before .loop .inv .3 ∙ emptied (c .before .before) .clear .kept .1 .0
+same-length-2 c = let h = c .before in h .loop .inv .3 ∙ emptied (h .before) .clear .kept .1 .0
 
 same-length-3 : tie.Need-same-length-3 Inv-loop μ-loop
-same-length-3 c = c .before .loop .inv .4 ∙ emptied (c .before .before) .clear .kept .1 .1 .0
+same-length-3 c = let h = c .before in h .loop .inv .4 ∙ emptied (h .before) .clear .kept .1 .1 .0
 
 returns : tie.Need-returns Inv-loop μ-loop
 returns c =

@@ -62,8 +62,12 @@ parts c = let a = c .args in partsOf (a .edge-at .now) (a .edge-n .now) (a .id .
 abbrev ended : tie.After-slice-known6 Inv-loop μ-loop → tie.After-end-at Inv-loop μ-loop
 ended c = c .before .before .before .before .before .before
 
+-- and from before it
+abbrev asked : tie.After-end-at-arg3 Inv-loop μ-loop → tie.After-next Inv-loop μ-loop
+asked c = c .before .before .before .before
+
 abbrev next : tie.After-end-at Inv-loop μ-loop → tie.After-next Inv-loop μ-loop
-next c = c .before .before .before .before .before
+next c = asked (c .before)
 
 -- where the step from the node come to leads
 stepped :
@@ -80,7 +84,8 @@ led :
 led c = stepped (c .before .before) ∙ ap nextOf (c .next .given .1)
 
 led-inside :
-    (c : tie.After-next Inv-loop μ-loop) → c .next .given .0 .0 .node < length (entry (head (c .before .before) .before) .args .edge-at .now)
+    (c : tie.After-next Inv-loop μ-loop) → let h = head (c .before .before) in
+    c .next .given .0 .0 .node < length (entry (h .before) .args .edge-at .now)
 led-inside c =
     let h = head (c .before .before) in
     let e = entry (h .before) in
@@ -128,7 +133,7 @@ add-i c = omega arith
 
 end-at-requires : tie.Need-end-at-requires Inv-loop μ-loop
 end-at-requires c κs =
-    let n = c .before .before .before .before in
+    let n = asked c in
     let h = head (n .before .before) in
     let e = entry (h .before) in
     let p = e .pre .0 in

@@ -49,6 +49,9 @@ put-last c = c .before .before .before .before .before .before
 abbrev summed : tie.After-offer → tie.After-added
 summed c = c .before .before .before .before
 
+abbrev weighed : tie.After-offer-arg3 → tie.Else1
+weighed c = c .before .before .before .before
+
 -- the character ends at the next boundary
 one-is : (c : tie.After-char-len) → let e = entry c in e .args .at + c .char-len .result ≡ next (text e) (e .args .at)
 one-is c = ap (λ (n : ℕ). entry c .args .at + n) (c .char-len .ensures)
@@ -67,8 +70,11 @@ stands c d =
 abbrev after-walk : tie.After-offer-known → Slots
 after-walk c = let l = c .offer-known .last .1 .1 .1 .1 .1 .1 .1 .1 .1 .1 in slotsOf (l .0) (l .1 .0) (l .1 .1 .0)
 
+abbrev asked : tie.After-offer-known-arg3 → tie.After-char-len
+asked c = c .before .before .before
+
 abbrev measured : tie.After-offer-known → tie.After-char-len
-measured c = c .before .before .before .before
+measured c = asked (c .before)
 
 -- as it is said of the next boundary and of the slot's score
 of-slot :
@@ -134,7 +140,7 @@ add-one c = let l = within c in omega arith
 
 offer-known-requires : tie.Need-offer-known-requires
 offer-known-requires c κs =
-    let d = c .before .before .before in
+    let d = asked c in
     let e = entry d in
     let w = e .pre .ready in (
       record {
@@ -171,7 +177,8 @@ added-requires c κs = search needs
 
 offer-requires : tie.Need-offer-requires
 offer-requires c κs =
-    let k = offered (c .before .before .before .before .before) in
+    let t = weighed c in
+    let k = offered (t .before) in
     let d = measured k in
     let l = within d in
     let s = entry d .pre .inside in

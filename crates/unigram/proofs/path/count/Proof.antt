@@ -68,19 +68,25 @@ mul-at : tie.Need-mul-at Inv-loop μ-loop
 mul-at c = let f = falling-of (c .before .before) in omega (arith, f .inside, f .size)
 
 shared-slice-read-at : tie.Need-shared-slice-read-at Inv-loop μ-loop
-shared-slice-read-at c = let h = c .before .before in omega (arith, h .loop .inv .0, falling-of (h .before) .inside)
+shared-slice-read-at c =
+    let h = c .before .before in
+    omega (arith, h .loop .inv .0, falling-of (h .before) .inside)
 
 cast-at : tie.Need-cast-at Inv-loop μ-loop
-cast-at c = let h = c .before .before in omega (arith, below (c .before), h .loop .inv .0, falling-of (h .before) .size)
+cast-at c =
+    let t = c .before in
+    let h = t .before in
+    omega (arith, below t, h .loop .inv .0, falling-of (h .before) .size)
 
 loop-less : tie.Need-loop-less Inv-loop μ-loop
 loop-less c = below (c .before)
 
 loop-again : tie.Need-loop-again Inv-loop μ-loop
 loop-again c =
-    let h = c .before .before in
+    let t = c .before in
+    let h = t .before in
     let i = getD (h .before .args .start .now) (h .loop .at) 0 in
-    (omega (arith, below (c .before), h .loop .inv .0), stays (c .before), λ f. omega (arith, h .loop .inv .2 f, ap length (turn (c .before) f), length-append (endsFrom (h .before .args .start .now) i i) (h .loop .at ∷ [])))
+    (omega (arith, below t, h .loop .inv .0), stays t, λ f. omega (arith, h .loop .inv .2 f, ap length (turn t f), length-append (endsFrom (h .before .args .start .now) i i) (h .loop .at ∷ [])))
 
 returns : tie.Need-returns Inv-loop μ-loop
 returns c =

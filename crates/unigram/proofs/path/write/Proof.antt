@@ -66,7 +66,7 @@ many c =
     omega (arith, length-append (endsFrom s i i) (h .loop .at ∷ []))
 
 -- so there is one left to write
-left : (c : tie.In-loop Inv-loop μ-loop) → let h = c .before in let s = h .before .args .start .now in let i = getD s (h .loop .at) 0 in h .loop .done + suc (length (endsFrom s i i)) ≡ h .before .args .pieces
+left : (c : tie.In-loop Inv-loop μ-loop) → let h = c .before in let a = h .before .args in let i = getD (a .start .now) (h .loop .at) 0 in h .loop .done + suc (length (endsFrom (a .start .now) i i)) ≡ a .pieces
 left c = let h = c .before in omega (arith, h .loop .inv .3, ap length (turn c (falling-of (h .before))), many c)
 
 loop-holds : tie.Need-loop-holds Inv-loop μ-loop
@@ -91,10 +91,15 @@ mul-at : tie.Need-mul-at Inv-loop μ-loop
 mul-at c = let f = falling-of (c .before .before) in omega (arith, f .inside, f .size)
 
 shared-slice-read-at : tie.Need-shared-slice-read-at Inv-loop μ-loop
-shared-slice-read-at c = let h = c .before .before in omega (arith, h .loop .inv .0, falling-of (h .before) .inside)
+shared-slice-read-at c =
+    let h = c .before .before in
+    omega (arith, h .loop .inv .0, falling-of (h .before) .inside)
 
 cast-at : tie.Need-cast-at Inv-loop μ-loop
-cast-at c = let h = c .before .before in omega (arith, below (c .before), h .loop .inv .0, falling-of (h .before) .size)
+cast-at c =
+    let t = c .before in
+    let h = t .before in
+    omega (arith, below t, h .loop .inv .0, falling-of (h .before) .size)
 
 loop-less : tie.Need-loop-less Inv-loop μ-loop
 loop-less c = below (c .before)

@@ -35,8 +35,11 @@ begun h = entry (h .before)
 abbrev stood : tie.After-run-after Inv-loop μ-loop → tie.After-stand Inv-loop μ-loop
 stood c = c .before .before .before
 
+abbrev come : tie.After-stand-arg Inv-loop μ-loop → tie.In-loop Inv-loop μ-loop
+come c = c .before .before .before
+
 abbrev turn : tie.After-stand Inv-loop μ-loop → tie.In-loop Inv-loop μ-loop
-turn c = c .before .before .before .before
+turn c = come (c .before)
 
 abbrev look : tie.Start Inv-loop μ-loop → ℕ → ℕ → Option ℕ
 look c = let a = c .args in partId (partsOf (a .edge-at .now) (a .edge-n .now) (a .id .now) (a .byte .now) (a .to .now)) (a .text .now)
@@ -68,11 +71,13 @@ mul-x : tie.Need-mul-x Inv-loop μ-loop
 mul-x c = omega (arith, c .shared-slice-known9 .given (c .before .before .loop .k))
 
 shared-slice-read-x : tie.Need-shared-slice-read-x Inv-loop μ-loop
-shared-slice-read-x c = let t = c .before .before in omega (arith, ahead t .1, begun (t .before) .pre .slots)
+shared-slice-read-x c =
+    let t = c .before .before in
+    omega (arith, ahead t .1, begun (t .before) .pre .slots)
 
 stand-requires : tie.Need-stand-requires Inv-loop μ-loop
 stand-requires c κs =
-    let t = c .before .before .before in
+    let t = come c in
     let h = t .before in
     let g = h .loop .inv in
     let e = begun h in
@@ -110,7 +115,10 @@ close-run-requires c κs =
     (record { sound = e .pre .sound; forward = g .back; inside = g .inside }, λ l. omega (arith, g .few, g .level, g .within, e .pre .room, waits (h .loop .run) (h .loop .at) l))
 
 same-length : tie.Need-same-length Inv-loop μ-loop
-same-length c = let d = c .before .before in d .close-run .kept .1 .1 .1 .1 .1 .1 .1 .1 .1 .1 .0 ∙ d .before .before .before .loop .inv .level
+same-length c =
+    let d = c .before .before in
+    let t = d .before .before in
+    d .close-run .kept .1 .1 .1 .1 .1 .1 .1 .1 .1 .1 .0 ∙ t .before .loop .inv .level
 
 returns : tie.Need-returns Inv-loop μ-loop
 returns c =

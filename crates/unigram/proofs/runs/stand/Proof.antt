@@ -15,6 +15,9 @@ use Rattle.unigram.proofs.runs.stand.Tie as tie
 abbrev entry : tie.After-slice-known → tie.Start
 entry c = c .before .before .before .before .before .before .before
 
+abbrev begun : tie.After-close-run → tie.Start
+begun c = entry (c .before .before .before)
+
 abbrev closed : tie.After-slice-known2 → tie.After-close-run
 closed c = c .before .before
 
@@ -22,13 +25,13 @@ abbrev parts : tie.Start → Trie
 parts c = let a = c .args in partsOf (a .edge-at .now) (a .edge-n .now) (a .id .now) (a .byte .now) (a .to .now)
 
 -- the run's id leaves a place for the piece's
-room : (c : tie.After-close-run) → c .close-run .result < length (entry (c .before .before .before) .args .ids .now)
+room : (c : tie.After-close-run) → c .close-run .result < length (begun c .args .ids .now)
 room c =
-    let e = entry (c .before .before .before) in
+    let e = begun c in
     let a = e .args in
     omega (arith, c .close-run .ensures .next, ids-length (partId (parts e) (a .text .now)) (a .unknown) (a .run) (a .at), e .pre .1)
 
-kept : (c : tie.After-close-run) → length (c .close-run .last .1 .1 .1 .1 .1 .1 .1 .1 .1 .1 .0) ≡ length (entry (c .before .before .before) .args .ids .now)
+kept : (c : tie.After-close-run) → length (c .close-run .last .1 .1 .1 .1 .1 .1 .1 .1 .1 .1 .0) ≡ length (begun c .args .ids .now)
 kept c = c .close-run .kept .1 .1 .1 .1 .1 .1 .1 .1 .1 .1 .0
 
 returns : tie.Need-returns

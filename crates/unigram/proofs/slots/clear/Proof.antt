@@ -32,6 +32,10 @@ stored c = c .before .before .before .before .before .before
 abbrev head : tie.After-put Inv-loop μ-loop → tie.At-loop Inv-loop μ-loop
 head c = c .before .before .before .before .before
 
+-- and from before it
+abbrev asked : tie.After-put-arg3 Inv-loop μ-loop → tie.At-loop Inv-loop μ-loop
+asked c = c .before .before .before .before
+
 abbrev begun : tie.At-loop Inv-loop μ-loop → tie.Start Inv-loop μ-loop
 begun h = h .before .before .before .before
 
@@ -40,7 +44,7 @@ loop-holds c = (omega arith, refl, refl, refl, filled-of 0 _ (λ k l. absurd (om
 
 put-requires : tie.Need-put-requires Inv-loop μ-loop
 put-requires c κs =
-    let h = c .before .before .before .before in
+    let h = asked c in
     let e = begun h in
     record {
       start = omega (arith, e .pre .start, h .loop .inv .1);

@@ -45,7 +45,7 @@ full : (c : tie.Else1) → there (c .before) .start ≡ noId → ⊥
 full c e = c .if1 .left (ap (λ (r : Slot). r .start) (read (c .before)) ∙ e)
 
 -- the comparison is that of the scores
-better : (c : tie.After-better) → less (there (c .before .before) .score) (given (c .before .before) .score) ≡ c .better .result
+better : (c : tie.After-better) → let s = c .before .before in less (there s .score) (given s .score) ≡ c .better .result
 better c =
     let s = c .before .before in
     ap (λ (r : Slot). less (r .score) (given s .score)) (sym (read s)) ∙ sym (c .better .ensures)
@@ -69,7 +69,8 @@ returns : tie.Need-returns
 returns c =
     let put = stored-empty c in
     let t = empty put in
-    put-as (put .put .ensures) (sym (taken-empty (there (t .before)) (given (t .before)) (ap (λ (r : Slot). r .start) (sym (read (t .before))) ∙ t .if1 .taken)))
+    let s = t .before in
+    put-as (put .put .ensures) (sym (taken-empty (there s) (given s) (ap (λ (r : Slot). r .start) (sym (read s)) ∙ t .if1 .taken)))
 
 better-requires : tie.Need-better-requires
 better-requires c κs = search needs
@@ -90,8 +91,10 @@ returns-2 : tie.Need-returns-2
 returns-2 c =
     let put = stored c in
     let t = weighed put in
-    let s = t .before in
-    put-as (put .put2 .ensures) (sym (taken-better (there (s .before .before)) (given (s .before .before)) (full (s .before)) (better s ∙ t .if2 .taken)))
+    let b = t .before in
+    let f = b .before in
+    let s = f .before in
+    put-as (put .put2 .ensures) (sym (taken-better (there s) (given s) (full f) (better b ∙ t .if2 .taken)))
 
 same-length-7 : tie.Need-same-length-7
 same-length-7 c = search needs
@@ -104,9 +107,10 @@ same-length-9 c = search needs
 
 returns-3 : tie.Need-returns-3
 returns-3 c =
-    let s = c .before in
-    put-back (columns (entry (s .before .before))) (entry (s .before .before) .args .j)
-    (taken-kept (there (s .before .before)) (given (s .before .before)) (full (s .before)) (better s ∙ c .if2 .left))
+    let b = c .before in
+    let f = b .before in
+    let s = f .before in
+    put-back (columns (entry s)) (entry s .args .j) (taken-kept (there s) (given s) (full f) (better b ∙ c .if2 .left))
 
 pub offer-spec : {M : Type 1} → statement M
 offer-spec =
