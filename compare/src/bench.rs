@@ -5,7 +5,8 @@ use std::time::Instant;
 
 use crate::random::Random;
 use crate::tokie::{self, Lattice, VocabTrie};
-use crate::{large, port, segments, text, wordpieces};
+use crate::rows::{Kind, Rows, Worth};
+use crate::{builds, large, port, segments, text, wordpieces};
 
 /// Nanoseconds a call: the least of some runs of many calls, so that other work on the machine counts little.
 pub fn nanoseconds<R>(mut call: impl FnMut() -> R) -> f64 {
@@ -140,5 +141,35 @@ pub fn segments() {
             port / rust,
             port / bytes
         );
+    }
+}
+
+/// Both builds on 1,000, 10,000 and 30,000 tokens. The Rust is given its rows by value, so each of its runs has a copy
+/// made before the clock starts; it allocates as it goes. The port's columns are lent once, exactly full; it clears
+/// what it uses and judges every row.
+pub fn builds() {
+    println!("| rows | nodes | Rust, microseconds | port, microseconds | ratio |");
+    println!("|---|---|---|---|---|");
+    let mut r = Random::new(1);
+    let u = large::unigram(&mut r);
+    let w = wordpieces::real(&mut r);
+    let least = |mut run: Box<dyn FnMut() -> f64>| (0..25).map(|_| run()).fold(f64::INFINITY, f64::min);
+    for count in [1_000, 10_000, 30_000] {
+        for kind in [Kind::Unigram, Kind::WordPiece] {
+            let (name, rows) = match kind {
+                Kind::Unigram => ("Unigram", Rows::of(u.rows[..count].iter().map(|(s, x)| (s, Worth::Score(*x))))),
+                Kind::WordPiece => ("WordPiece", Rows::of(w.rows[..count].iter().map(|(s, i)| (s, Worth::Id(*i))))),
+            };
+            let (tu, tw) = (u.rows[..count].to_vec(), w.rows[..count].to_vec());
+            let rust = least(match kind {
+                Kind::Unigram => Box::new(move || tokie::timed_unigram(tu.clone())),
+                Kind::WordPiece => Box::new(move || tokie::timed_wordpiece(tw.clone())),
+            });
+            let mut roomy = port::Lent::pattern(builds::least(400_000));
+            let nodes = port::build(kind, &rows, &mut roomy).expect("the rows are fine").0 as usize;
+            let mut lent = port::Lent::pattern(builds::least(nodes));
+            let port = nanoseconds(|| port::build(kind, &rows, &mut lent)) / 1000.0;
+            println!("| {name}, {count} | {nodes} | {rust:.0} | {port:.0} | {:.2} |", port / rust);
+        }
     }
 }

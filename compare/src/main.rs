@@ -10,7 +10,8 @@
 //!   compare tries [SEED] [--quick]             soundness against an independent test, look-ups against tokie's
 //!   compare wordpieces [SEED] [--quick]        `encode` against tokie's
 //!   compare segments [SEED] [--quick]          `segment` against tokie's, records against all cuttings
-//!   compare bench-text, bench-tries, bench-wordpieces, bench-segments   times
+//!   compare builds [SEED] [--quick]            both builds against tokie's, column by column
+//!   compare bench-text, bench-tries, bench-wordpieces, bench-segments, bench-builds   times
 //!
 //! Run from anywhere; the repository is the folder above this package.
 
@@ -18,6 +19,8 @@
 
 #[cfg(feature = "port")]
 mod bench;
+#[cfg(feature = "port")]
+mod builds;
 mod definitions;
 mod examples;
 #[cfg(feature = "port")]
@@ -25,6 +28,8 @@ mod large;
 #[cfg(feature = "port")]
 mod port;
 mod random;
+#[cfg(feature = "port")]
+mod rows;
 #[cfg(feature = "port")]
 mod segments;
 mod small;
@@ -62,6 +67,13 @@ fn main() -> ExitCode {
         #[cfg(feature = "port")]
         Some("segments") => segments::run(seed, quick),
         #[cfg(feature = "port")]
+        Some("builds") => builds::run(seed, quick),
+        #[cfg(feature = "port")]
+        Some("bench-builds") => {
+            bench::builds();
+            true
+        }
+        #[cfg(feature = "port")]
         Some("bench-segments") => {
             bench::segments();
             true
@@ -83,7 +95,7 @@ fn main() -> ExitCode {
         }
         _ => {
             eprintln!(
-                "usage: compare examples | sums [--print] | definitions [SEED..] [--cases N] | text [SEED] [--quick] | tries [SEED] [--quick] | wordpieces [SEED] [--quick] | segments [SEED] [--quick] | bench-text | bench-tries | bench-wordpieces | bench-segments"
+                "usage: compare examples | sums [--print] | definitions [SEED..] [--cases N] | text [SEED] [--quick] | tries [SEED] [--quick] | wordpieces [SEED] [--quick] | segments [SEED] [--quick] | builds [SEED] [--quick] | bench-text | bench-tries | bench-wordpieces | bench-segments | bench-builds"
             );
             return ExitCode::from(2);
         }

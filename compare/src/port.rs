@@ -1,6 +1,7 @@
 //! The compiled port, over its exported functions. Each is declared once here, and wrapped in a safe function that
 //! passes what the parameters' types say.
 
+use crate::rows::{Kind, Refusal, Rows};
 use crate::tokie::Parts;
 
 /// Declares an exported function by the types of its parameters: a slice `[T]`, or lent `mut [T]`, is a pointer and a
@@ -37,6 +38,10 @@ mod c {
         mut [u32], mut [u32], mut [f64], mut [u32], mut [u32],) -> usize);
     declare!(sk_segment_checked([u32], [u16], [u32], [f64], [u8], [u32], u32, f64, [u8],
         mut [u32], mut [u32], mut [f64], mut [u32], mut [u32],) -> usize);
+    declare!(sk_from_rows([u8], [u32], [u32], [bool], [f64], [u32],
+        mut [u32], mut [u16], mut [u32], mut [u8], mut [u32], mut [u32],) -> u64);
+    declare!(sk_build([u8], [u32], [u32], [bool], [f64], [u32],
+        mut [u32], mut [u16], mut [u32], mut [f64], mut [u8], mut [u32], mut [u32], mut [f64],) -> u64);
 }
 
 /// A slice as a pointer and a length, in the middle of a call's arguments.
@@ -134,6 +139,81 @@ pub fn segment(p: &Parts, unknown: u32, text: &[u8], b: &mut Scratch) -> Result<
         b.start.as_mut_ptr(), b.start.len(), b.slot_id.as_mut_ptr(), b.slot_id.len(),
         b.slot_score.as_mut_ptr(), b.slot_score.len(), b.path.as_mut_ptr(), b.path.len(), b.ids.as_mut_ptr(), b.ids.len()));
     n.checked_sub(1 << 32).map_or(Ok(n), |number| Err(number as u32))
+}
+
+/// The columns that a build is lent; WordPiece leaves the scores alone.
+#[derive(Clone, Debug)]
+pub struct Lent {
+    pub edge_at: Vec<u32>,
+    pub edge_n: Vec<u16>,
+    pub id: Vec<u32>,
+    pub byte: Vec<u8>,
+    pub to: Vec<u32>,
+    pub work: Vec<u32>,
+    pub score: Vec<f64>,
+}
+
+impl Lent {
+    /// Columns of these lengths, in the order of the fields, full of a pattern.
+    pub fn pattern(l: [usize; 7]) -> Self {
+        let words = |n: usize| (0..n as u32).map(|i| 0xA5A5_0000 ^ i).collect::<Vec<u32>>();
+        Lent {
+            edge_at: words(l[0]),
+            edge_n: (0..l[1]).map(|i| 0xA500 ^ i as u16).collect(),
+            id: words(l[2]),
+            byte: (0..l[3]).map(|i| 0xA5 ^ i as u8).collect(),
+            to: words(l[4]),
+            work: words(l[5]),
+            score: (0..l[6]).map(|i| -1.5 - i as f64).collect(),
+        }
+    }
+
+    /// Every place zero; the scores where they are lent.
+    pub fn zero(&self, scores: bool) -> Self {
+        Lent {
+            edge_at: vec![0; self.edge_at.len()],
+            edge_n: vec![0; self.edge_n.len()],
+            id: vec![0; self.id.len()],
+            byte: vec![0; self.byte.len()],
+            to: vec![0; self.to.len()],
+            work: vec![0; self.work.len()],
+            score: if scores { vec![0.0; self.score.len()] } else { self.score.clone() },
+        }
+    }
+
+    /// The same bits in every place.
+    pub fn same(&self, other: &Self) -> bool {
+        let bits = |l: &Self| l.score.iter().map(|x| x.to_bits()).collect::<Vec<u64>>();
+        self.edge_at == other.edge_at
+            && self.edge_n == other.edge_n
+            && self.id == other.id
+            && self.byte == other.byte
+            && self.to == other.to
+            && self.work == other.work
+            && bits(self) == bits(other)
+    }
+}
+
+/// How many nodes and the unknown score's bits (0.0 for WordPiece); or the number of the refusal and its row.
+pub fn build(kind: Kind, rows: &Rows, b: &mut Lent) -> Result<(u32, u64), Refusal> {
+    let r = rows;
+    let mut unknown_score = [0.0f64; 2];
+    let (at, n, id, byte, to, work) = (&mut b.edge_at, &mut b.edge_n, &mut b.id, &mut b.byte, &mut b.to, &mut b.work);
+    let answer = match kind {
+        Kind::Unigram => call!(sk_build(r.tab, r.off, r.len, r.scored, r.score, r.id;
+            at.as_mut_ptr(), at.len(), n.as_mut_ptr(), n.len(), id.as_mut_ptr(), id.len(),
+            b.score.as_mut_ptr(), b.score.len(), byte.as_mut_ptr(), byte.len(), to.as_mut_ptr(), to.len(),
+            work.as_mut_ptr(), work.len(), unknown_score.as_mut_ptr(), 2)),
+        Kind::WordPiece => call!(sk_from_rows(r.tab, r.off, r.len, r.scored, r.score, r.id;
+            at.as_mut_ptr(), at.len(), n.as_mut_ptr(), n.len(), id.as_mut_ptr(), id.len(),
+            byte.as_mut_ptr(), byte.len(), to.as_mut_ptr(), to.len(), work.as_mut_ptr(), work.len())),
+    };
+    assert!(unknown_score[1].to_bits() == 0, "one place is written");
+    match (answer >> 32, answer as u32) {
+        (0, nodes) => Ok((nodes, unknown_score[0].to_bits())),
+        (number, u32::MAX) => Err((number as u32, None)),
+        (number, row) => Err((number as u32, Some(row))),
+    }
 }
 
 /// The cores behind the calls, for parts that were tested once.

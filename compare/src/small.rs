@@ -21,7 +21,7 @@ fn token(r: &mut Random) -> String {
     if r.one_in(9) { String::new() } else { string(r, &CHARACTERS, 1, 3) }
 }
 
-fn score(r: &mut Random) -> f64 {
+pub fn score(r: &mut Random) -> f64 {
     if r.one_in(8) {
         let x = f64::from_bits(r.next());
         if x.is_finite() {

@@ -141,3 +141,22 @@ pub fn narrow_encode(v: &Wordpiece) -> impl Fn(&str, u32, &mut Vec<u32>) {
     let (unknown, prefix) = (v.unknown, v.prefix.clone());
     move |word, max_chars, out| trie.encode(word, unknown, max_chars as usize, &prefix, out)
 }
+
+/// Microseconds that the Rust takes to build these rows.
+#[allow(dead_code)]
+pub fn timed_unigram(rows: Vec<(String, f64)>) -> f64 {
+    let start = std::time::Instant::now();
+    let built = std::hint::black_box(unigram::Lattice::build(rows, 0));
+    let taken = start.elapsed();
+    drop(built);
+    taken.as_nanos() as f64 / 1000.0
+}
+
+#[allow(dead_code)]
+pub fn timed_wordpiece(rows: Vec<(String, u32)>) -> f64 {
+    let start = std::time::Instant::now();
+    let built = std::hint::black_box(wordpiece::VocabTrie::from_rows(rows));
+    let taken = start.elapsed();
+    drop(built);
+    taken.as_nanos() as f64 / 1000.0
+}

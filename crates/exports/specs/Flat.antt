@@ -1,12 +1,19 @@
 -- Answers as numbers, for callers in other languages. Definitions only; assumes nothing.
 use mathlib.Core.Path.{_≡_}
-use Prim.Native.Nat.{ℕ, _+_, _^_}
+use Prim.Native.Nat.{ℕ, _+_, _*_, _^_}
 use mathlib.Core.Bool.{cond}
 use mathlib.Core.List.{List}
 use mathlib.Core.Option.{Option, none, some}
 use lib.ListN.{length}
 use Rattle.refusal.specs.declared.Fault.{Fault}
+use Rattle.refusal.specs.declared.Reason.{Reason}
+use Rattle.refusal.specs.declared.Reason.the-variants.{Call, Row}
 use Rattle.refusal.specs.Refusal.{number}
+use Rattle.refusal.specs.Sizes.{noId}
+use Rattle.rows.specs.Columns.{Columns, rowsOf}
+use Rattle.build.specs.Names.{names}
+use Rattle.build.specs.Rules.{tokensOf, wordpieceTrie}
+use Rattle.build.specs.Memory.{Memory, cleared, holding, leaves}
 use Rattle.text.specs.Text.{wellFormed, characters}
 use Rattle.trie.specs.declared.LookupAnswer.{LookupAnswer}
 use Rattle.trie.specs.declared.LookupAnswer.the-variants.{Found, Absent, Refused}
@@ -16,6 +23,9 @@ use Rattle.unigram.specs.Pieces.{Model, idsOf}
 use Rattle.unigram.specs.Segment.{Scratch, segmentFault, segmentAnswer, segmentLeaves, RecordLaw}
 use Rattle.wordpiece.specs.declared.EncodeAnswer.{EncodeAnswer}
 use Rattle.wordpiece.specs.declared.EncodeAnswer.the-variants as encode-is
+use Rattle.wordpiece.specs.declared.BuildAnswer as wordpiece
+use Rattle.wordpiece.specs.declared.BuildAnswer.the-variants as wordpiece-is
+use Rattle.wordpiece.specs.Build as from-rows
 
 -- 0 where there is no fault, else the paper's number
 abbrev pub status : Option Fault → ℕ
@@ -46,3 +56,20 @@ pub record SegmentedAs (m : Model) (s : List ℕ) (before : Scratch) (answer : �
   pub answered : answer ≡ segmentNumber (segmentAnswer (segmentFault m s before) (length (idsOf m s)))
   pub left : after ≡ segmentLeaves (segmentFault m s before) m s before
   pub law : segmentFault m s before ≡ none → RecordLaw m s after
+
+-- ---- builds
+
+-- why a build was refused: its number times 2 ^ 32, and the row, or 4,294,967,295 where there is none
+abbrev pub reasonNumber : Reason → ℕ
+reasonNumber (Call f) = number f * 2 ^ 32 + noId
+reasonNumber (Row f i) = number f * 2 ^ 32 + i
+
+-- how many nodes, which is below 2 ^ 32; or why nothing was built
+abbrev pub fromRowsNumber : wordpiece.BuildAnswer → ℕ
+fromRowsNumber (wordpiece-is.Built n) = n
+fromRowsNumber (wordpiece-is.Refused r) = reasonNumber r
+
+-- what `from_rows` promises, its answer as a number
+pub record FromRowsAs (tab : List ℕ) (c : Columns) (before : Memory) (answer : ℕ) (after : Memory) : Type 0 where
+  pub answered : answer ≡ fromRowsNumber (from-rows.buildAnswer (from-rows.buildFault tab c before) (length (names (tokensOf tab (rowsOf c)))))
+  pub columns : after ≡ leaves (from-rows.buildFault tab c before) (holding (wordpieceTrie tab (rowsOf c)) before) (cleared before) before

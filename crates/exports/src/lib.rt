@@ -4,6 +4,9 @@ use text::SpanAnswer;
 use trie::LookupAnswer;
 use unigram::SegmentAnswer;
 use wordpiece::EncodeAnswer;
+
+pub mod builds;
+
 ghost use mathlib.Core.Path.{_≡_};
 ghost use mathlib.Core.List.{map};
 ghost use lib.ListN.{length};
