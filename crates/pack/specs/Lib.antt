@@ -1,5 +1,3 @@
--- The pack file, what a build from it promises, and what the program prints.
+-- The pack file, and what a build from it promises.
 pub mod Pack
 pub mod Build
-pub mod Lines
-pub mod Output

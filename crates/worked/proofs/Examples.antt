@@ -2,7 +2,7 @@
 use mathlib.Core.Path.{_≡_, refl}
 use mathlib.Core.Bool.{true}
 use lib.ListN.{length}
-use Rattle.pack.specs.Output.{output}
+use Rattle.output.specs.Output.{output}
 use Rattle.worked.specs.Example.{allOf, holds}
 use Rattle.worked.specs.Table.{table}
 use Rattle.worked.specs.Case.{packBytes, inputBytes, printedBytes}

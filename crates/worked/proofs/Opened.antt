@@ -23,8 +23,8 @@ use Rattle.wordpiece.specs.Pieces as wordpiece
 use Rattle.wordpiece.specs.Encode as encode
 use Rattle.pack.specs.Pack as pack
 use Rattle.pack.specs.Build as build
-use Rattle.pack.specs.Lines as lines
-use Rattle.pack.specs.Output as output
+use Rattle.output.specs.Lines as lines
+use Rattle.output.specs.Output as output
 use Rattle.worked.specs.Example as example
 
 unfoldable pub doubles-opened : Unit {0}

@@ -20,9 +20,9 @@ use Rattle.unigram.specs.Pieces as unigram
 use Rattle.unigram.specs.Segment.{Scratch, segmentFault}
 use Rattle.wordpiece.specs.Pieces as wordpiece
 use Rattle.wordpiece.specs.Encode.{encodeFault}
 use Rattle.pack.specs.Pack.{headerOf, rowsOf, prefixOf}
 use Rattle.pack.specs.Build.{packFault, theKind, trieIn, scoresIn}
-use Rattle.pack.specs.Lines.{lines, printedIds, printedRefusal}
+use Rattle.output.specs.Lines.{lines, printedIds, printedRefusal}
 
 -- "reads `vocab.pack` (at most 65,536 bytes)"
 abbrev pub maxPack : ℕ

@@ -1,0 +1,3 @@
+-- Laws of what is printed.
+pub mod Putting
+pub mod Decimals
