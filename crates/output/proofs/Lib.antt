@@ -1,3 +1,6 @@
 -- Laws of what is printed.
 pub mod Putting
 pub mod Decimals
+pub mod Ending
+pub mod Printing
+pub mod Following

@@ -26,6 +26,11 @@ linesAfter begun (b ∷ s) =
 unfoldable pub lines : List ℕ → List (List ℕ)
 lines input = linesAfter [] input
 
+-- how many bytes stand before the first LF, or before the end where there is none
+unfoldable pub untilLf : List ℕ → ℕ
+untilLf [] = 0
+untilLf (b ∷ s) = cond (eqb b lf) 0 (suc (untilLf s))
+
 -- a number's digits in decimal. The first argument bounds how many; more than the number is enough.
 unfoldable pub digits : ℕ → ℕ → List ℕ
 digits zero n = []

@@ -11,6 +11,7 @@ use Rattle.refusal.specs.declared.Reason.{Reason}
 use Rattle.refusal.specs.declared.Reason.the-variants.{Call, Row}
 use Rattle.refusal.specs.Sizes.{above}
 use Rattle.text.specs.Ascii.{ascii}
+use Rattle.trie.specs.Trie.{Trie}
 use Rattle.rows.specs.declared.Kind.{Kind}
 use Rattle.rows.specs.declared.Kind.the-variants.{Unigram, WordPiece}
 use Rattle.rows.specs.Scores.{unknownScore}
@@ -59,15 +60,18 @@ modelOf bytes =
       unknown = record { id = headerOf bytes .unknown; score = unknownScore (scoresOf (rowsOf Unigram bytes)) };
     }
 
+-- what one line prints, in a Unigram model
+unfoldable pub segmentedLine : unigram.Model → List ℕ → List ℕ
+segmentedLine m line = printed (segmentFault m line lentScratch) (unigram.idsOf m line)
+
+-- and in a WordPiece trie, with this unknown id, max_chars and prefix
+unfoldable pub encodedLine : Trie → ℕ → ℕ → List ℕ → List ℕ → List ℕ
+encodedLine t unknown maxChars prefix line = printed (encodeFault t prefix line places) (wordpiece.idsOf t unknown maxChars prefix line)
+
 -- what one line prints, for a pack of this kind that is not refused
 unfoldable pub printedLine : Kind → List ℕ → List ℕ → List ℕ
-printedLine Unigram bytes line =
-    let m = modelOf bytes in
-    printed (segmentFault m line lentScratch) (unigram.idsOf m line)
-printedLine WordPiece bytes line =
-    let h = headerOf bytes in
-    let t = trieIn WordPiece bytes in
-    printed (encodeFault t (prefixOf bytes) line places) (wordpiece.idsOf t (h .unknown) (h .maxChars) (prefixOf bytes) line)
+printedLine Unigram bytes line = segmentedLine (modelOf bytes) line
+printedLine WordPiece bytes line = let h = headerOf bytes in encodedLine (trieIn WordPiece bytes) (h .unknown) (h .maxChars) (prefixOf bytes) line
 
 unfoldable pub faultOf : Reason → Fault
 faultOf (Call f) = f

@@ -2,7 +2,7 @@
 use refusal::Fault;
 ghost use mathlib.Core.List.{[], _∷_};
 ghost use Prim.Native.Nat.{_+_, _*_, _^_, _≤_, _<_};
-ghost use lib.ListN.{length};
+ghost use lib.ListN.{length, take};
 ghost use Rattle.output.specs.Lines.{decimal, spaced, printedIds, printedRefusal};
 ghost use Rattle.output.specs.Put.{Put};
 
@@ -75,6 +75,14 @@ pub fn put_ids(out: &mut [u8], at: usize, ids: &[u32]) -> usize
     let counted = put_number(out, at, ids.len() as u32);
     let end = put_numbers(out, counted, ids);
     put_byte(out, end, 0x0A)
+}
+
+// The line of the first n of some id places.
+pub fn put_first(out: &mut [u8], at: usize, places: &[u32], n: usize) -> usize
+    requires { ⌜ (at + 11 * n + 11 ≤ length (now out)) × (n ≤ length (now places)) × (n < 2 ^ 32) ⌝ }
+    ensures { λ r. ⌜ Put (now (out .entry)) at (printedIds (take n (now (places .entry)))) r (now (out .exit)) × (r ≤ at + 11 * n + 11) ⌝ }
+{
+    put_ids(out, at, &places[..n])
 }
 
 // The line of a refusal, after what was refused. A refusal's number has at most two digits.

@@ -2,6 +2,7 @@
 pub mod Longest
 pub mod Rest
 pub mod Plans
+pub mod Few
 pub mod Faults
 pub mod Readers
 pub mod Determinacy

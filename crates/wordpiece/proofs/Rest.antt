@@ -168,8 +168,12 @@ module _ (w : List ℕ) (well : wellFormed w ≡ true) where
         ap characters (ap (λ (m : ℕ). take m w) (sym n) ∙ take-add i (j - i) w) ∙ characters-append (take i w) (take (j - i) (drop i w)),
       )
 
+  -- what stands before a position has no more characters than the word
+  pub taken-few : (j : ℕ) → characters (take j w) ≤ characters w
+  taken-few j = omega (arith, fewer-before j (j + length w) (omega arith), ap characters (take-all (j + length w) w (omega arith)))
+
   -- from a boundary to a later one there is at least one character
-  one-more : (i j : ℕ) → boundary w i ≡ true → boundary w j ≡ true → i < j → suc (characters (take i w)) ≤ characters (take j w)
+  pub one-more : (i j : ℕ) → boundary w i ≡ true → boundary w j ≡ true → i < j → suc (characters (take i w)) ≤ characters (take j w)
   one-more i j a b h =
       let below : i < length w = omega (arith, boundary-le w j b) in
       let step : characters (take (next w i) w) ≡ suc (characters (take i w)) = characters-next w well i a below in
@@ -199,9 +203,6 @@ module _ (w : List ℕ) (well : wellFormed w ≡ true) where
         Fewer : Type 0
         Fewer = (j : ℕ) (xs : List ℕ) → boundary w j ≡ true → piecesFrom t (some k) w n (some k) j ≡ some xs → characters (take j w) + length xs ≤ characters w
 
-        all : (j : ℕ) → characters (take j w) ≤ characters w
-        all j = omega (arith, fewer-before j (j + length w) (omega arith), ap characters (take-all (j + length w) w (omega arith)))
-
         rest : Fewer → {f : Found} → Ends w i (length w) f → (o : Option (List ℕ)) → piecesFrom t (some k) w n (some k) (f .end) ≡ o → before (f .id) o ≡ some ids → characters (take i w) + length ids ≤ characters w
         rest on s none g q = absurd (none-some q)
         rest on {f} s (some xs) g q =
@@ -212,7 +213,7 @@ module _ (w : List ℕ) (well : wellFormed w ≡ true) where
         go on false c o g =
             let last : i ≡ length w = omega (arith, ltb-false i (length w) c, boundary-le w i a) in
             let none-left : _≡_ {A = List ℕ} [] ids = cc (within-end t k w n i last) in
-            omega (arith, ap length none-left, all i)
+            omega (arith, ap length none-left, taken-few i)
         go on true c none g = absurd (none-some (sym (within-miss t k w n i (ltb-true i (length w) c) g) ∙ e))
         go on true c (some f) g = rest on (longest-ends t k w i (length w) g) (piecesFrom t (some k) w n (some k) (f .end)) refl (sym (within-piece t k w n i (ltb-true i (length w) c) g) ∙ e)
 

@@ -1,0 +1,95 @@
+// What the program prints for lines in a WordPiece trie.
+use crate::lines::line_end;
+use crate::put::put_first;
+use crate::put::put_refusal;
+use wordpiece::EncodeAnswer;
+ghost use mathlib.Core.List.{flatMap};
+ghost use Prim.Native.Nat.{_+_, _*_, _≤_};
+ghost use lib.ListN.{length};
+ghost use Rattle.trie.specs.Trie.{partsOf};
+ghost use Rattle.output.specs.Lines.{lines};
+ghost use Rattle.output.specs.Output.{encodedLine};
+ghost use Rattle.output.specs.Put.{Put};
+
+// One line, a word: its ids, or its refusal. Either takes at most 11 bytes for each byte of the line, and 11.
+pub fn put_encoded(
+    edge_at: &[u32],
+    edge_n: &[u16],
+    id: &[u32],
+    byte: &[u8],
+    to: &[u32],
+    unknown: u32,
+    max_chars: u32,
+    prefix: &[u8],
+    line: &[u8],
+    out: &mut [u8],
+    at: usize,
+) -> usize
+    requires { ⌜ at + 11 * length (now line) + 11 ≤ length (now out) ⌝ }
+    ensures { λ r.
+        ⌜ Put (now (out .entry)) at
+        (encodedLine (partsOf (now («edge_at» .entry)) (now («edge_n» .entry)) (now (id .entry)) (now (byte .entry)) (now (to .entry))) unknown
+        «max_chars» (now (prefix .entry)) (now (line .entry)))
+        r (now (out .exit)) × (r ≤ at + 11 * length (now (line .entry)) + 11) ⌝ }
+{
+    let mut ids = [0u32; 4096];
+    let answer = wordpiece::encode(
+        edge_at,
+        edge_n,
+        id,
+        byte,
+        to,
+        unknown,
+        max_chars,
+        prefix,
+        line,
+        &mut ids,
+    );
+    match answer {
+        EncodeAnswer::Refused(f) => put_refusal(out, at, b"", f),
+        EncodeAnswer::Ids(n) => put_first(out, at, &ids, n),
+    }
+}
+
+// All lines of the input.
+pub fn put_encoded_lines(
+    edge_at: &[u32],
+    edge_n: &[u16],
+    id: &[u32],
+    byte: &[u8],
+    to: &[u32],
+    unknown: u32,
+    max_chars: u32,
+    prefix: &[u8],
+    input: &[u8],
+    out: &mut [u8],
+) -> usize
+    requires { ⌜ 11 * length (now input) + 11 ≤ length (now out) ⌝ }
+    ensures { λ r.
+        ⌜ Put (now (out .entry)) 0
+        (flatMap (encodedLine (partsOf (now («edge_at» .entry)) (now («edge_n» .entry)) (now (id .entry)) (now (byte .entry)) (now (to .entry))) unknown
+        «max_chars» (now (prefix .entry))) (lines (now (input .entry))))
+        r (now (out .exit)) ⌝ }
+{
+    let mut at: usize = 0;
+    let mut from: usize = 0;
+    while from < input.len() {
+        let end = line_end(input, from);
+        let line = &input[from..end];
+        at = put_encoded(
+            edge_at,
+            edge_n,
+            id,
+            byte,
+            to,
+            unknown,
+            max_chars,
+            prefix,
+            line,
+            out,
+            at,
+        );
+        from = end + 1;
+    }
+    at
+}
