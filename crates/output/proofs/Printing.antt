@@ -1,15 +1,18 @@
 -- What an answer of `encode` or `segment` says of the line to print: a refusal is the fault, and else the first places hold the ids, no more than the
 -- line has bytes. Assumes nothing.
-use mathlib.Core.Path.{_≡_, refl, sym, ap, _∙_, subst}
+use mathlib.Core.Path.{_≡_, refl, sym, ap, ap₂, _∙_, subst}
 use mathlib.Core.Bool.{Bool, true, false, cond}
-use mathlib.Core.List.{List, [], _∷_, _++_}
+use mathlib.Core.List.{List, [], _∷_, _++_, map}
 use mathlib.Core.Option.{Option, none, some}
-use Prim.Native.Nat.{ℕ, _+_, _≤_, _<_}
+use Prim.Native.Nat.{ℕ, zero, suc, _+_, _≤_, _<_}
 use native.Mathlib.Omega.{arith}
 use borrow.Author.Tests.{eqb-true, ltb-false}
 use lib.Dec.{eqb}
-use lib.ListN.{length, take, drop, length-replicate}
+use lib.Ieee.{Float}
+use lib.ListN.{length, take, drop, replicate, length-replicate}
 use lib.Seq.{take-append-seam}
+use Rattle.doubles.specs.Double.{Double, plusZero}
+use Rattle.doubles.specs.Units.{units}
 use Rattle.refusal.specs.declared.Fault.{Fault}
 use Rattle.refusal.specs.declared.Fault.the-variants as fault
 use Rattle.refusal.specs.Places.{overlay}
@@ -26,6 +29,7 @@ use Rattle.wordpiece.proofs.Few.{ids-few}
 use Rattle.unigram.specs.declared.SegmentAnswer as segment
 use Rattle.unigram.specs.declared.SegmentAnswer.the-variants as segment-is
 use Rattle.unigram.specs.Pieces as unigram
+use Rattle.unigram.specs.Core.{scratchOf}
 use Rattle.unigram.specs.Segment.{Scratch, segmentFault, segmentAnswer, segmentLeaves, written, Segmented}
 use Rattle.unigram.proofs.Merging.{merged-few}
 use Rattle.output.specs.Lines.{printedIds, printedRefusal}
@@ -82,6 +86,20 @@ module _ {t : Trie} {unknown maxChars : ℕ} {prefix w after : List ℕ} {answer
           }
 
 -- ---- Unigram
+
+-- a column of +0, as the doubles that it holds
+zeros : (n : ℕ) (z : Float) → units z ≡ plusZero → map units (replicate n z) ≡ replicate n plusZero
+zeros zero z e = refl
+zeros (suc n) z e = ap₂ _∷_ e (zeros n z e)
+
+-- the scratch that the program lends
+pub lent-is :
+    {m : unigram.Model} {s : List ℕ} {answer : segment.SegmentAnswer} {after : Scratch} (z : Float) → units z ≡ plusZero
+    → Segmented m s (scratchOf places places (replicate 4_096 z) places places) answer after → Segmented m s lentScratch answer after
+unfolding lentScratch
+lent-is {m = m} {s = s} {answer = answer} {after = after} z e p =
+    subst (λ (scores : List Double). Segmented m s (record { start = places; id = places; score = scores; path = places; ids = places }) answer after)
+    (zeros 4_096 z e) p
 
 module _ {m : unigram.Model} {s : List ℕ} {after : Scratch} {answer : segment.SegmentAnswer} (p : Segmented m s lentScratch answer after) where
   abbrev ids′ : List ℕ

@@ -2,3 +2,4 @@
 pub mod encoded;
 pub mod lines;
 pub mod put;
+pub mod segmented;

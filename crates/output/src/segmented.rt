@@ -1,0 +1,103 @@
+// What the program prints for lines in a Unigram trie.
+use crate::lines::line_end;
+use crate::put::put_first;
+use crate::put::put_refusal;
+use unigram::SegmentAnswer;
+ghost use mathlib.Core.List.{flatMap};
+ghost use Prim.Native.Nat.{_+_, _*_, _≤_};
+ghost use lib.ListN.{length};
+ghost use Rattle.unigram.specs.Work.{modelOf, pieceWith};
+ghost use Rattle.output.specs.Lines.{lines};
+ghost use Rattle.output.specs.Output.{segmentedLine};
+ghost use Rattle.output.specs.Put.{Put};
+
+// One line, a text: its ids, or its refusal. Either takes at most 11 bytes for each byte of the line, and 11.
+pub fn put_segmented(
+    edge_at: &[u32],
+    edge_n: &[u16],
+    id: &[u32],
+    score: &[f64],
+    byte: &[u8],
+    to: &[u32],
+    unknown: u32,
+    unknown_score: f64,
+    line: &[u8],
+    out: &mut [u8],
+    at: usize,
+) -> usize
+    requires { ⌜ at + 11 * length (now line) + 11 ≤ length (now out) ⌝ }
+    ensures { λ r.
+        ⌜ Put (now (out .entry)) at
+        (segmentedLine (modelOf (now («edge_at» .entry)) (now («edge_n» .entry)) (now (id .entry)) (now (score .entry)) (now (byte .entry)) (now (to .entry))
+        (pieceWith unknown «unknown_score»)) (now (line .entry)))
+        r (now (out .exit)) × (r ≤ at + 11 * length (now (line .entry)) + 11) ⌝ }
+{
+    let mut start = [0u32; 4096];
+    let mut slot_id = [0u32; 4096];
+    let mut slot_score = [0.0; 4096];
+    let mut path = [0u32; 4096];
+    let mut ids = [0u32; 4096];
+    let answer = unigram::segment(
+        edge_at,
+        edge_n,
+        id,
+        score,
+        byte,
+        to,
+        unknown,
+        unknown_score,
+        line,
+        &mut start,
+        &mut slot_id,
+        &mut slot_score,
+        &mut path,
+        &mut ids,
+    );
+    match answer {
+        SegmentAnswer::Refused(f) => put_refusal(out, at, b"", f),
+        SegmentAnswer::Ids(n) => put_first(out, at, &ids, n),
+    }
+}
+
+// All lines of the input.
+pub fn put_segmented_lines(
+    edge_at: &[u32],
+    edge_n: &[u16],
+    id: &[u32],
+    score: &[f64],
+    byte: &[u8],
+    to: &[u32],
+    unknown: u32,
+    unknown_score: f64,
+    input: &[u8],
+    out: &mut [u8],
+) -> usize
+    requires { ⌜ 11 * length (now input) + 11 ≤ length (now out) ⌝ }
+    ensures { λ r.
+        ⌜ Put (now (out .entry)) 0
+        (flatMap (segmentedLine (modelOf (now («edge_at» .entry)) (now («edge_n» .entry)) (now (id .entry)) (now (score .entry)) (now (byte .entry))
+        (now (to .entry)) (pieceWith unknown «unknown_score»))) (lines (now (input .entry))))
+        r (now (out .exit)) ⌝ }
+{
+    let mut at: usize = 0;
+    let mut from: usize = 0;
+    while from < input.len() {
+        let end = line_end(input, from);
+        let line = &input[from..end];
+        at = put_segmented(
+            edge_at,
+            edge_n,
+            id,
+            score,
+            byte,
+            to,
+            unknown,
+            unknown_score,
+            line,
+            out,
+            at,
+        );
+        from = end + 1;
+    }
+    at
+}
