@@ -25,3 +25,5 @@ pub mod Placing
 pub mod Segmenting
 -- which test gives which fault, and the promise of `segment`
 pub mod Refusing
+-- the score column of a build
+pub mod Storing
