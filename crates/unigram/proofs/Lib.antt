@@ -27,3 +27,5 @@ pub mod Segmenting
 pub mod Refusing
 -- the score column of a build
 pub mod Storing
+-- the promise of `build`, in each case
+pub mod Builds

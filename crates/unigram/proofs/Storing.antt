@@ -7,7 +7,17 @@ use Prim.Native.Nat.{ℕ, _+_, _-_, _≤_, _<_}
 use native.Mathlib.Omega.{arith}
 use lib.Ieee.{Float}
 use lib.ListN.{
-  length, getD, set, take, replicate, length-append, length-map, length-set, length-replicate, getD-replicate, List·getD-append,
+  length,
+  getD,
+  set,
+  take,
+  replicate,
+  length-append,
+  length-map,
+  length-set,
+  length-replicate,
+  getD-replicate,
+  List·getD-append,
   List·getD-eq-default,
 }
 use lib.Seq.{length-take-le, getD-take, getD-append-add, getD-set-same, getD-set-other, ext-getD}
