@@ -3,6 +3,7 @@
 use mathlib.Core.Path.{_≡_, refl, sym, ap, _∙_, subst}
 use mathlib.Core.Bool.{Bool, true, false, _||_, cond}
 use mathlib.Core.List.{List, [], _∷_, map}
+use mathlib.Core.Logic.{_↔_}
 use mathlib.Core.Option.{Option, none, some, Option·getD}
 use Prim.Native.Nat.{ℕ, _≤_, _<_, min}
 use native.Mathlib.Omega.{arith}
@@ -10,7 +11,7 @@ use native.Mathlib.Decide.{decLt}
 use borrow.Author.Tests.{lt-ltb, le-ltb, ltb-false}
 use lib.Dec.{ltb, eqb}
 use lib.Ieee.{Float}
-use lib.ListN.{length, getD, take, length-map, List·getD-eq-default}
+use lib.ListN.{length, take, length-map, List·getD-eq-default}
 use lib.Seq.{take-at, ext-getD}
 use Rattle.doubles.specs.Double.{Double, plusZero}
 use Rattle.doubles.specs.Units.{units}
@@ -21,7 +22,7 @@ use Rattle.refusal.specs.declared.Reason.the-variants as reason
 use Rattle.refusal.specs.Refusal.{number, numberOf, refuse, first}
 use Rattle.refusal.specs.Places.{filled}
 use Rattle.refusal.specs.Sizes.{noId}
-use Rattle.refusal.proofs.Tests.{found, not-found}
+use Rattle.refusal.proofs.Tests.{found, not-found, passed}
 use Rattle.trie.specs.Trie.{Trie}
 use Rattle.rows.specs.declared.Kind.the-variants.{Unigram}
 use Rattle.rows.specs.Rows.{Row, Worth, score, id, worthFault, rowFault}
@@ -37,14 +38,14 @@ use Rattle.build.specs.Names.{names}
 use Rattle.build.specs.Parts.{lay, trieOf}
 use Rattle.build.specs.Rules.{tokensOf, firstRow, scoreOf, scoresOf, nodeScore, unigramTrie, unigramScores}
 use Rattle.build.specs.Given.{given, trieGiven}
-use Rattle.build.specs.Memory.{Memory, noRoom, noScoredRoom, cleared, holding, zeroScores, leaves}
+use Rattle.build.specs.Memory.{Memory, noScoredRoom, cleared, holding, zeroScores, leaves}
 use Rattle.build.specs.Core.{roomOf, RoomFor, nodesOf, BuiltOf}
 use Rattle.build.proofs.Rooms.{no-room, room-for, nodes-some, nodes-few}
 use Rattle.build.proofs.Judging.{given-tokens, unigram-given, short-tokens}
 use Rattle.build.proofs.Sounds.{length-id}
 use Rattle.unigram.specs.declared.BuildAnswer.{BuildAnswer}
 use Rattle.unigram.specs.declared.BuildAnswer.the-variants as answer-is
-use Rattle.unigram.specs.Build.{Told, built, refused, told, buildFault, toldFor, Built}
+use Rattle.unigram.specs.Build.{built, told, buildFault, toldFor, Built}
 use Rattle.unigram.specs.NodeScores.{rowScore, filledScores}
 
 -- ---- no fault of the rows has the number 7
@@ -181,6 +182,37 @@ module _ (tab : List ℕ) (c : Columns) (m : Memory) (scores : List Double) wher
   fault-fine : columnsFault Unigram tab c ≡ none → buildFault tab c m scores ≡ room-left
   unfolding first
   fault-fine e = fault-rows e
+
+  -- 7 is given exactly where the rows have no fault and some lent column is too short
+  pub room-exactly : (buildFault tab c m scores ≡ some (reason.Call fault.Room)) ↔ ((columnsFault Unigram tab c ≡ none) × (noScoredRoom (nodesOf tab (rowsOf c)) m scores ≡ true))
+  room-exactly = (λ e. says (columnsFault Unigram tab c) refl e, λ p. fault-fine (p .0) ∙ found (noScoredRoom nodes m scores) (reason.Call fault.Room) none (p .1))
+    where
+      short : (t : Bool) → noScoredRoom nodes m scores ≡ t → room-left ≡ some (reason.Call fault.Room) → noScoredRoom nodes m scores ≡ true
+      short true p e = p
+      short false p e =
+          let q = not-found (noScoredRoom nodes m scores) (reason.Call fault.Room) none p in
+          absurd (let z : _≡_ {A = ℕ} 0 1 = cc in omega arith)
+
+      says :
+          (o : Option Reason) → columnsFault Unigram tab c ≡ o → buildFault tab c m scores ≡ some (reason.Call fault.Room)
+          → (columnsFault Unigram tab c ≡ none) × (noScoredRoom nodes m scores ≡ true)
+      says none p e = (p, short (noScoredRoom nodes m scores) refl (sym (fault-fine p) ∙ e))
+      says (some r) p e =
+          let same : some r ≡ some (reason.Call fault.Room) = sym (fault-bad p) ∙ e in
+          let z : true ≡ false = rows-number tab c (reason.Call fault.Room) (p ∙ same) in
+          absurd (let y : _≡_ {A = ℕ} 0 1 = cc in omega arith)
+
+  -- there is no fault exactly where the rows have none and no lent column is too short
+  pub none-exactly : (buildFault tab c m scores ≡ none) ↔ ((columnsFault Unigram tab c ≡ none) × (noScoredRoom (nodesOf tab (rowsOf c)) m scores ≡ false))
+  none-exactly = (λ e. says (columnsFault Unigram tab c) refl e, λ p. fault-fine (p .0) ∙ not-found (noScoredRoom nodes m scores) (reason.Call fault.Room) none (p .1))
+    where
+      says :
+          (o : Option Reason) → columnsFault Unigram tab c ≡ o → buildFault tab c m scores ≡ none
+          → (columnsFault Unigram tab c ≡ none) × (noScoredRoom nodes m scores ≡ false)
+      says none p e = (p, passed (noScoredRoom nodes m scores) (reason.Call fault.Room) none (sym (fault-fine p) ∙ e) .0)
+      says (some r) p e =
+          let z : some r ≡ none = sym (fault-bad p) ∙ e in
+          absurd (let y : _≡_ {A = ℕ} 0 1 = cc in omega arith)
 
   -- ---- the promise, in each case
 

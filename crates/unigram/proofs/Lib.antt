@@ -29,3 +29,5 @@ pub mod Refusing
 pub mod Storing
 -- the promise of `build`, in each case
 pub mod Builds
+-- the tries that `build` leaves
+pub mod BuiltTries

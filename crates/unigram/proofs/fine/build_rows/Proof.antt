@@ -1,12 +1,9 @@
 -- `unigram::fine::build_rows` meets its contract: the room is the least that the columns have, what the core answers is answered, and the score
 -- column is made zero or filled. Assumes nothing.
-use mathlib.Core.Path.{_≡_, refl, sym, ap, _∙_}
-use mathlib.Core.List.{List, map}
-use Prim.Native.Nat.{ℕ}
+use mathlib.Core.Path.{ap}
 use native.Mathlib.Omega.{arith}
 use borrow.Author.Needs.{needs}
 use lib.ListN.{length}
-use Rattle.doubles.specs.Units.{units}
 use Rattle.build.specs.Memory.{Memory, memory}
 use Rattle.unigram.specs.Build.{built, told}
 use Rattle.unigram.proofs.Builds.{scored-room-for, nodes-placed, Placed, lists-full, lists-built}
