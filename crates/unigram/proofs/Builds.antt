@@ -216,47 +216,53 @@ module _ (tab : List ℕ) (c : Columns) (m : Memory) (scores : List Double) wher
 
   -- ---- the promise, in each case
 
-  abbrev held : Memory
-  held = holding (unigramTrie tab (rowsOf c)) m
+  -- what a buffer holds: as it was, zeros, or what was built
+  module _ {A : Type 0} (done zeros before : A) where
+    kept : {r : Reason} → columnsFault Unigram tab c ≡ some r → before ≡ leaves (buildFault tab c m scores) done zeros before
+    unfolding leaves
+    kept {r = r} e =
+        sym
+        (ap (λ (o : Option Reason). leaves o done zeros before) (fault-bad e)
+        ∙ ap (λ (b : Bool). cond b zeros before) (rows-number tab c r e))
 
-  abbrev scored : List Double
-  scored = filled plusZero (unigramScores tab (rowsOf c)) scores
+    emptied : buildFault tab c m scores ≡ some (reason.Call fault.Room) → zeros ≡ leaves (buildFault tab c m scores) done zeros before
+    unfolding leaves
+    emptied e = sym (ap (λ (o : Option Reason). leaves o done zeros before) e)
+
+    written : buildFault tab c m scores ≡ none → done ≡ leaves (buildFault tab c m scores) done zeros before
+    unfolding leaves
+    written e = sym (ap (λ (o : Option Reason). leaves o done zeros before) e)
 
   pub built-bad : {r : Reason} → columnsFault Unigram tab c ≡ some r → Built tab c m scores (answer-is.Refused r) m scores
-  unfolding told toldFor leaves
-  built-bad {r = r} e =
-      let kept : (A : Type 0) (done zeros before : A) → before ≡ leaves (buildFault tab c m scores) done zeros before =
-      λ A done zeros before.
-      sym
-      (ap (λ (o : Option Reason). leaves o done zeros before) (fault-bad e)
-      ∙ ap (λ (b : Bool). cond b zeros before) (rows-number tab c r e)) in
+  unfolding told toldFor
+  built-bad e =
       record {
         answered = sym (ap (λ (o : Option Reason). toldFor o tab (rowsOf c)) (fault-bad e));
-        columns = kept Memory held (cleared m) m;
-        scores = kept (List Double) scored (zeroScores scores) scores;
+        columns = kept _ _ m e;
+        scores = kept _ _ scores e;
       }
 
   built-short :
       {after : Memory} {scoresAfter : List Double} → buildFault tab c m scores ≡ some (reason.Call fault.Room) → after ≡ cleared m
       → scoresAfter ≡ zeroScores scores → Built tab c m scores (answer-is.Refused (reason.Call fault.Room)) after scoresAfter
-  unfolding told toldFor leaves
+  unfolding told toldFor
   built-short e a s =
       record {
         answered = sym (ap (λ (o : Option Reason). toldFor o tab (rowsOf c)) e);
-        columns = a ∙ sym (ap (λ (o : Option Reason). leaves o held (cleared m) m) e);
-        scores = s ∙ sym (ap (λ (o : Option Reason). leaves o scored (zeroScores scores) scores) e);
+        columns = a ∙ emptied _ _ _ e;
+        scores = s ∙ emptied _ _ _ e;
       }
 
   built-held :
       {answer : BuildAnswer} {after : Memory} {scoresAfter : List Double} → buildFault tab c m scores ≡ none
-      → told answer ≡ built nodes (unknownScore (scoresOf (rowsOf c))) → after ≡ held → scoresAfter ≡ scored
-      → Built tab c m scores answer after scoresAfter
-  unfolding toldFor leaves
+      → told answer ≡ built nodes (unknownScore (scoresOf (rowsOf c))) → after ≡ holding (unigramTrie tab (rowsOf c)) m
+      → scoresAfter ≡ filled plusZero (unigramScores tab (rowsOf c)) scores → Built tab c m scores answer after scoresAfter
+  unfolding toldFor
   built-held e t a s =
       record {
         answered = t ∙ sym (ap (λ (o : Option Reason). toldFor o tab (rowsOf c)) e);
-        columns = a ∙ sym (ap (λ (o : Option Reason). leaves o held (cleared m) m) e);
-        scores = s ∙ sym (ap (λ (o : Option Reason). leaves o scored (zeroScores scores) scores) e);
+        columns = a ∙ written _ _ _ e;
+        scores = s ∙ written _ _ _ e;
       }
 
 -- ---- from what the core says of the lent lists
@@ -294,23 +300,20 @@ pub record Placed (n k : ℕ) (m : Memory) : Type 0 where
   pub scores : n ≤ k
   pub small : n ≤ 4_294_967_295
 
-module _ (tab off len ids : List ℕ) (m after : Memory) (k : ℕ) {room : ℕ} {answer : core.Built}
-    (r : room ≡ min (roomOf m) k) (d : BuiltOf true tab (given off len ids) room m after answer)
-  where
-    pub nodes-placed : {n : ℕ} → answer ≡ Nodes n → Placed n k m
-    nodes-placed {n = n} e =
-        let w = core-fits d e in
-        let fits : n ≤ room = omega (arith, w .1, ltb-false room (nodesOf tab (given off len ids)) (w .0)) in
-        let every = scored-room-for m k r in
-        record {
-          ids = omega (arith, fits, every .ids);
-          scores = omega (arith, fits, lesser-right (roomOf m) k r);
-          small = omega (arith, fits, every .small);
-        }
+module _ (tab off len ids : List ℕ) (m after : Memory) (k : ℕ) {room : ℕ} (r : room ≡ min (roomOf m) k) where
+  pub nodes-placed : {b : Bool} {answer : core.Built} {n : ℕ} → BuiltOf b tab (given off len ids) room m after answer → answer ≡ Nodes n → Placed n k m
+  nodes-placed {n = n} d e =
+      let w = core-fits d e in
+      let fits : n ≤ room = omega (arith, w .1, ltb-false room (nodesOf tab (given off len ids)) (w .0)) in
+      let every = scored-room-for m k r in
+      record {
+        ids = omega (arith, fits, every .ids);
+        scores = omega (arith, fits, lesser-right (roomOf m) k r);
+        small = omega (arith, fits, every .small);
+      }
 
-module _ (tab off len : List ℕ) (score : List Float) (ids : List ℕ) (m after : Memory) (before : List Float) {room : ℕ} {answer : core.Built}
-    (r : room ≡ min (roomOf m) (length before)) (d : BuiltOf true tab (given off len ids) room m after answer)
-    (flags : List Bool) (fine : columnsFault Unigram tab (columns off len flags score ids) ≡ none)
+module _ (tab off len : List ℕ) (score : List Float) (ids : List ℕ) (m after : Memory) (before : List Float) {room : ℕ}
+    (r : room ≡ min (roomOf m) (length before)) (flags : List Bool) (fine : columnsFault Unigram tab (columns off len flags score ids) ≡ none)
   where
     abbrev c : Columns
     c = columns off len flags score ids
@@ -334,19 +337,19 @@ module _ (tab off len : List ℕ) (score : List Float) (ids : List ℕ) (m after
         ∙ e)
 
     pub lists-full :
-        {scoresAfter : List Double} → answer ≡ NoRoom → scoresAfter ≡ zeroScores was
+        {b : Bool} {answer : core.Built} {scoresAfter : List Double} → BuiltOf b tab (given off len ids) room m after answer → answer ≡ NoRoom → scoresAfter ≡ zeroScores was
         → Built tab c m was (answer-is.Refused (reason.Call fault.Room)) after scoresAfter
     unfolding refuse
-    lists-full e s =
+    lists-full {b = b} d e s =
         let full = core-full d e in
         built-short tab c m was (fault-is full)
-        (d .left ∙ ap (λ (b : Bool). cond b (cleared m) (holding (trieGiven true tab (given off len ids)) m)) full) s
+        (d .left ∙ ap (λ (t : Bool). cond t (cleared m) (holding (trieGiven b tab (given off len ids)) m)) full) s
 
     pub lists-built :
-        {n : ℕ} {said : BuildAnswer} {scoresAfter : List Double} → answer ≡ Nodes n → told said ≡ built n (unknownScore (map units score))
+        {answer : core.Built} {n : ℕ} {said : BuildAnswer} {scoresAfter : List Double} → BuiltOf true tab (given off len ids) room m after answer → answer ≡ Nodes n → told said ≡ built n (unknownScore (map units score))
         → scoresAfter ≡ filledScores (map units score) (take n (after .id)) was → Built tab c m was said after scoresAfter
     unfolding refuse
-    lists-built {n = n} e t s =
+    lists-built {n = n} d e t s =
         let w = core-fits d e in
         let all : n ≡ nodesOf tab (rowsOf c) = w .1 ∙ same-nodes in
         let scores : map units score ≡ scoresOf (rowsOf c) = sym (scores-are tab c fine) in

@@ -111,7 +111,7 @@ returns c scored fine =
     let r = measured b in
     let a = entry r .args in
     lists-full (a .tab .now) (a .off .now) (a .len .now) (a .score .now) (a .id .now) (lent (entry r)) (left b) (a .node-score .now)
-    (r .room .ensures) (b .build .ensures) scored fine (told-full .enum-told .given .1) (c .before .before .zero .ensures)
+    (r .room .ensures) scored fine (b .build .ensures) (told-full .enum-told .given .1) (c .before .before .zero .ensures)
 
 same-length-8 : tie.Need-same-length-8
 same-length-8 c = search needs
@@ -143,7 +143,7 @@ returns-2 c scored fine =
     let r = measured b in
     let a = entry r .args in
     lists-built (a .tab .now) (a .off .now) (a .len .now) (a .score .now) (a .id .now) (lent (entry r)) (left b) (a .node-score .now)
-    (r .room .ensures) (b .build .ensures) scored fine (t .built .given .1)
+    (r .room .ensures) scored fine (b .build .ensures) (t .built .given .1)
     (ap (built (t .built .given .0 .0)) (c .unknown-score .ensures)) (f .fill .ensures)
 
 pub build-rows-spec : {M : Type 1} → statement M
