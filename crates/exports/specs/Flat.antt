@@ -2,23 +2,26 @@
 use mathlib.Core.Path.{_≡_}
 use Prim.Native.Nat.{ℕ, _+_, _*_, _^_}
 use mathlib.Core.Bool.{cond}
-use mathlib.Core.List.{List}
+use mathlib.Core.List.{List, [], _∷_}
 use mathlib.Core.Option.{Option, none, some}
 use lib.ListN.{length}
+use Rattle.doubles.specs.Double.{Double, plusZero}
 use Rattle.refusal.specs.declared.Fault.{Fault}
 use Rattle.refusal.specs.declared.Reason.{Reason}
 use Rattle.refusal.specs.declared.Reason.the-variants.{Call, Row}
 use Rattle.refusal.specs.Refusal.{number}
 use Rattle.refusal.specs.Sizes.{noId}
+use Rattle.refusal.specs.Places.{filled}
 use Rattle.rows.specs.Columns.{Columns, rowsOf}
 use Rattle.build.specs.Names.{names}
-use Rattle.build.specs.Rules.{tokensOf, wordpieceTrie}
-use Rattle.build.specs.Memory.{Memory, cleared, holding, leaves}
+use Rattle.build.specs.Rules.{tokensOf, unigramTrie, unigramScores, wordpieceTrie}
+use Rattle.build.specs.Memory.{Memory, cleared, holding, zeroScores, leaves}
 use Rattle.text.specs.Text.{wellFormed, characters}
 use Rattle.trie.specs.declared.LookupAnswer.{LookupAnswer}
 use Rattle.trie.specs.declared.LookupAnswer.the-variants.{Found, Absent, Refused}
 use Rattle.unigram.specs.declared.SegmentAnswer.{SegmentAnswer}
 use Rattle.unigram.specs.declared.SegmentAnswer.the-variants as segment-is
+use Rattle.unigram.specs.Build.{Told, built, refused, buildFault, toldFor}
 use Rattle.unigram.specs.Pieces.{Model, idsOf}
 use Rattle.unigram.specs.Segment.{Scratch, segmentFault, segmentAnswer, segmentLeaves, RecordLaw}
 use Rattle.wordpiece.specs.declared.EncodeAnswer.{EncodeAnswer}
@@ -73,3 +76,24 @@ fromRowsNumber (wordpiece-is.Refused r) = reasonNumber r
 pub record FromRowsAs (tab : List ℕ) (c : Columns) (before : Memory) (answer : ℕ) (after : Memory) : Type 0 where
   pub answered : answer ≡ fromRowsNumber (from-rows.buildAnswer (from-rows.buildFault tab c before) (length (names (tokensOf tab (rowsOf c)))))
   pub columns : after ≡ leaves (from-rows.buildFault tab c before) (holding (wordpieceTrie tab (rowsOf c)) before) (cleared before) before
+
+-- what `build` tells: how many nodes, or why nothing was built
+abbrev pub toldNumber : Told → ℕ
+toldNumber (built n x) = n
+toldNumber (refused r) = reasonNumber r
+
+-- the places lent for the unknown score: the first has it, if there is one
+abbrev pub withFirst : Double → List Double → List Double
+withFirst x [] = []
+withFirst x (y ∷ ys) = x ∷ ys
+
+abbrev pub toldScore : Told → List Double → List Double
+toldScore (built n x) places = withFirst x places
+toldScore (refused r) places = places
+
+-- what `build` promises, its answer as a number and a score in a lent place
+pub record BuiltAs (tab : List ℕ) (c : Columns) (before : Memory) (scoresBefore unknownBefore : List Double) (answer : ℕ) (after : Memory) (scoresAfter unknownAfter : List Double) : Type 0 where
+  pub answered : answer ≡ toldNumber (toldFor (buildFault tab c before scoresBefore) tab (rowsOf c))
+  pub unknown : unknownAfter ≡ toldScore (toldFor (buildFault tab c before scoresBefore) tab (rowsOf c)) unknownBefore
+  pub columns : after ≡ leaves (buildFault tab c before scoresBefore) (holding (unigramTrie tab (rowsOf c)) before) (cleared before) before
+  pub scores : scoresAfter ≡ leaves (buildFault tab c before scoresBefore) (filled plusZero (unigramScores tab (rowsOf c)) scoresBefore) (zeroScores scoresBefore) scoresBefore

@@ -2,9 +2,12 @@
 // the low ones the row, or 4,294,967,295 where it names none.
 use refusal::Reason;
 ghost use mathlib.Core.Path.{_≡_};
+ghost use mathlib.Core.List.{map};
+ghost use Rattle.doubles.specs.Units.{units};
 ghost use Rattle.rows.specs.Answers.{columns};
 ghost use Rattle.build.specs.Memory.{memory};
-ghost use Rattle.exports.specs.Flat.{reasonNumber, fromRowsNumber, FromRowsAs};
+ghost use Rattle.exports.specs.Flat.{reasonNumber, fromRowsNumber, FromRowsAs, toldNumber, toldScore, withFirst, BuiltAs};
+ghost use Rattle.unigram.specs.Build.{told};
 
 // The reason as one number.
 fn reason_number(r: Reason) -> u64
@@ -62,4 +65,72 @@ pub extern "C" fn sk_from_rows(
         to,
         work,
     ))
+}
+
+// A score in the first of the lent places, if there is one.
+fn put_score(places: &mut [f64], x: f64)
+    ensures { λ _. ⌜ map units (now (places .exit)) ≡ withFirst (units x) (map units (now (places .entry))) ⌝ }
+{
+    if 0 < places.len() {
+        places[0] = x;
+    }
+}
+
+// An answer of `build` as one number, and its unknown score in the first of the lent places.
+fn built_number(a: unigram::BuildAnswer, unknown_score: &mut [f64]) -> u64
+    ensures { λ n. ⌜ (n ≡ toldNumber (told a)) × (map units (now («unknown_score» .exit)) ≡ toldScore (told a) (map units (now («unknown_score» .entry)))) ⌝ }
+{
+    match a {
+        unigram::BuildAnswer::Built(s) => {
+            put_score(unknown_score, s.unknown_score);
+            s.nodes as u64
+        }
+        unigram::BuildAnswer::Refused(r) => reason_number(r),
+    }
+}
+
+// The Unigram trie of the rows, in the lent columns; its unknown score is in the first place lent for it.
+#[no_mangle]
+pub extern "C" fn sk_build(
+    tab: &[u8],
+    off: &[u32],
+    len: &[u32],
+    scored: &[bool],
+    score: &[f64],
+    id: &[u32],
+    edge_at: &mut [u32],
+    edge_n: &mut [u16],
+    node_id: &mut [u32],
+    node_score: &mut [f64],
+    byte: &mut [u8],
+    to: &mut [u32],
+    work: &mut [u32],
+    unknown_score: &mut [f64],
+) -> u64
+    ensures { λ r.
+        ⌜ BuiltAs (now (tab .entry)) (columns (now (off .entry)) (now (len .entry)) (now (scored .entry)) (now (score .entry)) (now (id .entry)))
+        (memory (now («edge_at» .entry)) (now («edge_n» .entry)) (now («node_id» .entry)) (now (byte .entry)) (now (to .entry)) (now (work .entry)))
+        (map units (now («node_score» .entry))) (map units (now («unknown_score» .entry)))
+        r
+        (memory (now («edge_at» .exit)) (now («edge_n» .exit)) (now («node_id» .exit)) (now (byte .exit)) (now (to .exit)) (now (work .exit)))
+        (map units (now («node_score» .exit))) (map units (now («unknown_score» .exit))) ⌝ }
+{
+    built_number(
+        unigram::build(
+            tab,
+            off,
+            len,
+            scored,
+            score,
+            id,
+            edge_at,
+            edge_n,
+            node_id,
+            node_score,
+            byte,
+            to,
+            work,
+        ),
+        unknown_score,
+    )
 }
