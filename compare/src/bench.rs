@@ -4,8 +4,8 @@ use std::hint::black_box;
 use std::time::Instant;
 
 use crate::random::Random;
-use crate::tokie::{self, Lattice, VocabTrie};
 use crate::rows::{Kind, Rows, Worth};
+use crate::tokie::{self, Lattice, VocabTrie};
 use crate::{builds, large, port, segments, text, wordpieces};
 
 /// Nanoseconds a call: the least of some runs of many calls, so that other work on the machine counts little.

@@ -243,7 +243,6 @@ fn real(seed: u64) -> bool {
     t.say(&format!("builds, 30,000 tokens of each kind ({n} nodes for WordPiece)"))
 }
 
-
 pub fn run(seed: u64, quick: bool) -> bool {
     let (most, count) = if quick { (2, 300) } else { (4, 10_000) };
     [exhaustive(seed, most), random(seed, count), damaged(seed, count * 2), limits(quick), real(seed)]
