@@ -4,10 +4,10 @@
 -- and the rest of each column is behind them. Assumes nothing.
 use mathlib.Core.Path.{_≡_, refl, sym, ap, _∙_, subst}
 use mathlib.Core.Bool.{Bool, true, false, not}
-use mathlib.Core.List.{List, [], map}
-use mathlib.Core.Logic.{⊎-elim}
+use mathlib.Core.List.{List, [], _∷_, map}
+use mathlib.Core.Logic.{_↔_, ⊎-elim}
 use mathlib.Core.Option.{Option, none, some}
-use Prim.Native.Nat.{ℕ, _-_, _≤_, _<_}
+use Prim.Native.Nat.{ℕ, zero, suc, _-_, _≤_, _<_}
 use native.Mathlib.Omega.{arith}
 use lib.Dec.{T, eqb}
 use lib.Ieee.{Float, nan, binary64, fits}
@@ -32,13 +32,14 @@ use Rattle.rows.specs.Scores.{unknownScore}
 use Rattle.rows.proofs.ListFaults.{rows-few, columns-level, unigram-finite}
 use Rattle.rows.proofs.RowLists.{rows-length, level-score, getD-map-inside}
 use Rattle.rows.proofs.LowestScores.{unknown-finite}
-use Rattle.build.specs.Names.{place, names}
+use Rattle.build.specs.Names.{same, later, place, names}
 use Rattle.build.specs.Grown.{Bytes}
 use Rattle.build.specs.Parts.{trieOf}
 use Rattle.build.specs.Rules.{tokensOf, firstRow, scoresOf, nodeScore, unigramTrie, unigramScores}
 use Rattle.build.specs.Memory.{Memory, cleared, holding, zeroScores, leaves}
 use Rattle.build.specs.Core.{nodesOf}
-use Rattle.build.proofs.Places.{place-at, place-below}
+use Rattle.build.proofs.Strings.{same-refl}
+use Rattle.build.proofs.Places.{either, none-some, found?, place-empty, place-hit, place-miss, place-below, place-at, place-nowhere}
 use Rattle.build.proofs.Named.{grown-names}
 use Rattle.build.proofs.Laid.{getD-map-of, walk-built}
 use Rattle.build.proofs.Sounds.{sound-built, length-edgeAt, length-edgeN, length-id, length-byte, length-to}
@@ -86,6 +87,59 @@ is-true false t = absurd t
 same-parts :
     {a b c d e a′ b′ c′ d′ e′ : List ℕ} → a ≡ a′ → b ≡ b′ → c ≡ c′ → d ≡ d′ → e ≡ e′ → partsOf a b c d e ≡ partsOf a′ b′ c′ d′ e′
 same-parts p q r s t = cc
+
+-- ---- the first row with a token
+
+later-some : (o : Option ℕ) (i : ℕ) → later o ≡ some i → (j : ℕ) × (o ≡ some j) × (i ≡ suc j)
+unfolding later
+later-some none i e = none-some e
+later-some (some j) i e = (j, refl, cc)
+
+place-earlier : (ts : List (List ℕ)) (s : List ℕ) (i k : ℕ) → place ts s ≡ some i → k < i → getD ts k [] ≡ s → ⊥
+place-earlier [] s i k e h t = none-some (sym (place-empty s) ∙ e)
+place-earlier (u ∷ ts) s i zero e h t =
+    let z : some 0 ≡ some i = sym (place-hit u ts s (ap (same s) t ∙ same-refl s)) ∙ e in
+    let y : 0 ≡ i = cc in
+    omega arith
+place-earlier (u ∷ ts) s i (suc k) e h t =
+    ⊎-elim
+    (λ (hit : same s u ≡ true).
+    let z : some 0 ≡ some i = sym (place-hit u ts s hit) ∙ e in
+    let y : 0 ≡ i = cc in
+    omega arith)
+    (λ (miss : same s u ≡ false).
+    let w = later-some (place ts s) i (sym (place-miss u ts s miss) ∙ e) in
+    place-earlier ts s (w .0) k (w .1) (omega (arith, w .2)) t)
+    (either (same s u))
+
+-- row i has the token s, and no row before it has
+pub record IsFirst (tokens : List (List ℕ)) (s : List ℕ) (i : ℕ) : Type 0 where
+  pub inside : i < length tokens
+  pub token : getD tokens i [] ≡ s
+  pub earlier : (k : ℕ) → k < i → getD tokens k [] ≡ s → ⊥
+
+-- what a look-up of a non-empty string finds is the first row with that token, and only that
+pub first-row-exactly :
+    (tokens : List (List ℕ)) (b : ℕ) (s : List ℕ) (i : ℕ) → (firstRow tokens (b ∷ s) ≡ some i) ↔ IsFirst tokens (b ∷ s) i
+unfolding firstRow
+first-row-exactly tokens b s i = (
+  λ e.
+      record {
+        inside = place-below tokens (b ∷ s) i e;
+        token = place-at tokens (b ∷ s) i e;
+        earlier = λ k. place-earlier tokens (b ∷ s) i k e;
+      },
+  λ f.
+      ⊎-elim (λ (e : place tokens (b ∷ s) ≡ none). absurd (place-nowhere tokens (b ∷ s) i e (f .inside) (f .token)))
+      (λ (w : (j : ℕ) × (place tokens (b ∷ s) ≡ some j)). w .1 ∙ ap (λ (k : ℕ). some k) (only f (w .0) (w .1)))
+      (found? (place tokens (b ∷ s))),
+)
+  where
+    only : IsFirst tokens (b ∷ s) i → (j : ℕ) → place tokens (b ∷ s) ≡ some j → j ≡ i
+    only f j e =
+        ⊎-elim (λ (h : j < i). absurd (f .earlier j h (place-at tokens (b ∷ s) j e)))
+        (λ (h : i ≤ j). ⊎-elim (λ (l : i < j). absurd (place-earlier tokens (b ∷ s) j i e l (f .token))) (λ (l : j ≤ i). omega arith) (below-or i j))
+        (below-or j i)
 
 -- ---- the trie of fine rows, and its scores
 
@@ -259,7 +313,7 @@ module _
         ∙ ap (λ (k : ℕ). take k (filled plusZero (unigramScores tab (rowsOf c)) before)) (no-fault .1)
         ∙ scores-cut tab c bytes built-fine before
 
-    -- a string has in it the index of the first row with that token
+    -- for a reader who looks a string up: it has in what was built the index of the first row with that token, and none where no row has it.
     pub built-lookup : (t : List ℕ) → idOf (trieIn (s .nodes) after) t ≡ firstRow (tokensOf tab (rowsOf c)) t
     built-lookup t = ap (λ (x : Trie). idOf x t) built-parts ∙ rows-lookup tab c bytes built-fine t
 
@@ -267,12 +321,12 @@ module _
       same-model : modelIn (s .nodes) after scores unknown ≡ record { trie = unigramTrie tab (rowsOf c); score = unigramScores tab (rowsOf c); unknown = unknown }
       same-model = λ i. record { trie = built-parts i; score = built-scores i; unknown = unknown }
 
-      -- and the piece that it is has that row's score
+      -- and as a piece it has that row's score, so a repeated token keeps its first id and score
       pub built-piece : (t : List ℕ) → known (modelIn (s .nodes) after scores unknown) t ≡ rowPiece (c .score) (firstRow (tokensOf tab (rowsOf c)) t)
       built-piece t = ap (λ (x : Model). known x t) same-model ∙ rows-piece tab c bytes built-fine unknown t
 
     module _ (doubles : Doubles (c .score)) where
-      -- what is left is sound, and its scores and unknown score are finite
+      -- what is left is sound, and its scores and unknown score are finite: it passes the test that `segment` makes of lent parts
       pub built-sound : soundScored (trieIn (s .nodes) after) (take (s .nodes) scores) (units (s .«unknown_score»)) ≡ true
       built-sound =
           ap (λ (t : Trie). soundScored t (take (s .nodes) scores) (units (s .«unknown_score»))) built-parts

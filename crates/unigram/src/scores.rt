@@ -2,15 +2,15 @@
 ghost use mathlib.Core.Path.{_≡_};
 ghost use mathlib.Core.List.{map};
 ghost use Prim.Native.Nat.{_≤_};
-ghost use lib.ListN.{length, getD, take};
+ghost use lib.ListN.{length, take};
 ghost use Rattle.doubles.specs.Double.{plusZero};
 ghost use Rattle.doubles.specs.Units.{units};
 ghost use Rattle.refusal.specs.Places.{zeroed};
-ghost use Rattle.unigram.specs.NodeScores.{filledScores};
+ghost use Rattle.unigram.specs.NodeScores.{rowScore, filledScores};
 
 // The score of a row. The mark for no row is above every row, and has the score 0.
 fn score_of(score: &[f64], row: u32) -> f64
-    ensures { λ r. ⌜ units r ≡ getD (map units (now (score .entry))) row plusZero ⌝ }
+    ensures { λ r. ⌜ units r ≡ rowScore (map units (now (score .entry))) row ⌝ }
 {
     if (row as usize) < score.len() {
         score[row as usize]
