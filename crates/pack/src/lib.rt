@@ -1,6 +1,10 @@
 // The pack file: a vocabulary's header, rows and strings, and the build from it.
 use refusal::Reason;
 
+mod header;
+mod judge;
+mod row;
+
 // What `build` answers: the kind with what `segment` or `encode` is to be given, or why nothing was built.
 // The prefix is the `prefix_len` bytes of the strings from `prefix_off` on.
 pub enum PackAnswer {
