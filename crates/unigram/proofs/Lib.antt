@@ -25,3 +25,9 @@ pub mod Placing
 pub mod Segmenting
 -- which test gives which fault, and the promise of `segment`
 pub mod Refusing
+-- the score column of a build
+pub mod Storing
+-- the promise of `build`, in each case
+pub mod Builds
+-- the tries that `build` leaves
+pub mod BuiltTries
