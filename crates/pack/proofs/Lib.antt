@@ -8,5 +8,13 @@ pub mod Readings
 pub mod Resting
 -- which fault a pack has
 pub mod Faults
+-- a row as it is entered
+pub mod Entered
+-- the scores of the rows
+pub mod Scoring
+-- a pack in which nothing is wrong
+pub mod FinePacks
+-- the promise, in each case
+pub mod Promised
 -- the promise fixes its outcome
 pub mod Determinacy

@@ -5,7 +5,7 @@ use mathlib.Core.List.{List}
 use mathlib.Core.Option.{Option, none, some}
 use Prim.Native.Nat.{ℕ, _+_, _*_, _^_, _≤_, _<_}
 use lib.Dec.{ltb, eqb}
-use lib.ListN.{length}
+use lib.ListN.{length, take}
 use Rattle.doubles.specs.Double.{Double, isFinite, ofPattern}
 use Rattle.refusal.specs.declared.Fault.the-variants as fault
 use Rattle.refusal.specs.declared.Reason.{Reason}
@@ -17,7 +17,9 @@ use Rattle.rows.specs.declared.Kind.{Kind}
 use Rattle.rows.specs.declared.Kind.the-variants.{Unigram, WordPiece}
 use Rattle.rows.specs.Rows.{Row, Worth, score, id, worthFault, rowFault, firstBad}
 use Rattle.build.specs.Held.{Enterable}
-use Rattle.build.specs.Memory.{Memory}
+use Rattle.build.specs.Memory.{Memory, zeroScores}
+use Rattle.build.specs.Rules.{scoresOf}
+use Rattle.unigram.specs.NodeScores.{filledScores}
 use Rattle.pack.specs.declared.header.Header as code-header
 use Rattle.pack.specs.declared.header.Layout.{Layout}
 use Rattle.pack.specs.declared.header.Layout.the-variants.{Of, Wrong}
@@ -129,3 +131,10 @@ pub record PackFine (bytes : List ℕ) (kind : Kind) (h : code-header.Header) : 
 abbrev pub FoundIs : List ℕ → Found → Type 0
 FoundIs bytes (Refused r) = PackBad bytes r
 FoundIs bytes (Fine kind h) = PackFine bytes kind h
+
+-- ---- the score column
+
+-- what the score column holds once the trie of n nodes stands, whose ids are these: for Unigram its nodes' scores, and zeros behind them
+pub record ScoresLeft (bytes : List ℕ) (kind : Kind) (ids : List ℕ) (n : ℕ) (before after : List Double) : Type 0 where
+  pub scored : kind ≡ Unigram → after ≡ filledScores (scoresOf (rowsOf Unigram bytes)) (take n ids) before
+  pub bare : kind ≡ WordPiece → after ≡ zeroScores before
