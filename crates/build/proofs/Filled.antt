@@ -1,5 +1,5 @@
 -- The columns at the end: what stands in front is what was laid out, and what was zero behind it still is. Assumes nothing.
-use mathlib.Core.Path.{_≡_, refl, sym, ap, _∙_}
+use mathlib.Core.Path.{_≡_, refl, sym, ap, ap₂, _∙_}
 use mathlib.Core.Bool.{Bool, cond, true, false}
 use mathlib.Core.List.{List, [], _∷_, _++_, map}
 use mathlib.Core.Option.{Option, Option·getD}
@@ -12,17 +12,19 @@ use lib.ListN.{length, getD, drop, replicate, length-append, length-map, length-
 use lib.Seq.{sets, sets-eq, getD-append-add, ext-getD}
 use Rattle.refusal.specs.Sizes.{noId}
 use Rattle.refusal.specs.Places.{zeroed, filled}
+use Rattle.trie.specs.Trie.{Trie}
 use Rattle.rows.specs.Rows.{Row}
+use Rattle.build.specs.declared.Built.{Built}
 use Rattle.build.specs.declared.Built.the-variants.{Nodes, NoRoom}
 use Rattle.build.specs.Names.{names}
 use Rattle.build.specs.Grown.{Grown}
 use Rattle.build.specs.Parts.{edgesOf, starts, lay, trieOf}
 use Rattle.build.specs.Rules.{tokensOf}
 use Rattle.build.specs.Given.{rulesFrom, noRule, trieGiven}
-use Rattle.build.specs.Held.{ZeroFrom, Identified, Held, Roomy, RowDone, Ready}
+use Rattle.build.specs.Held.{ZeroFrom, Identified, Roomy, RowDone, Ready}
 use Rattle.build.specs.Laying.{bytesOf, targetsOf, allEdges, countsOf, AllReady, AllDone, OutReady, OutDone}
 use Rattle.build.specs.Memory.{Memory, memory, cleared, holding}
-use Rattle.build.specs.Core.{RoomFor, BuiltOf}
+use Rattle.build.specs.Core.{RoomFor, nodesOf, BuiltOf, Finishable}
 use Rattle.build.proofs.Grown.{List², grown-distinct, grown-some}
 use Rattle.build.proofs.Laid.{getD-map-of, length-starts}
 use Rattle.build.proofs.Counted.{count-names}
@@ -180,69 +182,57 @@ module _ (ns : List²) (g : Grown ns) (rule : List ℕ → Option ℕ) (id befor
 
 -- ---- the build
 
-module _ (first : Bool) (tab : List ℕ) (rows : List Row) (room : ℕ) (edgeAt edgeN id byte to work edgeN₂ id₂ work₂ : List ℕ)
-    (kn : length edgeN₂ ≡ length edgeN) (ki : length id₂ ≡ length id) (kw : length work₂ ≡ length work) (n : ℕ)
-    (done : RowDone (names (tokensOf tab rows)) (rulesFrom first tab noRule 0 rows) room edgeN₂ id₂ work₂ n) where
-  abbrev ns : List²
-  ns = names (tokensOf tab rows)
-
+module _ (edgeAt edgeN id byte to work : List ℕ) where
   abbrev before : Memory
   before = memory edgeAt edgeN id byte to work
 
-  pub built-full :
-      room < n → (after : Memory) → after ≡ cleared (memory edgeAt edgeN₂ id₂ byte to work₂) → BuiltOf first tab rows room before after NoRoom
-  unfolding cleared
-  built-full h after e =
-      let full : ltb room (length ns) ≡ true = lt-ltb room (length ns) (done .full h) in
-      let same : cleared (memory edgeAt edgeN₂ id₂ byte to work₂) ≡ cleared before =
-      λ i. record {
-        edgeAt = zeroed 0 edgeAt;
-        edgeN = zeroed-same edgeN₂ edgeN kn i;
-        id = zeroed-same id₂ id ki i;
-        byte = zeroed 0 byte;
-        to = zeroed 0 to;
-        work = zeroed-same work₂ work kw i;
-      } in
+  pub finish-ready : (room n : ℕ) → Finishable room before n → n ≤ room → OutReady edgeAt edgeN byte to work n
+  finish-ready room n f fits =
+      let held = f .done .held fits in
+      let count = f .done .count fits in
       record {
-        answered = rw full;
-        left = e ∙ same ∙ sym (ap (λ (t : Bool). cond t (cleared before) (holding (trieGiven first tab rows) before)) full);
+        ready = record {
+          names = f .nodes;
+          links = held .links;
+          bytes = held .bytes;
+          count = count;
+          small = omega (arith, f .roomy .small);
+          room-at = omega (arith, f .roomy .starts);
+          room-byte = omega (arith, f .roomy .bytes);
+          room-to = omega (arith, f .roomy .targets);
+        };
+        past = λ k p. held .past k (omega (arith, count));
       }
 
-  module _ (fits : n ≤ room) where
-    held : Held ns (rulesFrom first tab noRule 0 rows) edgeN₂ id₂ work₂
-    held = done .held fits
+  module _ (first : Bool) (tab : List ℕ) (rows : List Row) (room n : ℕ)
+      (done : RowDone (names (tokensOf tab rows)) (rulesFrom first tab noRule 0 rows) room edgeN id work n) where
+    abbrev ns : List²
+    ns = names (tokensOf tab rows)
 
-    pub built-ready : RoomFor room before → OutReady edgeAt edgeN₂ byte to work₂ n
-    built-ready r =
+    pub built-full : room < n → (after : Memory) → after ≡ cleared before → BuiltOf first tab rows room before after NoRoom
+    built-full h after e =
+        let full : ltb room (length ns) ≡ true = lt-ltb room (length ns) (done .full h) in
         record {
-          ready = record {
-            names = ns;
-            links = held .links;
-            bytes = held .bytes;
-            count = done .count fits;
-            small = omega (arith, r .small);
-            room-at = omega (arith, r .starts);
-            room-byte = omega (arith, r .bytes);
-            room-to = omega (arith, r .targets);
-          };
-          past = λ k p. held .past k (omega (arith, done .count fits));
+          answered = rw full;
+          left = e ∙ sym (ap (λ (t : Bool). cond t (cleared before) (holding (trieGiven first tab rows) before)) full);
         }
 
     pub built-done :
-        (edgeAt′ edgeN′ byte′ to′ work′ : List ℕ) → OutDone ns edgeAt edgeN₂ byte to work₂ edgeAt′ edgeN′ byte′ to′ work′
-        → BuiltOf first tab rows room before (memory edgeAt′ edgeN′ id₂ byte′ to′ work′) (Nodes n)
+        (fits : n ≤ room) (edgeAt′ edgeN′ byte′ to′ work′ : List ℕ) → OutDone ns edgeAt edgeN byte to work edgeAt′ edgeN′ byte′ to′ work′
+        → BuiltOf first tab rows room before (memory edgeAt′ edgeN′ id byte′ to′ work′) (Nodes n)
     unfolding holding lay trieOf
-    built-done edgeAt′ edgeN′ byte′ to′ work′ d =
+    built-done fits edgeAt′ edgeN′ byte′ to′ work′ d =
         let rule = rulesFrom first tab noRule 0 rows in
+        let held = done .held fits in
         let room-left : ltb room (length ns) ≡ false = le-ltb room (length ns) (omega (arith, done .count fits)) in
-        let holds : memory edgeAt′ edgeN′ id₂ byte′ to′ work′ ≡ holding (trieOf rule (tokensOf tab rows)) before =
+        let holds : memory edgeAt′ edgeN′ id byte′ to′ work′ ≡ holding (trieOf rule (tokensOf tab rows)) before =
         λ i. record {
           edgeAt = d .begun i;
-          edgeN = (d .counted ∙ filled-same (countsOf ns ns) edgeN₂ edgeN kn) i;
-          id = ids-filled ns (held .links .grown) rule id₂ id (held .marks) ki i;
+          edgeN = d .counted i;
+          id = ids-filled ns (held .links .grown) rule id id (held .marks) refl i;
           byte = d .written i;
           to = d .led i;
-          work = (d .unlinked ∙ zeroed-same work₂ work kw) i;
+          work = d .unlinked i;
         } in
         record {
           answered = ap Nodes (done .count fits) ∙ sym (ap (λ (t : Bool). cond t NoRoom (Nodes (length ns))) room-left);
@@ -250,3 +240,59 @@ module _ (first : Bool) (tab : List ℕ) (rows : List Row) (room : ℕ) (edgeAt 
               holds ∙ ap (λ t. holding t before) (trie-given first tab rows)
               ∙ sym (ap (λ (t : Bool). cond t (cleared before) (holding (trieGiven first tab rows) before)) room-left);
         }
+
+-- ---- a build leaves the same in other columns of the same lengths
+
+module _ (edgeAt edgeN id byte to work edgeN₂ id₂ work₂ : List ℕ)
+    (kn : length edgeN₂ ≡ length edgeN) (ki : length id₂ ≡ length id) (kw : length work₂ ≡ length work) where
+  abbrev then : Memory
+  then = memory edgeAt edgeN₂ id₂ byte to work₂
+
+  abbrev at-first : Memory
+  at-first = memory edgeAt edgeN id byte to work
+
+  pub room-kept : (room : ℕ) → RoomFor room at-first → RoomFor room then
+  room-kept room r =
+      record {
+        starts = r .starts;
+        counts = omega (arith, r .counts);
+        ids = omega (arith, r .ids);
+        bytes = r .bytes;
+        targets = r .targets;
+        links = omega (arith, r .links);
+        small = r .small;
+      }
+
+  same-cleared : cleared then ≡ cleared at-first
+  unfolding cleared
+  same-cleared =
+      λ i. record {
+        edgeAt = zeroed 0 edgeAt;
+        edgeN = zeroed-same edgeN₂ edgeN kn i;
+        id = zeroed-same id₂ id ki i;
+        byte = zeroed 0 byte;
+        to = zeroed 0 to;
+        work = zeroed-same work₂ work kw i;
+      }
+
+  same-holding : (t : Trie) → holding t then ≡ holding t at-first
+  unfolding holding
+  same-holding t =
+      λ i. record {
+        edgeAt = filled 0 (t .edgeAt) edgeAt;
+        edgeN = filled-same (t .edgeN) edgeN₂ edgeN kn i;
+        id = filled-same (t .id) id₂ id ki i;
+        byte = filled 0 (t .byte) byte;
+        to = filled 0 (t .to) to;
+        work = zeroed-same work₂ work kw i;
+      }
+
+  pub built-kept :
+      (first : Bool) (tab : List ℕ) (rows : List Row) (room : ℕ) (after : Memory) (answer : Built)
+      → BuiltOf first tab rows room then after answer → BuiltOf first tab rows room at-first after answer
+  built-kept first tab rows room after answer b =
+      let t = trieGiven first tab rows in
+      record {
+        answered = b .answered;
+        left = b .left ∙ ap₂ (cond (ltb room (nodesOf tab rows))) same-cleared (same-holding t);
+      }

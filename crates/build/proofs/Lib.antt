@@ -1,4 +1,4 @@
--- The laws of tries and their builds. A layer above cites the first three groups; the last serves this crate's functions.
+-- The laws of tries and their builds. A layer above cites the first three groups; the last serves the functions that enter rows.
 
 -- strings, their places, and names
 pub mod Strings
@@ -16,7 +16,7 @@ pub mod Lookups
 pub mod Rooms
 pub mod Judging
 pub mod Determinacy
--- entering tokens and laying out nodes, step by step
+-- entering tokens and laying out nodes, step by step; `Rowing` and `Filled` also serve a caller that enters rows of its own
 pub mod Linking
 pub mod Seeking
 pub mod Holding

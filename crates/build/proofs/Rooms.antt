@@ -9,10 +9,11 @@ use native.Mathlib.Decide.{decLt}
 use borrow.Author.Tests.{lt-ltb, le-ltb, ltb-false}
 use lib.Dec.{ltb}
 use lib.ListN.{length, getD}
+use Rattle.doubles.specs.Double.{Double}
 use Rattle.refusal.specs.Sizes.{maxRows, maxToken}
 use Rattle.rows.specs.Rows.{Row, tokenOf}
 use Rattle.build.specs.Rules.{tokensOf}
-use Rattle.build.specs.Memory.{Memory, anyBelow, noRoom}
+use Rattle.build.specs.Memory.{Memory, anyBelow, noRoom, noScoredRoom}
 use Rattle.build.specs.Core.{roomOf, RoomFor, nodesOf}
 use Rattle.build.proofs.Named.{names-are, names-few, bytes-few, entered-grows}
 use Rattle.build.proofs.Lookups.{noRow, token-at, length-tokens}
@@ -127,6 +128,21 @@ no-room m n some-node small = go (noRoom n m) refl
             let z : true ≡ false = sym e ∙ fits-all m n (room-for m n (omega arith)) in
             let y : _≡_ {A = ℕ} 0 1 = cc in
             absurd (omega arith)
+
+-- 7 with a score column: the lesser of the two decides
+lesser-below : (a b n : ℕ) → (ltb a n || ltb b n) ≡ ltb (min a b) n
+lesser-below a b n = go (decLt a n) (decLt b n)
+  where
+    go : Dec (a < n) → Dec (b < n) → (ltb a n || ltb b n) ≡ ltb (min a b) n
+    go (yes h) d = rw (lt-ltb a n h, lt-ltb (min a b) n (omega arith))
+    go (no h) (yes k) = rw (le-ltb a n (omega arith), lt-ltb b n k, lt-ltb (min a b) n (omega arith))
+    go (no h) (no k) = rw (le-ltb a n (omega arith), le-ltb b n (omega arith), le-ltb (min a b) n (omega arith))
+
+pub no-scored-room :
+    (m : Memory) (scores : List Double) (n : ℕ) → 1 ≤ n → n ≤ 4_294_967_295 → noScoredRoom n m scores ≡ ltb (min (roomOf m) (length scores)) n
+unfolding noScoredRoom
+no-scored-room m scores n some-node small =
+    ap (λ (t : Bool). t || ltb (length scores) n) (no-room m n some-node small) ∙ lesser-below (roomOf m) (length scores) n
 
 -- ---- how many nodes rows need
 

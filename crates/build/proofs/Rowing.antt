@@ -1,5 +1,5 @@
--- Rows entered one by one. After i rows the columns hold the nodes and ids of those, and what is still to be entered is the rest.
--- Assumes nothing.
+-- Rows entered one by one, wherever they are read from. After i rows the columns hold the nodes and ids of those, and what is still to be
+-- entered is the rest. Assumes nothing.
 use mathlib.Core.Path.{_≡_, refl, sym, ap, _∙_, subst}
 use mathlib.Core.Bool.{Bool, true, false}
 use mathlib.Core.List.{List, [], _∷_, _++_, map}
@@ -11,7 +11,6 @@ use native.Mathlib.Numerals.{add-one}
 use lib.ListN.{length, getD, set, length-set}
 use lib.Seq.{getD-set-same, getD-set-other}
 use Rattle.refusal.specs.Sizes.{noId, maxRows}
-use Rattle.text.specs.Span.{spanOf}
 use Rattle.rows.specs.Rows.{Row, tokenOf}
 use Rattle.build.specs.Names.{place, prefixes, enter, names}
 use Rattle.build.specs.Grown.{root}
@@ -83,47 +82,25 @@ planted edgeN id work room r h id′ work′ p q =
 
 -- where there is no room for the root
 pub roomless :
-    (tokens : List²) (rule : List ℕ → Option ℕ) (room : ℕ) (edgeN id work : List ℕ) → room ≡ 0 → RowDone (names tokens) rule room edgeN id work 1
-roomless tokens rule room edgeN id work e =
+    (tokens : List²) (rule : List ℕ → Option ℕ) (room : ℕ) (edgeN id work : List ℕ) (n : ℕ) → n ≡ 1 → room < n
+    → RowDone (names tokens) rule room edgeN id work n
+roomless tokens rule room edgeN id work n e h =
     record {
       full = λ z. omega (arith, ap length (names-are tokens), entered-grows tokens ([] ∷ []));
       count = λ z. absurd (omega arith);
       held = λ z. absurd (omega arith);
     }
 
--- ---- the rest of the rows
+-- ---- after i of the rows, the rest being still to be entered
 
-abbrev pub restOf : List ℕ → List ℕ → List ℕ → ℕ → List Row
-restOf off len ids i = givenFrom off len ids i (length off - i)
-
-rest-all : (off len ids : List ℕ) → given off len ids ≡ restOf off len ids 0
-rest-all off len ids = ap (givenFrom off len ids 0) (omega arith)
-
-rest-next : (off len ids : List ℕ) (i : ℕ) → i < length off → restOf off len ids i ≡ rowGiven off len ids i ∷ restOf off len ids (i + 1)
-unfolding givenFrom
-rest-next off len ids i h =
-    let e : length off - i ≡ suc (length off - (i + 1)) = omega arith in
-    ap (givenFrom off len ids i) e ∙ ap (λ (k : ℕ). rowGiven off len ids i ∷ givenFrom off len ids k (length off - (i + 1))) (sym (add-one i))
-
-rest-none : (off len ids : List ℕ) (i : ℕ) → i ≡ length off → restOf off len ids i ≡ []
-unfolding givenFrom
-rest-none off len ids i h = let e : length off - i ≡ 0 = omega arith in ap (givenFrom off len ids i) e
-
-value-given : (first : Bool) (off len ids : List ℕ) (i : ℕ) → valueOf first i (rowGiven off len ids i) ≡ valueGiven first ids i
-unfolding valueOf idOfWorth
-value-given true off len ids i = refl
-value-given false off len ids i = refl
-
--- ---- after i rows
-
-pub record Rowed (first : Bool) (tab off len ids : List ℕ) (i : ℕ) (edgeN id work : List ℕ) (n : ℕ) : Type 0 where
+pub record Rowed (first : Bool) (tab : List ℕ) (rows rest : List Row) (i : ℕ) (edgeN id work : List ℕ) (n : ℕ) : Type 0 where
   pub nodes : List²
   pub rule : List ℕ → Option ℕ
   pub held : Held nodes rule edgeN id work
   pub count : n ≡ length nodes
   pub low : first ≡ true → (s : List ℕ) (j : ℕ) → rule s ≡ some j → j < i
-  pub names-on : names (tokensOf tab (given off len ids)) ≡ entered nodes (tokensOf tab (restOf off len ids i))
-  pub rules-on : rulesFrom first tab noRule 0 (given off len ids) ≡ rulesFrom first tab rule i (restOf off len ids i)
+  pub names-on : names (tokensOf tab rows) ≡ entered nodes (tokensOf tab rest)
+  pub rules-on : rulesFrom first tab noRule 0 rows ≡ rulesFrom first tab rule i rest
 
 low-kept : (o : Option ℕ) (i j : ℕ) → ((k : ℕ) → o ≡ some k → k < i) → kept true o i ≡ some j → j < i + 1
 unfolding kept
@@ -140,11 +117,14 @@ marked-low t i rule h (b ∷ s) j e =
     (λ (q : b ∷ s ≡ t → ⊥). omega (arith, h (b ∷ s) j (sym (marked-other true t i rule (b ∷ s) q) ∙ e)))
     (equal? (b ∷ s) t)
 
-module _ (first : Bool) (tab off len ids : List ℕ) where
-  abbrev rows : List Row
-  rows = given off len ids
+-- where the first row of a token gives its id, that is the row's index
+value-first : (first : Bool) (i : ℕ) (row : Row) → first ≡ true → valueOf first i row ≡ i
+unfolding valueOf
+value-first true i row e = refl
+value-first false i row e = let z : _≡_ {A = ℕ} 0 1 = cc in absurd (omega arith)
 
-  pub rowed-start : (edgeN id work : List ℕ) → Held ([] ∷ []) noRule edgeN id work → Rowed first tab off len ids 0 edgeN id work 1
+module _ (first : Bool) (tab : List ℕ) (rows : List Row) where
+  pub rowed-start : (edgeN id work : List ℕ) → Held ([] ∷ []) noRule edgeN id work → Rowed first tab rows rows 0 edgeN id work 1
   rowed-start edgeN id work h =
       record {
         nodes = [] ∷ [];
@@ -152,88 +132,13 @@ module _ (first : Bool) (tab off len ids : List ℕ) where
         held = h;
         count = refl;
         low = λ e s j p. none-some p;
-        names-on = names-are (tokensOf tab rows) ∙ ap (λ (r : List Row). entered ([] ∷ []) (tokensOf tab r)) (rest-all off len ids);
-        rules-on = ap (rulesFrom first tab noRule 0) (rest-all off len ids);
+        names-on = names-are (tokensOf tab rows);
+        rules-on = refl;
       }
 
-  module _ (i : ℕ) (edgeN id work : List ℕ) (n : ℕ) (r : Rowed first tab off len ids i edgeN id work n) where
-    abbrev token : List ℕ
-    token = spanOf tab (getD off i 0) (getD len i 0)
-
-    pub rowed-small : i < maxRows → Unmarked first (r .rule)
+  module _ (rest : List Row) (i : ℕ) (edgeN id work : List ℕ) (n : ℕ) (r : Rowed first tab rows rest i edgeN id work n) where
+    pub rowed-small : i ≤ maxRows → Unmarked first (r .rule)
     rowed-small h e s j p = omega (arith, r .low e s j p)
-
-    names-next :
-        i < length off
-        → names (tokensOf tab rows) ≡ entered (enter (r .nodes) (prefixes [] token)) (tokensOf tab (restOf off len ids (i + 1)))
-    unfolding tokensOf
-    names-next h =
-        r .names-on ∙ ap (λ (x : List Row). entered (r .nodes) (map (tokenOf tab) x)) (rest-next off len ids i h)
-        ∙ entered-one (r .nodes) token (map (tokenOf tab) (restOf off len ids (i + 1)))
-
-    rules-next :
-        i < length off
-        → rulesFrom first tab noRule 0 rows
-        ≡ rulesFrom first tab (marked first token (valueGiven first ids i) (r .rule)) (i + 1) (restOf off len ids (i + 1))
-    unfolding rulesFrom
-    rules-next h =
-        r .rules-on ∙ ap (rulesFrom first tab (r .rule) i) (rest-next off len ids i h)
-        ∙ ap (λ (v : ℕ). rulesFrom first tab (marked first token v (r .rule)) (suc i) (restOf off len ids (i + 1))) (value-given first off len ids i)
-        ∙ ap (λ (k : ℕ). rulesFrom first tab (marked first token (valueGiven first ids i) (r .rule)) k (restOf off len ids (i + 1)))
-        (sym (add-one i))
-
-    low-next :
-        first ≡ true → (s : List ℕ) (j : ℕ) → marked first token (valueGiven first ids i) (r .rule) s ≡ some j → j < i + 1
-    low-next e s j p =
-        marked-low token i (r .rule) (r .low e) s j
-        (sym (ap (λ (f : Bool). marked f token (valueGiven f ids i) (r .rule) s) e) ∙ p)
-
-    module _ (room : ℕ) (edgeN′ id′ work′ : List ℕ) (n′ : ℕ) (h : i < length off)
-        (done : RowDone (enter (r .nodes) (prefixes [] token)) (marked first token (valueGiven first ids i) (r .rule)) room edgeN′ id′ work′ n′) where
-      pub rowed-turn : n′ ≤ room → Rowed first tab off len ids (i + 1) edgeN′ id′ work′ n′
-      rowed-turn fits =
-          record {
-            nodes = enter (r .nodes) (prefixes [] token);
-            rule = marked first token (valueGiven first ids i) (r .rule);
-            held = done .held fits;
-            count = done .count fits;
-            low = low-next;
-            names-on = names-next h;
-            rules-on = rules-next h;
-          }
-
-      pub rowed-full :
-          room < n′ → (edgeN″ id″ work″ : List ℕ)
-          → RowDone (names (tokensOf tab rows)) (rulesFrom first tab noRule 0 rows) room edgeN″ id″ work″ n′
-      rowed-full z edgeN″ id″ work″ =
-          record {
-            full = λ y.
-                omega (
-                  arith,
-                  done .full z,
-                  ap length (names-next h),
-                  entered-grows (tokensOf tab (restOf off len ids (i + 1))) (enter (r .nodes) (prefixes [] token)),
-                );
-            count = λ y. absurd (omega arith);
-            held = λ y. absurd (omega arith);
-          }
-
-    pub rowed-end :
-        (room : ℕ) → n ≤ room → i ≡ length off
-        → RowDone (names (tokensOf tab rows)) (rulesFrom first tab noRule 0 rows) room edgeN id work n
-    unfolding rulesFrom tokensOf
-    rowed-end room fits e =
-        let all : names (tokensOf tab rows) ≡ r .nodes =
-        r .names-on ∙ ap (λ (x : List Row). entered (r .nodes) (map (tokenOf tab) x)) (rest-none off len ids i e) ∙ entered-none (r .nodes) in
-        let rules : rulesFrom first tab noRule 0 rows ≡ r .rule =
-        r .rules-on ∙ ap (rulesFrom first tab (r .rule) i) (rest-none off len ids i e) in
-        record {
-          full = λ z. absurd (omega arith);
-          count = λ z. r .count ∙ ap length (sym all);
-          held = λ z.
-              subst (λ (f : List ℕ → Option ℕ). Held (names (tokensOf tab rows)) f edgeN id work) (sym rules)
-              (subst (λ (x : List²). Held x (r .rule) edgeN id work) (sym all) (r .held));
-        }
 
     pub rowed-enterable : (room : ℕ) → Roomy room edgeN id work → n ≤ room → Enterable edgeN id work room 0 n
     rowed-enterable room roomy fits =
@@ -247,3 +152,101 @@ module _ (first : Bool) (tab off len ids : List ℕ) where
           roomy = roomy;
           fits = fits;
         }
+
+    -- the next row is `row`, and what is left after it is `more`
+    module _ (row : Row) (more : List Row) (next : rest ≡ row ∷ more) where
+      abbrev token : List ℕ
+      token = tokenOf tab row
+
+      abbrev value : ℕ
+      value = valueOf first i row
+
+      abbrev rule-then : List ℕ → Option ℕ
+      rule-then = marked first token value (r .rule)
+
+      names-next : names (tokensOf tab rows) ≡ entered (enter (r .nodes) (prefixes [] token)) (tokensOf tab more)
+      unfolding tokensOf
+      names-next =
+          r .names-on ∙ ap (λ (x : List Row). entered (r .nodes) (map (tokenOf tab) x)) next
+          ∙ entered-one (r .nodes) token (map (tokenOf tab) more)
+
+      rules-next : rulesFrom first tab noRule 0 rows ≡ rulesFrom first tab rule-then (i + 1) more
+      unfolding rulesFrom
+      rules-next =
+          r .rules-on ∙ ap (rulesFrom first tab (r .rule) i) next ∙ ap (λ (k : ℕ). rulesFrom first tab rule-then k more) (sym (add-one i))
+
+      low-next : first ≡ true → (s : List ℕ) (j : ℕ) → rule-then s ≡ some j → j < i + 1
+      low-next e s j p =
+          marked-low token i (r .rule) (r .low e) s j
+          (sym (ap (λ (f : Bool). marked f token value (r .rule) s) e
+          ∙ ap (λ (v : ℕ). marked true token v (r .rule) s) (value-first first i row e)) ∙ p)
+
+      module _ (room : ℕ) (edgeN′ id′ work′ : List ℕ) (n′ : ℕ)
+          (done : RowDone (enter (r .nodes) (prefixes [] token)) rule-then room edgeN′ id′ work′ n′) where
+        pub rowed-turn : n′ ≤ room → Rowed first tab rows more (i + 1) edgeN′ id′ work′ n′
+        rowed-turn fits =
+            record {
+              nodes = enter (r .nodes) (prefixes [] token);
+              rule = rule-then;
+              held = done .held fits;
+              count = done .count fits;
+              low = low-next;
+              names-on = names-next;
+              rules-on = rules-next;
+            }
+
+        -- it found no room
+        pub rowed-full :
+            room < n′ → (edgeN″ id″ work″ : List ℕ)
+            → RowDone (names (tokensOf tab rows)) (rulesFrom first tab noRule 0 rows) room edgeN″ id″ work″ n′
+        rowed-full z edgeN″ id″ work″ =
+            record {
+              full = λ y.
+                  omega (
+                    arith,
+                    done .full z,
+                    ap length names-next,
+                    entered-grows (tokensOf tab more) (enter (r .nodes) (prefixes [] token)),
+                  );
+              count = λ y. absurd (omega arith);
+              held = λ y. absurd (omega arith);
+            }
+
+    pub rowed-end :
+        (room : ℕ) → n ≤ room → rest ≡ []
+        → RowDone (names (tokensOf tab rows)) (rulesFrom first tab noRule 0 rows) room edgeN id work n
+    unfolding rulesFrom tokensOf
+    rowed-end room fits e =
+        let all : names (tokensOf tab rows) ≡ r .nodes =
+        r .names-on ∙ ap (λ (x : List Row). entered (r .nodes) (map (tokenOf tab) x)) e ∙ entered-none (r .nodes) in
+        let rules : rulesFrom first tab noRule 0 rows ≡ r .rule = r .rules-on ∙ ap (rulesFrom first tab (r .rule) i) e in
+        record {
+          full = λ z. absurd (omega arith);
+          count = λ z. r .count ∙ ap length (sym all);
+          held = λ z.
+              subst (λ (f : List ℕ → Option ℕ). Held (names (tokensOf tab rows)) f edgeN id work) (sym rules)
+              (subst (λ (x : List²). Held x (r .rule) edgeN id work) (sym all) (r .held));
+        }
+
+-- ---- the rest of the rows that are given as columns
+
+abbrev pub restOf : List ℕ → List ℕ → List ℕ → ℕ → List Row
+restOf off len ids i = givenFrom off len ids i (length off - i)
+
+pub rest-all : (off len ids : List ℕ) → given off len ids ≡ restOf off len ids 0
+rest-all off len ids = ap (givenFrom off len ids 0) (omega arith)
+
+pub rest-next : (off len ids : List ℕ) (i : ℕ) → i < length off → restOf off len ids i ≡ rowGiven off len ids i ∷ restOf off len ids (i + 1)
+unfolding givenFrom
+rest-next off len ids i h =
+    let e : length off - i ≡ suc (length off - (i + 1)) = omega arith in
+    ap (givenFrom off len ids i) e ∙ ap (λ (k : ℕ). rowGiven off len ids i ∷ givenFrom off len ids k (length off - (i + 1))) (sym (add-one i))
+
+pub rest-none : (off len ids : List ℕ) (i : ℕ) → i ≡ length off → restOf off len ids i ≡ []
+unfolding givenFrom
+rest-none off len ids i h = let e : length off - i ≡ 0 = omega arith in ap (givenFrom off len ids i) e
+
+pub value-given : (first : Bool) (off len ids : List ℕ) (i : ℕ) → valueOf first i (rowGiven off len ids i) ≡ valueGiven first ids i
+unfolding valueOf idOfWorth
+value-given true off len ids i = refl
+value-given false off len ids i = refl

@@ -2,6 +2,7 @@
 use mathlib.Core.Path.{_≡_}
 use mathlib.Core.Bool.{Bool, cond}
 use mathlib.Core.List.{List}
+use mathlib.Core.Option.{Option}
 use Prim.Native.Nat.{ℕ, _+_, _*_, _/_, _≤_, min}
 use lib.Dec.{ltb}
 use lib.ListN.{length}
@@ -10,7 +11,8 @@ use Rattle.build.specs.declared.Built.{Built}
 use Rattle.build.specs.declared.Built.the-variants.{Nodes, NoRoom}
 use Rattle.build.specs.Names.{names}
 use Rattle.build.specs.Rules.{tokensOf}
-use Rattle.build.specs.Given.{trieGiven}
+use Rattle.build.specs.Given.{trieGiven, rulesFrom, noRule}
+use Rattle.build.specs.Held.{RowDone}
 use Rattle.build.specs.Memory.{Memory, cleared, holding}
 
 -- how many nodes the lent columns have room for: a place of each node column, of the edge columns for each but the root, and two work
@@ -42,3 +44,19 @@ builtAnswer room n = cond (ltb room n) NoRoom (Nodes n)
 pub record BuiltOf (first : Bool) (tab : List ℕ) (rows : List Row) (room : ℕ) (before after : Memory) (answer : Built) : Type 0 where
   pub answered : answer ≡ builtAnswer room (nodesOf tab rows)
   pub left : after ≡ cond (ltb room (nodesOf tab rows)) (cleared before) (holding (trieGiven first tab rows) before)
+
+-- ---- the last step
+
+-- rows were entered and made n nodes, and every lent column has room for `room`
+pub record Finishable (room : ℕ) (m : Memory) (n : ℕ) : Type 0 where
+  pub nodes : List (List ℕ)
+  pub rule : List ℕ → Option ℕ
+  pub done : RowDone nodes rule room (m .edgeN) (m .id) (m .work) n
+  pub roomy : RoomFor room m
+
+-- whichever rows these were, their build is done
+pub record Finished (room : ℕ) (before after : Memory) (n : ℕ) (answer : Built) : Type 0 where
+  pub built :
+      (first : Bool) (tab : List ℕ) (rows : List Row)
+      → RowDone (names (tokensOf tab rows)) (rulesFrom first tab noRule 0 rows) room (before .edgeN) (before .id) (before .work) n
+      → BuiltOf first tab rows room before after answer

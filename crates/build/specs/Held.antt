@@ -151,3 +151,8 @@ pub record Planted (edgeN id work : List ℕ) (room : ℕ) : Type 0 where
   pub roomy : Roomy room edgeN id work
   pub some-room : 1 ≤ room
   pub held : Held ([] ∷ []) noRule edgeN id work
+
+-- the root is entered: one node, which is more than `room` where there is no room
+pub record Started (edgeN id work : List ℕ) (room n : ℕ) : Type 0 where
+  pub one : n ≡ 1
+  pub planted : 1 ≤ room → Planted edgeN id work room

@@ -1,8 +1,7 @@
 // For callers that have judged the rows: the room in the lent columns, and the build of one trie in them.
 use crate::Built;
-use crate::lay::lay_out;
+use crate::steps::finish;
 use crate::vocabulary::enter_rows;
-use crate::zero::clear;
 ghost use mathlib.Core.Path.{_≡_};
 ghost use Prim.Native.Nat.{min};
 ghost use Rattle.build.specs.Given.{given};
@@ -62,10 +61,5 @@ pub fn build(
         r ⌝ }
 {
     let n = enter_rows(first, tab, off, len, ids, edge_n, id, work, room);
-    if room < n {
-        clear(edge_at, edge_n, id, byte, to, work);
-        return Built::NoRoom;
-    }
-    lay_out(edge_at, edge_n, byte, to, work, n);
-    Built::Nodes(n)
+    finish(edge_at, edge_n, id, byte, to, work, room, n)
 }

@@ -2,7 +2,8 @@
 pub mod core;
 mod lay;
 mod links;
-mod tokens;
+pub mod steps;
+pub mod tokens;
 mod vocabulary;
 pub mod zero;
 

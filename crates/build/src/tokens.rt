@@ -9,7 +9,7 @@ ghost use Rattle.text.specs.Span.{spanOf};
 ghost use Rattle.build.specs.Held.{Enterable, TokenEntered, markedIds, RowEntered};
 
 // The token of `len` bytes at `off`, from the root on: its last node, and how many nodes there are. The node is `room` where no room is left.
-pub fn enter(
+fn enter(
     tab: &[u8],
     off: usize,
     len: usize,
@@ -37,7 +37,7 @@ pub fn enter(
 }
 
 // The id v for `node`: always, or where the first id is kept only if it has none yet.
-pub fn mark(id: &mut [u32], node: usize, first: bool, v: u32)
+fn mark(id: &mut [u32], node: usize, first: bool, v: u32)
     requires { ⌜ node < length (now id) ⌝ }
     ensures { λ _. ⌜ now (id .exit) ≡ markedIds first (now (id .entry)) node v ⌝ }
 {

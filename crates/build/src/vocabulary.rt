@@ -1,27 +1,16 @@
 // The rows entered in order. Unigram keeps a token's first row and gives it the row's index, WordPiece its last and the id that the row has.
-use crate::NO_ID;
+use crate::steps::start;
 use crate::tokens::enter_token;
-use crate::zero::zero16;
-use crate::zero::zero32;
 ghost use mathlib.Core.Path.{_≡_};
 ghost use mathlib.Core.Bool.{false};
-ghost use Prim.Native.Nat.{_≤_, _<_};
-ghost use lib.ListN.{length, getD, set};
-ghost use Rattle.refusal.specs.Sizes.{noId, maxRows};
+ghost use Prim.Native.Nat.{_<_};
+ghost use lib.ListN.{length, getD};
+ghost use Rattle.refusal.specs.Sizes.{maxRows};
 ghost use Rattle.text.specs.Span.{spanOf};
 ghost use Rattle.build.specs.Names.{names};
 ghost use Rattle.build.specs.Rules.{tokensOf};
 ghost use Rattle.build.specs.Given.{given, rulesFrom, noRule};
-ghost use Rattle.build.specs.Held.{RowEntered, RowDone, Judged, valueGiven, RowReady, Roomy, Ready, Planted};
-
-// The root, alone: it has no id and no child.
-fn plant(id: &mut [u32], work: &mut [u32])
-    requires { ⌜ (0 < length (now id)) × (0 < length (now work)) ⌝ }
-    ensures { λ _. ⌜ (now (id .exit) ≡ set (now (id .entry)) 0 noId) × (now (work .exit) ≡ set (now (work .entry)) 0 0) ⌝ }
-{
-    id[0] = NO_ID;
-    work[0] = 0;
-}
+ghost use Rattle.build.specs.Held.{RowEntered, RowDone, Judged, valueGiven, RowReady, Roomy, Planted};
 
 // The id of row i.
 fn value(first: bool, ids: &[u32], i: usize) -> u32
@@ -100,32 +89,7 @@ fn enter_on(
     n
 }
 
-// The same into columns that are zero; the root needs room too.
-fn enter_zeroed(
-    first: bool,
-    tab: &[u8],
-    off: &[u32],
-    len: &[u32],
-    ids: &[u32],
-    edge_n: &mut [u16],
-    id: &mut [u32],
-    work: &mut [u32],
-    room: usize,
-) -> usize
-    requires { ⌜ Judged first (now tab) (now off) (now len) (now ids) × Ready (now «edge_n») (now id) (now work) room ⌝ }
-    ensures { λ r.
-        ⌜ RowDone (names (tokensOf (now (tab .entry)) (given (now (off .entry)) (now (len .entry)) (now (ids .entry)))))
-        (rulesFrom first (now (tab .entry)) noRule 0 (given (now (off .entry)) (now (len .entry)) (now (ids .entry))))
-        room (now («edge_n» .exit)) (now (id .exit)) (now (work .exit)) r ⌝ }
-{
-    if room == 0 {
-        return 1;
-    }
-    plant(id, work);
-    enter_on(first, tab, off, len, ids, edge_n, id, work, room)
-}
-
-// The same into columns that may hold anything.
+// The same into columns that may hold anything. The root needs room too.
 pub fn enter_rows(
     first: bool,
     tab: &[u8],
@@ -143,7 +107,9 @@ pub fn enter_rows(
         (rulesFrom first (now (tab .entry)) noRule 0 (given (now (off .entry)) (now (len .entry)) (now (ids .entry))))
         room (now («edge_n» .exit)) (now (id .exit)) (now (work .exit)) r ⌝ }
 {
-    zero16(edge_n);
-    zero32(id);
-    enter_zeroed(first, tab, off, len, ids, edge_n, id, work, room)
+    let n = start(edge_n, id, work, room);
+    if room < n {
+        return n;
+    }
+    enter_on(first, tab, off, len, ids, edge_n, id, work, room)
 }

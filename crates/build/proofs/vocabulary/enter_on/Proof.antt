@@ -1,22 +1,23 @@
 -- `build::vocabulary::enter_on` meets its contract. The loop's invariant: the first i rows are entered. The measure is what is left of them.
 -- Assumes nothing.
-use mathlib.Core.Path.{refl, _∙_}
-use mathlib.Core.List.{List, []}
-use Prim.Native.Nat.{ℕ, _-_, _≤_}
+use mathlib.Core.Path.{_≡_, refl, sym, _∙_, subst}
+use mathlib.Core.List.{List, [], _∷_}
+use Prim.Native.Nat.{ℕ, _+_, _-_, _≤_}
 use native.Mathlib.Omega.{arith}
-use lib.ListN.{length, getD}
-use Rattle.text.specs.Span.{spanOf}
+use lib.ListN.{length}
+use Rattle.rows.specs.Rows.{Row, tokenOf}
 use Rattle.build.specs.Names.{prefixes, enter}
-use Rattle.build.specs.Given.{marked}
-use Rattle.build.specs.Held.{RowDone, valueGiven}
+use Rattle.build.specs.Given.{rowGiven, given, valueOf, marked}
+use Rattle.build.specs.Held.{RowDone}
 use Rattle.build.proofs.Entering.{Kept, roomy-kept}
-use Rattle.build.proofs.Rowing.{Rowed, rowed-start, rowed-small, rowed-turn, rowed-full, rowed-end, rowed-enterable}
+use Rattle.build.proofs.Marking.{row-valued}
+use Rattle.build.proofs.Rowing.{Rowed, rowed-start, rowed-small, rowed-turn, rowed-full, rowed-end, rowed-enterable, restOf, rest-all, rest-next, rest-none, value-given}
 use Rattle.build.proofs.vocabulary.enter_on.Statement.{statement}
 use Rattle.build.proofs.vocabulary.enter_on.Tie as tie
 
 abbrev Inv-loop : tie.InvT-loop
 Inv-loop first tab off len ids edge-n₀ id₀ work₀ room n₀ i₀ edge-n id work n i =
-    (i ≤ length off) × (n ≤ room) × Kept edge-n₀ id₀ work₀ edge-n id work × Rowed first tab off len ids i edge-n id work n
+    (i ≤ length off) × (n ≤ room) × Kept edge-n₀ id₀ work₀ edge-n id work × Rowed first tab (given off len ids) (restOf off len ids i) i edge-n id work n
 
 abbrev μ-loop : tie.MeasureT-loop
 μ-loop first tab off len ids edge-n₀ id₀ work₀ room n₀ i₀ edge-n id work n i = length off - i
@@ -35,8 +36,27 @@ start c = let k = columns c .before .before in k .before .before
 abbrev entry : Head → tie.Start Inv-loop μ-loop
 entry h = start (h .before)
 
+-- the rows, and those that are not entered yet
+
+abbrev all : Head → List Row
+all h = let a = entry h .args in given (a .off .now) (a .len .now) (a .ids .now)
+
+abbrev rest : Head → List Row
+rest h = let a = entry h .args in restOf (a .off .now) (a .len .now) (a .ids .now) (h .loop .i)
+
 abbrev turn : tie.After-enter-row-arg3 Inv-loop μ-loop → tie.In-loop Inv-loop μ-loop
 turn c = let p = c .before .before in p .before
+
+-- row i, and those after it
+next :
+    (t : tie.In-loop Inv-loop μ-loop)
+    → (let h = t .before in
+    let a = entry h .args in
+    rest h ≡ rowGiven (a .off .now) (a .len .now) (a .ids .now) (h .loop .i) ∷ restOf (a .off .now) (a .len .now) (a .ids .now) (h .loop .i + 1))
+next t =
+    let h = t .before in
+    let a = entry h .args in
+    rest-next (a .off .now) (a .len .now) (a .ids .now) (h .loop .i) (t .loop-test .taken)
 
 abbrev id-back : tie.After-slice-known6 Inv-loop μ-loop → tie.After-slice-known5 Inv-loop μ-loop
 id-back c = c .before .before
@@ -71,19 +91,19 @@ row :
     (c : tie.After-enter-row Inv-loop μ-loop)
     → (let h = turn (c .before) .before in
     let a = entry h .args in
-    let i = h .loop .i in
     let r = h .loop .inv .3 in
-    let t = spanOf (a .tab .now) (getD (a .off .now) i 0) (getD (a .len .now) i 0) in
-    RowDone (enter (r .nodes) (prefixes [] t)) (marked (a .first) t (valueGiven (a .first) (a .ids .now) i) (r .rule)) (a .room) (edges c)
+    let row = rowGiven (a .off .now) (a .len .now) (a .ids .now) (h .loop .i) in
+    let t = tokenOf (a .tab .now) row in
+    RowDone (enter (r .nodes) (prefixes [] t)) (marked (a .first) t (valueOf (a .first) (h .loop .i) row) (r .rule)) (a .room) (edges c)
     (marks c) (works c) (c .enter-row .result))
 row c =
     let t = turn (c .before) in
     let h = t .before in
     let a = entry h .args in
     let r = h .loop .inv .3 in
-    c .enter-row .ensures .entered (r .nodes) (r .rule) (r .held) (r .count)
-    (rowed-small (a .first) (a .tab .now) (a .off .now) (a .len .now) (a .ids .now) (h .loop .i) (h .loop .edge-n) (h .loop .id) (h .loop .work)
-    (h .loop .n) r (omega (arith, t .loop-test .taken, entry h .pre .0 .few)))
+    row-valued (sym (value-given (a .first) (a .off .now) (a .len .now) (a .ids .now) (h .loop .i))) (c .enter-row .ensures) .entered (r .nodes)
+    (r .rule) (r .held) (r .count)
+    (rowed-small (a .first) (a .tab .now) (all h) (rest h) (h .loop .i) (h .loop .edge-n) (h .loop .id) (h .loop .work) (h .loop .n) r (omega (arith, t .loop-test .taken, entry h .pre .0 .few)))
 
 loop-holds : tie.Need-loop-holds Inv-loop μ-loop
 loop-holds c =
@@ -92,7 +112,11 @@ loop-holds c =
       omega arith,
       s .pre .1 .some-room,
       record { nodes = refl; ids = refl; links = refl },
-      rowed-start (a .first) (a .tab .now) (a .off .now) (a .len .now) (a .ids .now) (a .edge-n .now) (a .id .now) (a .work .now) (s .pre .1 .held),
+      subst
+          (λ (rest : List Row). Rowed (a .first) (a .tab .now) (given (a .off .now) (a .len .now) (a .ids .now)) rest 0 (a .edge-n .now) (a .id .now) (a .work .now) 1)
+          (rest-all (a .off .now) (a .len .now) (a .ids .now))
+          (rowed-start (a .first) (a .tab .now) (given (a .off .now) (a .len .now) (a .ids .now)) (a .edge-n .now) (a .id .now) (a .work .now)
+          (s .pre .1 .held)),
     )
 
 enter-row-requires : tie.Need-enter-row-requires Inv-loop μ-loop
@@ -105,8 +129,7 @@ enter-row-requires c κs =
       judged = p .0;
       there = t .loop-test .taken;
       enterable =
-          rowed-enterable (a .first) (a .tab .now) (a .off .now) (a .len .now) (a .ids .now) (h .loop .i) (h .loop .edge-n) (h .loop .id)
-          (h .loop .work) (h .loop .n) (h .loop .inv .3) (a .room)
+          rowed-enterable (a .first) (a .tab .now) (all h) (rest h) (h .loop .i) (h .loop .edge-n) (h .loop .id) (h .loop .work) (h .loop .n) (h .loop .inv .3) (a .room)
           (roomy-kept (a .room) (a .edge-n .now) (a .id .now) (a .work .now) (h .loop .edge-n) (h .loop .id) (h .loop .work) (h .loop .inv .2)
           (p .1 .roomy))
           (h .loop .inv .1);
@@ -127,8 +150,9 @@ returns c =
     let t = turn (f .before) in
     let h = t .before in
     let a = entry h .args in
-    rowed-full (a .first) (a .tab .now) (a .off .now) (a .len .now) (a .ids .now) (h .loop .i) (h .loop .edge-n) (h .loop .id) (h .loop .work)
-    (h .loop .n) (h .loop .inv .3) (a .room) (edges f) (marks f) (works f) (f .enter-row .result) (t .loop-test .taken) (row f) (c .if1 .taken)
+    rowed-full (a .first) (a .tab .now) (all h) (rest h) (h .loop .i) (h .loop .edge-n) (h .loop .id) (h .loop .work) (h .loop .n)
+    (h .loop .inv .3) (rowGiven (a .off .now) (a .len .now) (a .ids .now) (h .loop .i)) _ (next t) (a .room) (edges f) (marks f) (works f)
+    (f .enter-row .result) (row f) (c .if1 .taken)
     (edges f) (marks f) (works f)
 
 add-i : tie.Need-add-i Inv-loop μ-loop
@@ -146,8 +170,9 @@ loop-again c =
       omega (arith, t .loop-test .taken),
       c .if1 .left,
       kept f,
-      rowed-turn (a .first) (a .tab .now) (a .off .now) (a .len .now) (a .ids .now) (h .loop .i) (h .loop .edge-n) (h .loop .id) (h .loop .work)
-          (h .loop .n) (h .loop .inv .3) (a .room) (edges f) (marks f) (works f) (f .enter-row .result) (t .loop-test .taken) (row f) (c .if1 .left),
+      rowed-turn (a .first) (a .tab .now) (all h) (rest h) (h .loop .i) (h .loop .edge-n) (h .loop .id) (h .loop .work) (h .loop .n)
+          (h .loop .inv .3) (rowGiven (a .off .now) (a .len .now) (a .ids .now) (h .loop .i)) _ (next t) (a .room) (edges f) (marks f) (works f)
+          (f .enter-row .result) (row f) (c .if1 .left),
     )
 
 same-length-4 : tie.Need-same-length-4 Inv-loop μ-loop
@@ -163,8 +188,9 @@ returns-2 : tie.Need-returns-2 Inv-loop μ-loop
 returns-2 c =
     let h = c .before in
     let a = entry h .args in
-    rowed-end (a .first) (a .tab .now) (a .off .now) (a .len .now) (a .ids .now) (h .loop .i) (h .loop .edge-n) (h .loop .id) (h .loop .work)
-    (h .loop .n) (h .loop .inv .3) (a .room) (h .loop .inv .1) (omega (arith, c .loop-test .left, h .loop .inv .0))
+    rowed-end (a .first) (a .tab .now) (all h) (rest h) (h .loop .i) (h .loop .edge-n) (h .loop .id) (h .loop .work) (h .loop .n)
+    (h .loop .inv .3) (a .room) (h .loop .inv .1)
+    (rest-none (a .off .now) (a .len .now) (a .ids .now) (h .loop .i) (omega (arith, c .loop-test .left, h .loop .inv .0)))
 
 pub enter-on-spec : {M : Type 1} → statement M
 enter-on-spec =

@@ -1,45 +1,34 @@
--- `build::vocabulary::enter_rows` meets its contract: in columns made zero the rows may be entered. Assumes nothing.
+-- `build::vocabulary::enter_rows` meets its contract: the root is entered, and the rows from there on. Assumes nothing.
+use native.Mathlib.Omega.{arith}
 use borrow.Author.Needs.{needs}
-use Rattle.build.proofs.Filled.{ready-zeroed}
+use Rattle.build.specs.Rules.{tokensOf}
+use Rattle.build.specs.Given.{given, rulesFrom, noRule}
+use Rattle.build.proofs.Rowing.{roomless}
 use Rattle.build.proofs.vocabulary.enter_rows.Statement.{statement}
 use Rattle.build.proofs.vocabulary.enter_rows.Tie as tie
 
 -- ---- the ways back
 
-abbrev lent : tie.After-enter-zeroed-arg3 → tie.After-id
-lent c = let k = c .before .before in k .before .before
+abbrev started : tie.After-slice-known6 → tie.After-start
+started c =
+    let k = c .before .before in
+    let k₁ = k .before .before in
+    k₁ .before .before
 
-abbrev ids-zero : tie.After-enter-zeroed-arg3 → tie.After-zero32
-ids-zero c = lent c .before
+abbrev entry : tie.After-start → tie.Start
+entry c =
+    let k = c .before .before in
+    let k₁ = k .before .before in
+    let k₂ = k₁ .before .before in
+    let k₃ = k₂ .before .before in
+    let k₄ = k₃ .before .before in
+    k₄ .before
 
-abbrev counts-zero : tie.After-zero32 → tie.After-zero16
-counts-zero c = let k = c .before .before in k .before .before
+abbrev fitting : tie.After-enter-on-arg3 → tie.Else1
+fitting c = let k = c .before .before in k .before
 
-abbrev known : tie.After-zero16 → tie.After-slice-known
-known c = let k = c .before .before in k .before .before
-
-abbrev columns : tie.After-slice-known → tie.After-shared-slice-known
-columns c = let k = c .before .before in k .before .before
-
-abbrev entry : tie.After-zero16 → tie.Start
-entry c = columns (known c) .before
-
-zero16-requires : tie.Need-zero16-requires
-zero16-requires c κs = search needs
-
-zero32-requires : tie.Need-zero32-requires
-zero32-requires c κs = search needs
-
-enter-zeroed-requires : tie.Need-enter-zeroed-requires
-enter-zeroed-requires c κs =
-    let i = ids-zero c in
-    let e = counts-zero i in
-    let s = entry e in
-    let a = s .args in (
-      s .pre .0,
-      ready-zeroed (a .room) (a .edge-n .now) (a .id .now) (a .work .now) (e .zero16 .last .0) (i .zero32 .last .0) (s .pre .1)
-          (e .zero16 .ensures) (i .zero32 .ensures),
-    )
+start-requires : tie.Need-start-requires
+start-requires c κs = search needs
 
 same-length : tie.Need-same-length
 same-length c = search needs
@@ -51,16 +40,44 @@ same-length-3 : tie.Need-same-length-3
 same-length-3 c = search needs
 
 returns : tie.Need-returns
-returns c = search needs
+returns c =
+    let f = started (c .before) in
+    let a = entry f .args in
+    let rows = given (a .off .now) (a .len .now) (a .ids .now) in
+    let l = f .start .last in
+    roomless (tokensOf (a .tab .now) rows) (rulesFrom (a .first) (a .tab .now) noRule 0 rows) (a .room) (l .0) (l .1 .0) (l .1 .1 .0)
+    (f .start .result) (f .start .ensures .one) (c .if1 .taken)
+
+enter-on-requires : tie.Need-enter-on-requires
+enter-on-requires c κs =
+    let b = fitting c in
+    let f = started (b .before) in
+    let s = entry f in
+    (s .pre .0, f .start .ensures .planted (omega (arith, b .if1 .left, f .start .ensures .one)))
+
+same-length-4 : tie.Need-same-length-4
+same-length-4 c = search needs
+
+same-length-5 : tie.Need-same-length-5
+same-length-5 c = search needs
+
+same-length-6 : tie.Need-same-length-6
+same-length-6 c = search needs
+
+returns-2 : tie.Need-returns-2
+returns-2 c = search needs
 
 pub enter-rows-spec : {M : Type 1} → statement M
 enter-rows-spec =
     tie.close
     (tie.spec
-    zero16-requires
-    zero32-requires
-    enter-zeroed-requires
+    start-requires
     same-length
     same-length-2
     same-length-3
-    returns)
+    returns
+    enter-on-requires
+    same-length-4
+    same-length-5
+    same-length-6
+    returns-2)

@@ -1,0 +1,136 @@
+-- `build::steps::finish` meets its contract: the nodes are laid out, or all is zero where they had no room. Assumes nothing.
+use borrow.Author.Needs.{needs}
+use Rattle.build.specs.Names.{names}
+use Rattle.build.specs.Rules.{tokensOf}
+use Rattle.build.specs.Memory.{memory}
+use Rattle.build.proofs.Filled.{finish-ready, built-full, built-done}
+use Rattle.build.proofs.steps.finish.Statement.{statement}
+use Rattle.build.proofs.steps.finish.Tie as tie
+
+-- ---- the ways back
+
+abbrev entry : tie.After-slice-known6 → tie.Start
+entry c =
+    let k = c .before .before in
+    let k₁ = k .before .before in
+    k₁ .before .before
+
+abbrev cleared-all : tie.After-slice-known12 → tie.After-clear
+cleared-all c =
+    let k = c .before .before in
+    let k₁ = k .before .before in
+    let k₂ = k₁ .before .before in
+    let k₃ = k₂ .before .before in
+    let k₄ = k₃ .before .before in
+    k₄ .before .before
+
+abbrev full : tie.After-clear → tie.Then1
+full c =
+    let k = c .before .before in
+    let k₁ = k .before .before in
+    let k₂ = k₁ .before .before in
+    k₂ .before
+
+abbrev laid : tie.After-slice-known17 → tie.After-lay-out
+laid c =
+    let k = c .before .before in
+    let k₁ = k .before .before in
+    let k₂ = k₁ .before .before in
+    let k₃ = k₂ .before .before in
+    k₃ .before .before
+
+abbrev fitting : tie.After-lay-out-arg5 → tie.Else1
+fitting c =
+    let k = c .before .before in
+    let k₁ = k .before .before in
+    k₁ .before
+
+clear-requires : tie.Need-clear-requires
+clear-requires c κs = search needs
+
+same-length : tie.Need-same-length
+same-length c = search needs
+
+same-length-2 : tie.Need-same-length-2
+same-length-2 c = search needs
+
+same-length-3 : tie.Need-same-length-3
+same-length-3 c = search needs
+
+same-length-4 : tie.Need-same-length-4
+same-length-4 c = search needs
+
+same-length-5 : tie.Need-same-length-5
+same-length-5 c = search needs
+
+same-length-6 : tie.Need-same-length-6
+same-length-6 c = search needs
+
+returns : tie.Need-returns
+returns c =
+    let k = cleared-all c in
+    let b = full k in
+    let a = entry (b .before) .args in
+    record {
+      built = λ first tab rows done.
+          built-full (a .edge-at .now) (a .edge-n .now) (a .id .now) (a .byte .now) (a .to .now) (a .work .now) first tab rows (a .room) (a .n) done
+          (b .if1 .taken)
+          (memory (k .clear .last .0) (k .clear .last .1 .0) (k .clear .last .1 .1 .0) (k .clear .last .1 .1 .1 .0) (k .clear .last .1 .1 .1 .1 .0)
+          (k .clear .last .1 .1 .1 .1 .1 .0)) (k .clear .ensures);
+    }
+
+lay-out-requires : tie.Need-lay-out-requires
+lay-out-requires c κs =
+    let b = fitting c in
+    let s = entry (b .before) in
+    let a = s .args in
+    finish-ready (a .edge-at .now) (a .edge-n .now) (a .id .now) (a .byte .now) (a .to .now) (a .work .now) (a .room) (a .n) (s .pre) (b .if1 .left)
+
+same-length-7 : tie.Need-same-length-7
+same-length-7 c = search needs
+
+same-length-8 : tie.Need-same-length-8
+same-length-8 c = search needs
+
+same-length-9 : tie.Need-same-length-9
+same-length-9 c = search needs
+
+same-length-10 : tie.Need-same-length-10
+same-length-10 c = search needs
+
+same-length-11 : tie.Need-same-length-11
+same-length-11 c = search needs
+
+returns-2 : tie.Need-returns-2
+returns-2 c =
+    let o = laid c in
+    let b = fitting (o .before) in
+    let a = entry (b .before) .args in
+    record {
+      built = λ first tab rows done.
+          let h = done .held (b .if1 .left) in
+          built-done (a .edge-at .now) (a .edge-n .now) (a .id .now) (a .byte .now) (a .to .now) (a .work .now) first tab rows (a .room) (a .n) done
+          (b .if1 .left) (o .lay-out .last .0) (o .lay-out .last .1 .0) (o .lay-out .last .1 .1 .0) (o .lay-out .last .1 .1 .1 .0)
+          (o .lay-out .last .1 .1 .1 .1 .0)
+          (o .lay-out .ensures .laid (names (tokensOf tab rows)) (h .links) (h .bytes) (done .count (b .if1 .left)));
+    }
+
+pub finish-spec : {M : Type 1} → statement M
+finish-spec =
+    tie.close
+    (tie.spec
+    clear-requires
+    same-length
+    same-length-2
+    same-length-3
+    same-length-4
+    same-length-5
+    same-length-6
+    returns
+    lay-out-requires
+    same-length-7
+    same-length-8
+    same-length-9
+    same-length-10
+    same-length-11
+    returns-2)

@@ -1,0 +1,134 @@
+-- The header's tests: each way through the code, and what it says of the definitions. Assumes nothing.
+use mathlib.Core.Path.{_≡_, refl, sym, ap, _∙_}
+use mathlib.Core.Bool.{Bool, true, false, _&&_, _||_, cond, or-true}
+use mathlib.Core.List.{List}
+use mathlib.Core.Option.{Option, none, some}
+use Prim.Native.Nat.{ℕ, _+_, _*_, _≤_, _<_}
+use native.Mathlib.Omega.{arith}
+use borrow.Author.Tests.{le-leb, leb-true, eq-eqb, ne-eqb, eqb-true, lt-leb, lt-ltb, le-ltb, ltb-false}
+use lib.Dec.{leb, eqb, ltb}
+use lib.ListN.{length}
+use Rattle.refusal.specs.Sizes.{maxRows, maxTable, maxPrefix, above}
+use Rattle.trie.specs.Sound.{every}
+use Rattle.trie.proofs.Every as tests
+use Rattle.rows.specs.declared.Kind.{Kind}
+use Rattle.rows.specs.declared.Kind.the-variants.{Unigram, WordPiece}
+use Rattle.build.proofs.Rooms.{or-false}
+use Rattle.pack.specs.Pack.{Header, word, headerOf, laidOut, kindLaidOut, kindOf}
+use Rattle.pack.specs.Reading.{rowStart}
+
+-- ---- where the parts stand
+
+module _ (bytes : List ℕ) (h : Header) where
+  module _ (long : 36 ≤ length bytes) where
+    pub wrong-rows : (h .rowsOff ≡ 36 → ⊥) → false ≡ laidOut bytes h
+    unfolding laidOut
+    wrong-rows n = rw (le-leb 36 (length bytes) long, ne-eqb (h .rowsOff) 36 n)
+
+    module _ (rows : h .rowsOff ≡ 36) where
+      pub wrong-strings : (h .stringsOff ≡ 36 + 16 * h .rows → ⊥) → false ≡ laidOut bytes h
+      unfolding laidOut
+      wrong-strings n = rw (le-leb 36 (length bytes) long, eq-eqb (h .rowsOff) 36 rows, ne-eqb (h .stringsOff) (36 + 16 * h .rows) n)
+
+      pub right-end :
+          h .stringsOff ≡ 36 + 16 * h .rows → eqb (36 + 16 * h .rows + h .stringsLen) (length bytes) ≡ laidOut bytes h
+      unfolding laidOut
+      right-end e =
+          rw (le-leb 36 (length bytes) long, eq-eqb (h .rowsOff) 36 rows, eq-eqb (h .stringsOff) (36 + 16 * h .rows) e)
+          (ap (λ (s : ℕ). eqb (s + h .stringsLen) (length bytes)) (sym e))
+
+  pub too-short : length bytes < 36 → laidOut bytes h ≡ false
+  unfolding laidOut
+  too-short l = rw (lt-leb 36 (length bytes) l)
+
+  -- what a right layout says
+  module _ (laid : laidOut bytes h ≡ true) where
+    abbrev long : Bool
+    long = leb 36 (length bytes)
+
+    abbrev rows : Bool
+    rows = eqb (h .rowsOff) 36
+
+    abbrev strings : Bool
+    strings = eqb (h .stringsOff) (36 + 16 * h .rows)
+
+    abbrev ends : Bool
+    ends = eqb (h .stringsOff + h .stringsLen) (length bytes)
+
+    all : (long && rows && strings && ends) ≡ true
+    unfolding laidOut
+    all = laid
+
+    pub strings-follow : h .stringsOff ≡ 36 + 16 * h .rows
+    strings-follow = eqb-true (h .stringsOff) (36 + 16 * h .rows) (tests.second (long && rows) strings (tests.first (long && rows && strings) ends all))
+
+    pub strings-end : h .stringsOff + h .stringsLen ≡ length bytes
+    strings-end = eqb-true (h .stringsOff + h .stringsLen) (length bytes) (tests.second (long && rows && strings) ends all)
+
+    pub rows-inside : rowStart (h .rows) ≤ length bytes
+    rows-inside = omega (arith, strings-follow, strings-end)
+
+  -- ---- the kind
+
+  pub kind-bare : {b : Bool} → b ≡ (eqb (h .maxChars) 0 && eqb (h .prefixOff) 0 && eqb (h .prefixLen) 0) → h .kind ≡ 1 → cond b (some Unigram) none ≡ kindLaidOut bytes h
+  unfolding kindLaidOut
+  kind-bare e k = rw (eq-eqb (h .kind) 1 k) (ap (λ (b : Bool). cond b (some Unigram) none) e)
+
+  module _ (other : h .kind ≡ 1 → ⊥) where
+    pub kind-none : (h .kind ≡ 2 → ⊥) → none ≡ kindLaidOut bytes h
+    unfolding kindLaidOut
+    kind-none k = rw (ne-eqb (h .kind) 1 other, ne-eqb (h .kind) 2 k)
+
+    pub kind-padded :
+        {b : Bool} → b ≡ every (h .rows) (λ i. eqb (word bytes (36 + 16 * i + 12)) 0) → h .kind ≡ 2
+        → cond b (some WordPiece) none ≡ kindLaidOut bytes h
+    unfolding kindLaidOut
+    kind-padded e k = rw (ne-eqb (h .kind) 1 other, eq-eqb (h .kind) 2 k) (ap (λ (b : Bool). cond b (some WordPiece) none) e)
+
+-- ---- the file's own header
+
+module _ (bytes : List ℕ) where
+  pub kind-wrong : laidOut bytes (headerOf bytes) ≡ false → kindOf bytes ≡ none
+  unfolding kindOf
+  kind-wrong e = rw (e, kindOf)
+
+  pub kind-right : laidOut bytes (headerOf bytes) ≡ true → kindOf bytes ≡ kindLaidOut bytes (headerOf bytes)
+  unfolding kindOf
+  kind-right e = rw (e, kindOf)
+
+  pub kind-laid : {kind : Kind} → kindOf bytes ≡ some kind → laidOut bytes (headerOf bytes) ≡ true
+  kind-laid {kind = kind} e = go (laidOut bytes (headerOf bytes)) refl
+    where
+      go : (b : Bool) → laidOut bytes (headerOf bytes) ≡ b → b ≡ true
+      go true p = refl
+      go false p = let z : none ≡ some kind = sym (kind-wrong p) ∙ e in cc
+
+-- ---- the sizes
+
+module _ (h : Header) where
+  abbrev pub large : Bool
+  large = above maxRows (h .rows) || above maxTable (h .stringsLen) || above maxPrefix (h .prefixLen)
+
+  pub many-rows : maxRows < h .rows → true ≡ large
+  many-rows l = rw (lt-ltb maxRows (h .rows) l)
+
+  module _ (few : h .rows ≤ maxRows) where
+    pub large-table : maxTable < h .stringsLen → true ≡ large
+    large-table l = rw (le-ltb maxRows (h .rows) few, lt-ltb maxTable (h .stringsLen) l)
+
+    pub by-prefix : h .stringsLen ≤ maxTable → ltb maxPrefix (h .prefixLen) ≡ large
+    by-prefix l = rw (le-ltb maxRows (h .rows) few, le-ltb maxTable (h .stringsLen) l)
+
+  -- what is known where none is
+  module _ (fits : large ≡ false) where
+    tested : (above maxRows (h .rows) || above maxTable (h .stringsLen) ≡ false) × (above maxPrefix (h .prefixLen) ≡ false)
+    tested = or-false (above maxRows (h .rows) || above maxTable (h .stringsLen)) (above maxPrefix (h .prefixLen)) fits
+
+    pub few-rows : h .rows ≤ maxRows
+    few-rows = ltb-false maxRows (h .rows) (or-false (above maxRows (h .rows)) (above maxTable (h .stringsLen)) (tested .0) .0)
+
+    pub small-table : h .stringsLen ≤ maxTable
+    small-table = ltb-false maxTable (h .stringsLen) (or-false (above maxRows (h .rows)) (above maxTable (h .stringsLen)) (tested .0) .1)
+
+    pub short-prefix : h .prefixLen ≤ maxPrefix
+    short-prefix = ltb-false maxPrefix (h .prefixLen) (tested .1)

@@ -1,0 +1,83 @@
+-- `pack::enter::enter_rows` meets its contract: the root is entered, and the rows from there on. Assumes nothing.
+use native.Mathlib.Omega.{arith}
+use borrow.Author.Needs.{needs}
+use Rattle.build.specs.Rules.{tokensOf}
+use Rattle.build.specs.Given.{rulesFrom, noRule}
+use Rattle.build.proofs.Rowing.{roomless}
+use Rattle.pack.specs.Pack.{rowsFrom}
+use Rattle.pack.specs.Reading.{firstOf}
+use Rattle.pack.proofs.enter.enter_rows.Statement.{statement}
+use Rattle.pack.proofs.enter.enter_rows.Tie as tie
+
+-- ---- the ways back
+
+abbrev started : tie.After-slice-known6 → tie.After-start
+started c =
+    let k = c .before .before in
+    let k₁ = k .before .before in
+    k₁ .before .before
+
+abbrev entry : tie.After-start → tie.Start
+entry c =
+    let k = c .before .before in
+    let k₁ = k .before .before in
+    let k₂ = k₁ .before .before in
+    let k₃ = k₂ .before .before in
+    k₃ .before
+
+abbrev fitting : tie.After-enter-on-arg3 → tie.Else1
+fitting c = let k = c .before .before in k .before
+
+start-requires : tie.Need-start-requires
+start-requires c κs = search needs
+
+same-length : tie.Need-same-length
+same-length c = search needs
+
+same-length-2 : tie.Need-same-length-2
+same-length-2 c = search needs
+
+same-length-3 : tie.Need-same-length-3
+same-length-3 c = search needs
+
+returns : tie.Need-returns
+returns c =
+    let f = started (c .before) in
+    let a = entry f .args in
+    let rows = rowsFrom (a .kind) (a .bytes .now) 36 (a .rows) in
+    let l = f .start .last in
+    roomless (tokensOf (a .strings .now) rows) (rulesFrom (firstOf (a .kind)) (a .strings .now) noRule 0 rows) (a .room) (l .0) (l .1 .0) (l .1 .1 .0)
+    (f .start .result) (f .start .ensures .one) (c .if1 .taken)
+
+enter-on-requires : tie.Need-enter-on-requires
+enter-on-requires c κs =
+    let b = fitting c in
+    let f = started (b .before) in
+    (entry f .pre .0, f .start .ensures .planted (omega (arith, b .if1 .left, f .start .ensures .one)))
+
+same-length-4 : tie.Need-same-length-4
+same-length-4 c = search needs
+
+same-length-5 : tie.Need-same-length-5
+same-length-5 c = search needs
+
+same-length-6 : tie.Need-same-length-6
+same-length-6 c = search needs
+
+returns-2 : tie.Need-returns-2
+returns-2 c = search needs
+
+pub enter-rows-spec : {M : Type 1} → statement M
+enter-rows-spec =
+    tie.close
+    (tie.spec
+    start-requires
+    same-length
+    same-length-2
+    same-length-3
+    returns
+    enter-on-requires
+    same-length-4
+    same-length-5
+    same-length-6
+    returns-2)

@@ -1,0 +1,150 @@
+// The rows of a pack entered in order, and their trie laid out. For a caller that has judged them.
+use crate::header::HEADER;
+use crate::header::ROW;
+use crate::row::row_at;
+use build::Built;
+use build::steps::finish;
+use build::steps::start;
+use build::tokens::enter_token;
+use rows::Kind;
+use rows::Worth;
+ghost use mathlib.Core.Path.{_≡_};
+ghost use Prim.Native.Nat.{_<_};
+ghost use Rattle.refusal.specs.Sizes.{maxRows};
+ghost use Rattle.rows.specs.Rows.{worthIs, tokenOf};
+ghost use Rattle.build.specs.Names.{names};
+ghost use Rattle.build.specs.Rules.{tokensOf};
+ghost use Rattle.build.specs.Given.{valueOf, rulesFrom, noRule};
+ghost use Rattle.build.specs.Held.{Roomy, Planted, RowEntered, RowDone};
+ghost use Rattle.build.specs.Memory.{memory};
+ghost use Rattle.build.specs.Core.{RoomFor, BuiltOf};
+ghost use Rattle.pack.specs.Pack.{rowAt, rowsFrom};
+ghost use Rattle.pack.specs.Reading.{rowStart, FineRows, firstOf, valueIn, RowReady};
+
+// Whether a token keeps its first row, not its last.
+fn keeps_first(kind: Kind) -> bool
+    ensures { λ r. ⌜ r ≡ firstOf kind ⌝ }
+{
+    match kind {
+        Kind::Unigram => true,
+        Kind::WordPiece => false,
+    }
+}
+
+// The id that row i gives its token: its index, or the id that it has.
+fn value(worth: Worth, i: usize) -> u32
+    requires { ⌜ i < maxRows ⌝ }
+    ensures { λ r. ⌜ r ≡ valueIn i (worthIs worth) ⌝ }
+{
+    match worth {
+        Worth::Score(_) => i as u32,
+        Worth::Id(v) => v,
+    }
+}
+
+// Row i: how many nodes there are then, more than `room` where no room is left.
+fn enter_row(
+    kind: Kind,
+    bytes: &[u8],
+    strings: &[u8],
+    i: usize,
+    edge_n: &mut [u16],
+    id: &mut [u32],
+    work: &mut [u32],
+    room: usize,
+    n: usize,
+) -> usize
+    requires { ⌜ RowReady kind (now bytes) (now strings) (now «edge_n») (now id) (now work) room n i ⌝ }
+    ensures { λ r.
+        ⌜ RowEntered (now («edge_n» .entry)) (now (id .entry)) (now (work .entry))
+        (now («edge_n» .exit)) (now (id .exit)) (now (work .exit)) (firstOf kind) room n
+        (tokenOf (now (strings .entry)) (rowAt kind (now (bytes .entry)) (rowStart i)))
+        (valueOf (firstOf kind) i (rowAt kind (now (bytes .entry)) (rowStart i))) r ⌝ }
+{
+    let row = row_at(kind, bytes, HEADER + ROW * i);
+    let off = row.off as usize;
+    let len = row.len as usize;
+    let worth = row.worth;
+    let v = value(worth, i);
+    let first = keeps_first(kind);
+    enter_token(strings, off, len, first, v, edge_n, id, work, room, n)
+}
+
+// All rows, from the root on: how many nodes there are, more than `room` where no room is left.
+fn enter_on(
+    kind: Kind,
+    bytes: &[u8],
+    strings: &[u8],
+    rows: usize,
+    edge_n: &mut [u16],
+    id: &mut [u32],
+    work: &mut [u32],
+    room: usize,
+) -> usize
+    requires { ⌜ FineRows kind (now bytes) (now strings) rows × Planted (now «edge_n») (now id) (now work) room ⌝ }
+    ensures { λ r.
+        ⌜ RowDone (names (tokensOf (now (strings .entry)) (rowsFrom kind (now (bytes .entry)) 36 rows)))
+        (rulesFrom (firstOf kind) (now (strings .entry)) noRule 0 (rowsFrom kind (now (bytes .entry)) 36 rows))
+        room (now («edge_n» .exit)) (now (id .exit)) (now (work .exit)) r ⌝ }
+{
+    let mut n: usize = 1;
+    let mut i: usize = 0;
+    while i < rows {
+        n = enter_row(kind, bytes, strings, i, edge_n, id, work, room, n);
+        if room < n {
+            return n;
+        }
+        i += 1;
+    }
+    n
+}
+
+// The same into columns that may hold anything. The root needs room too.
+fn enter_rows(
+    kind: Kind,
+    bytes: &[u8],
+    strings: &[u8],
+    rows: usize,
+    edge_n: &mut [u16],
+    id: &mut [u32],
+    work: &mut [u32],
+    room: usize,
+) -> usize
+    requires { ⌜ FineRows kind (now bytes) (now strings) rows × Roomy room (now «edge_n») (now id) (now work) ⌝ }
+    ensures { λ r.
+        ⌜ RowDone (names (tokensOf (now (strings .entry)) (rowsFrom kind (now (bytes .entry)) 36 rows)))
+        (rulesFrom (firstOf kind) (now (strings .entry)) noRule 0 (rowsFrom kind (now (bytes .entry)) 36 rows))
+        room (now («edge_n» .exit)) (now (id .exit)) (now (work .exit)) r ⌝ }
+{
+    let n = start(edge_n, id, work, room);
+    if room < n {
+        return n;
+    }
+    enter_on(kind, bytes, strings, rows, edge_n, id, work, room)
+}
+
+// The trie of the rows in the lent columns, where `room` nodes fit. Where it needs more nodes, every lent place is zero afterwards.
+pub fn build_rows(
+    kind: Kind,
+    bytes: &[u8],
+    strings: &[u8],
+    rows: usize,
+    edge_at: &mut [u32],
+    edge_n: &mut [u16],
+    id: &mut [u32],
+    byte: &mut [u8],
+    to: &mut [u32],
+    work: &mut [u32],
+    room: usize,
+) -> Built
+    requires { ⌜ FineRows kind (now bytes) (now strings) rows
+        × RoomFor room (memory (now «edge_at») (now «edge_n») (now id) (now byte) (now to) (now work)) ⌝ }
+    ensures { λ r.
+        ⌜ BuiltOf (firstOf kind) (now (strings .entry)) (rowsFrom kind (now (bytes .entry)) 36 rows) room
+        (memory (now («edge_at» .entry)) (now («edge_n» .entry)) (now (id .entry)) (now (byte .entry)) (now (to .entry)) (now (work .entry)))
+        (memory (now («edge_at» .exit)) (now («edge_n» .exit)) (now (id .exit)) (now (byte .exit)) (now (to .exit)) (now (work .exit)))
+        r ⌝ }
+{
+    let n = enter_rows(kind, bytes, strings, rows, edge_n, id, work, room);
+    finish(edge_at, edge_n, id, byte, to, work, room, n)
+}
