@@ -4,3 +4,4 @@ pub mod Decimals
 pub mod Ending
 pub mod Printing
 pub mod Following
+pub mod Whole

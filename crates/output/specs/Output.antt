@@ -14,15 +14,13 @@ use Rattle.text.specs.Ascii.{ascii}
 use Rattle.trie.specs.Trie.{Trie}
 use Rattle.rows.specs.declared.Kind.{Kind}
 use Rattle.rows.specs.declared.Kind.the-variants.{Unigram, WordPiece}
-use Rattle.rows.specs.Scores.{unknownScore}
-use Rattle.build.specs.Rules.{scoresOf}
 use Rattle.build.specs.Memory.{Memory}
 use Rattle.unigram.specs.Pieces as unigram
 use Rattle.unigram.specs.Segment.{Scratch, segmentFault}
 use Rattle.wordpiece.specs.Pieces as wordpiece
 use Rattle.wordpiece.specs.Encode.{encodeFault}
-use Rattle.pack.specs.Pack.{headerOf, rowsOf, prefixOf}
-use Rattle.pack.specs.Build.{packFault, theKind, trieIn, scoresIn}
+use Rattle.pack.specs.Pack.{headerOf, prefixOf}
+use Rattle.pack.specs.Build.{packFault, theKind, trieIn, modelOf}
 use Rattle.output.specs.Lines.{lines, printedIds, printedRefusal}
 
 -- "reads `vocab.pack` (at most 65,536 bytes)"
@@ -51,15 +49,6 @@ unfoldable pub printed : Option Fault → List ℕ → List ℕ
 printed none ids = printedIds ids
 printed (some f) ids = printedRefusal [] f
 
--- the model of a Unigram pack
-unfoldable pub modelOf : List ℕ → unigram.Model
-modelOf bytes =
-    record {
-      trie = trieIn Unigram bytes;
-      score = scoresIn Unigram bytes;
-      unknown = record { id = headerOf bytes .unknown; score = unknownScore (scoresOf (rowsOf Unigram bytes)) };
-    }
-
 -- what one line prints, in a Unigram model
 unfoldable pub segmentedLine : unigram.Model → List ℕ → List ℕ
 segmentedLine m line = printed (segmentFault m line lentScratch) (unigram.idsOf m line)
@@ -77,12 +66,12 @@ unfoldable pub faultOf : Reason → Fault
 faultOf (Call f) = f
 faultOf (Row f i) = f
 
--- "too much input prints only `input refused 1`"
-unfoldable pub printedLines : List ℕ → List ℕ → List ℕ
-printedLines bytes input =
+-- "too much input prints only `input refused 1`"; else each line prints as f says
+unfoldable pub linesPrinted : (List ℕ → List ℕ) → List ℕ → List ℕ
+linesPrinted f input =
     elim (above maxInput (length input)) [
       | true ↦ printedRefusal (ascii "input ") fault.Size
-      | false ↦ flatMap (printedLine (theKind bytes) bytes) (lines input)
+      | false ↦ flatMap f (lines input)
     ]
 
 -- "A refused pack prints only `pack refused` and the number (1 if too large)". "The pack is judged first."
@@ -93,6 +82,6 @@ output bytes input =
       | false ↦
           elim (packFault bytes lentMemory scorePlaces) [
             | some r ↦ printedRefusal (ascii "pack ") (faultOf r)
-            | none ↦ printedLines bytes input
+            | none ↦ linesPrinted (printedLine (theKind bytes) bytes) input
           ]
     ]

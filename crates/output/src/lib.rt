@@ -1,5 +1,130 @@
 // What the program prints, as bytes in a lent buffer.
+use pack::PackAnswer;
+use refusal::Fault;
+use refusal::Reason;
+
 pub mod encoded;
 pub mod lines;
 pub mod put;
 pub mod segmented;
+
+ghost use mathlib.Core.Path.{_≡_};
+ghost use mathlib.Core.List.{map};
+ghost use Prim.Native.Nat.{_-_, _≤_};
+ghost use lib.ListN.{length, take};
+ghost use Rattle.doubles.specs.Units.{units};
+ghost use Rattle.text.specs.Span.{TextGiven};
+ghost use Rattle.trie.specs.Trie.{partsOf};
+ghost use Rattle.build.specs.Memory.{memory};
+ghost use Rattle.unigram.specs.Work.{modelOf, pieceWith};
+ghost use Rattle.pack.specs.Pack.{headerOf, stringsOf};
+ghost use Rattle.pack.specs.Build.{PackBuilt};
+ghost use Rattle.output.specs.Output.{lentMemory, scorePlaces, segmentedLine, encodedLine, linesPrinted, faultOf, output};
+ghost use Rattle.output.specs.Put.{Put};
+ghost use Rattle.output.specs.Cut.{Cuttable};
+
+// The largest pack and the most input, in bytes.
+const MAX_PACK: usize = 65_536;
+
+const MAX_INPUT: usize = 32_768;
+
+// What a reason says is wrong.
+fn fault_of(r: Reason) -> Fault
+    ensures { λ f. ⌜ f ≡ faultOf r ⌝ }
+{
+    match r {
+        Reason::Call(f) => f,
+        Reason::Row(f, _) => f,
+    }
+}
+
+// A pack's prefix: the part of its strings.
+fn prefix_of<'a>(pack: &'a [u8], off: u32, len: u32) -> &'a [u8]
+    requires { ⌜ (36 ≤ length (now pack)) × (headerOf (now pack) .stringsOff ≤ length (now pack)) ⌝ }
+    ensures { λ r. ⌜ TextGiven (stringsOf (now (pack .entry))) off len (now r) ⌝ }
+{
+    let start = pack::header::word(pack, 12) as usize;
+    let strings = &pack[start..];
+    text::text(strings, off, len)
+}
+
+// What is printed for all lines in a Unigram trie that stands in the first places of the columns.
+fn print_segmented(
+    nodes: u32,
+    unknown: u32,
+    unknown_score: f64,
+    edge_at: &[u32],
+    edge_n: &[u16],
+    id: &[u32],
+    score: &[f64],
+    byte: &[u8],
+    to: &[u32],
+    input: &[u8],
+    out: &mut [u8],
+) -> usize
+    requires { ⌜ Cuttable nodes (now «edge_at») (now «edge_n») (now id) (now byte) (now to) × (nodes ≤ length (now score)) × (360_459 ≤ length (now out)) ⌝ }
+    ensures { λ r.
+        ⌜ Put (now (out .entry)) 0
+        (linesPrinted (segmentedLine (modelOf (take nodes (now («edge_at» .entry))) (take nodes (now («edge_n» .entry))) (take nodes (now (id .entry)))
+        (take nodes (now (score .entry))) (take (nodes - 1) (now (byte .entry))) (take (nodes - 1) (now (to .entry))) (pieceWith unknown «unknown_score»)))
+        (now (input .entry)))
+        r (now (out .exit)) ⌝ }
+{
+    if MAX_INPUT < input.len() {
+        return put::put_refusal(out, 0, b"input ", Fault::Size);
+    }
+    let n = nodes as usize;
+    let edges = n - 1;
+    segmented::put_segmented_lines(
+        &edge_at[..n],
+        &edge_n[..n],
+        &id[..n],
+        &score[..n],
+        &byte[..edges],
+        &to[..edges],
+        unknown,
+        unknown_score,
+        input,
+        out,
+    )
+}
+
+// The same in a WordPiece trie.
+fn print_encoded(
+    nodes: u32,
+    unknown: u32,
+    max_chars: u32,
+    prefix: &[u8],
+    edge_at: &[u32],
+    edge_n: &[u16],
+    id: &[u32],
+    byte: &[u8],
+    to: &[u32],
+    input: &[u8],
+    out: &mut [u8],
+) -> usize
+    requires { ⌜ Cuttable nodes (now «edge_at») (now «edge_n») (now id) (now byte) (now to) × (360_459 ≤ length (now out)) ⌝ }
+    ensures { λ r.
+        ⌜ Put (now (out .entry)) 0
+        (linesPrinted (encodedLine (partsOf (take nodes (now («edge_at» .entry))) (take nodes (now («edge_n» .entry))) (take nodes (now (id .entry)))
+        (take (nodes - 1) (now (byte .entry))) (take (nodes - 1) (now (to .entry)))) unknown «max_chars» (now (prefix .entry))) (now (input .entry)))
+        r (now (out .exit)) ⌝ }
+{
+    if MAX_INPUT < input.len() {
+        return put::put_refusal(out, 0, b"input ", Fault::Size);
+    }
+    let n = nodes as usize;
+    let edges = n - 1;
+    encoded::put_encoded_lines(
+        &edge_at[..n],
+        &edge_n[..n],
+        &id[..n],
+        &byte[..edges],
+        &to[..edges],
+        unknown,
+        max_chars,
+        prefix,
+        input,
+        out,
+    )
+}

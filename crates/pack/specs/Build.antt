@@ -23,6 +23,7 @@ use Rattle.rows.specs.Scores.{unknownScore}
 use Rattle.build.specs.Names.{names}
 use Rattle.build.specs.Rules.{tokensOf, scoresOf, unigramTrie, unigramScores, wordpieceTrie}
 use Rattle.build.specs.Memory.{Memory, noScoredRoom, cleared, holding, zeroScores, leaves}
+use Rattle.unigram.specs.Pieces.{Model}
 use Rattle.pack.specs.declared.PackAnswer.{PackAnswer}
 use Rattle.pack.specs.declared.PackAnswer.the-variants as answer-is
 use Rattle.pack.specs.Pack.{headerOf, kindOf, rowsOf, stringsOf, prefixOf}
@@ -80,6 +81,15 @@ trieIn WordPiece bytes = wordpieceTrie (stringsOf bytes) (rowsOf WordPiece bytes
 unfoldable pub scoresIn : Kind → List ℕ → List Double
 scoresIn Unigram bytes = unigramScores (stringsOf bytes) (rowsOf Unigram bytes)
 scoresIn WordPiece bytes = []
+
+-- the model of a Unigram pack
+unfoldable pub modelOf : List ℕ → Model
+modelOf bytes =
+    record {
+      trie = trieIn Unigram bytes;
+      score = scoresIn Unigram bytes;
+      unknown = record { id = headerOf bytes .unknown; score = unknownScore (scoresOf (rowsOf Unigram bytes)) };
+    }
 
 -- What `build` promises of its answer and of the lent columns and scores, before and after.
 pub record PackBuilt (bytes : List ℕ) (before : Memory) (scoresBefore : List Double) (answer : PackAnswer) (after : Memory) (scoresAfter : List Double) : Type 0 where

@@ -4,7 +4,7 @@ use refusal::Reason;
 
 mod enter;
 mod fine;
-mod header;
+pub mod header;
 mod judge;
 mod row;
 mod scores;
