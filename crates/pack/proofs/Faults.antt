@@ -6,7 +6,7 @@ use mathlib.Core.List.{List}
 use mathlib.Core.Option.{Option, none, some}
 use Prim.Native.Nat.{ℕ, _+_, _-_, _≤_, _<_}
 use native.Mathlib.Omega.{arith}
-use borrow.Author.Tests.{le-ltb, ltb-false}
+use borrow.Author.Tests.{le-ltb, ltb-false, not-false}
 use lib.Dec.{ltb, eqb}
 use lib.ListN.{length, take, drop, length-drop}
 use lib.Seq.{take-all}
@@ -62,6 +62,12 @@ called-refused true f later = refl
 called-refused false f later = refl
 
 -- ---- the faults before the room
+
+-- nothing is found where neither of two finds anything
+pub first-none : {A : Type 0} (o later : Option A) → first o later ≡ none → (o ≡ none) × (later ≡ none)
+unfolding first
+first-none none later e = (refl, e)
+first-none (some f) later e = (cc, cc)
 
 module _ (kind : Kind) (bytes : List ℕ) where
   abbrev outside : Bool
@@ -120,13 +126,17 @@ module _ (kind : Kind) (bytes : List ℕ) where
     pub not-large : large (headerOf bytes) ≡ false
     not-large = sizes .0
 
-    first-none : {A : Type 0} (o later : Option A) → first o later ≡ none → o ≡ none
-    unfolding first
-    first-none none later e = refl
-    first-none (some f) later e = cc
-
     pub rows-fine : bad ≡ none
-    rows-fine = first-none bad prefix-fault (sizes .1)
+    rows-fine = first-none bad prefix-fault (sizes .1) .0
+
+    prefixes : (outside ≡ false) × (refuse (not (wellFormed (prefixOf bytes))) (reason.Call fault.Text) none ≡ none)
+    prefixes = passed _ _ _ (first-none bad prefix-fault (sizes .1) .1)
+
+    pub prefix-inside : headerOf bytes .prefixOff + headerOf bytes .prefixLen ≤ length (stringsOf bytes)
+    prefix-inside = ltb-false (length (stringsOf bytes)) (headerOf bytes .prefixOff + headerOf bytes .prefixLen) (prefixes .0)
+
+    pub prefix-text : wellFormed (prefixOf bytes) ≡ true
+    prefix-text = not-false (wellFormed (prefixOf bytes)) (passed _ _ _ (prefixes .1) .0)
 
 -- ---- no fault before the room has the number 7
 
