@@ -3,13 +3,12 @@
 -- edges, and the rest of each column is behind them. Assumes nothing.
 use mathlib.Core.Path.{_≡_, refl, sym, ap, _∙_, subst}
 use mathlib.Core.Bool.{Bool, true, false, not}
-use mathlib.Core.List.{List, [], map}
+use mathlib.Core.List.{List, []}
 use mathlib.Core.Logic.{⊎-elim}
 use mathlib.Core.Option.{Option, none, some}
 use Prim.Native.Nat.{ℕ, _+_, _-_, _≤_, _<_}
 use native.Mathlib.Omega.{arith}
-use borrow.Author.Tests.{ltb-false, not-false}
-use lib.Dec.{T, ltb}
+use lib.Dec.{T}
 use lib.Ieee.{Float, binary64, ofBits}
 use lib.Ieee.Bits.{ofBits-fits}
 use lib.ListN.{length, getD, take, drop, length-map, length-drop}
@@ -24,7 +23,6 @@ use Rattle.refusal.specs.declared.Reason.the-variants as reason
 use Rattle.refusal.specs.Sizes.{maxPrefix}
 use Rattle.refusal.specs.Refusal.{refuse, first}
 use Rattle.refusal.specs.Places.{filled}
-use Rattle.refusal.proofs.Tests.{passed}
 use Rattle.text.specs.Text.{wellFormed}
 use Rattle.text.specs.Span.{spanOf}
 use Rattle.trie.specs.Trie.{Trie, partsOf}
@@ -54,12 +52,12 @@ use Rattle.wordpiece.proofs.BuiltTries as words
 use Rattle.pack.specs.declared.header.Header as code-header
 use Rattle.pack.specs.declared.PackAnswer.the-variants as answer-is
 use Rattle.pack.specs.Pack.{headerOf, kindOf, rowsOf, stringsOf, prefixOf}
-use Rattle.pack.specs.Build.{nodesOf, packFault, Told, unigram, wordpiece, told, toldOf, theKind, toldFor, trieIn, scoresIn, PackBuilt}
-use Rattle.pack.specs.Reading.{headerIs, doubleAt, rowStart, FiniteRows, faultBefore, PackFine}
+use Rattle.pack.specs.Build.{nodesOf, packFault, unigram, wordpiece, told, toldOf, theKind, toldFor, trieIn, scoresIn, PackBuilt}
+use Rattle.pack.specs.Reading.{headerIs, FiniteRows, faultBefore, PackFine}
 use Rattle.pack.specs.Output.{modelOf}
 use Rattle.pack.proofs.Headers.{short-prefix}
-use Rattle.pack.proofs.Faults.{first-none, pack-wrong, pack-laid, room-fault, not-large, prefix-inside, prefix-text}
-use Rattle.pack.proofs.FinePacks.{rows-are, rows-read, finite-rows}
+use Rattle.pack.proofs.Faults.{first-none, pack-wrong, pack-laid, not-large, prefix-inside, prefix-text}
+use Rattle.pack.proofs.FinePacks.{finite-rows}
 use Rattle.pack.proofs.Scoring.{scores-length, scores-at, scores-past}
 use Rattle.pack.proofs.Promised.{nodes-small}
 

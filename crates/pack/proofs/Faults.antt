@@ -1,10 +1,10 @@
 -- Which fault a pack has, by its tests in their order. All but the last come before the room, and none of them has the number 7.
 -- Assumes nothing.
-use mathlib.Core.Path.{_≡_, refl, sym, ap, ap₂, _∙_, subst}
-use mathlib.Core.Bool.{Bool, true, false, not, _||_}
+use mathlib.Core.Path.{_≡_, refl, sym, ap, _∙_, subst}
+use mathlib.Core.Bool.{Bool, true, false, not}
 use mathlib.Core.List.{List}
 use mathlib.Core.Option.{Option, none, some}
-use Prim.Native.Nat.{ℕ, _+_, _-_, _≤_, _<_}
+use Prim.Native.Nat.{ℕ, _+_, _-_, _≤_}
 use native.Mathlib.Omega.{arith}
 use borrow.Author.Tests.{le-ltb, ltb-false, not-false}
 use lib.Dec.{ltb, eqb}
@@ -15,11 +15,11 @@ use Rattle.refusal.specs.declared.Fault.{Fault}
 use Rattle.refusal.specs.declared.Fault.the-variants as fault
 use Rattle.refusal.specs.declared.Reason.{Reason}
 use Rattle.refusal.specs.declared.Reason.the-variants as reason
-use Rattle.refusal.specs.Sizes.{maxRows, maxTable, maxPrefix, above}
+use Rattle.refusal.specs.Sizes.{maxTable}
 use Rattle.refusal.specs.Refusal.{number, numberOf, refuse, first}
 use Rattle.refusal.proofs.Tests.{found, not-found, passed}
 use Rattle.text.specs.Text.{wellFormed}
-use Rattle.text.specs.Span.{spanOf, spanFault}
+use Rattle.text.specs.Span.{spanFault}
 use Rattle.rows.specs.declared.Kind.{Kind}
 use Rattle.rows.specs.declared.Kind.the-variants.{Unigram, WordPiece}
 use Rattle.rows.specs.Rows.{Row, Worth, score, id, worthFault, rowFault, firstBad}
@@ -28,7 +28,7 @@ use Rattle.build.specs.Memory.{Memory, noScoredRoom}
 use Rattle.pack.specs.Pack.{headerOf, kindOf, laidOut, rowAt, rowsOf, stringsOf, prefixOf}
 use Rattle.pack.specs.Build.{nodesOf, contentFault, packFault}
 use Rattle.pack.specs.Reading.{faultBefore, PackBad}
-use Rattle.pack.proofs.Headers.{large, strings-follow, strings-end, rows-inside, kind-laid}
+use Rattle.pack.proofs.Headers.{large, strings-end, kind-laid}
 
 -- ---- the strings
 
