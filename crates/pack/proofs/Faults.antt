@@ -1,12 +1,12 @@
 -- Which fault a pack has, by its tests in their order. All but the last come before the room, and none of them has the number 7.
 -- Assumes nothing.
-use mathlib.Core.Path.{_≡_, refl, sym, ap, ap₂, _∙_, subst}
-use mathlib.Core.Bool.{Bool, true, false, not, _||_}
+use mathlib.Core.Path.{_≡_, refl, sym, ap, _∙_, subst}
+use mathlib.Core.Bool.{Bool, true, false, not}
 use mathlib.Core.List.{List}
 use mathlib.Core.Option.{Option, none, some}
-use Prim.Native.Nat.{ℕ, _+_, _-_, _≤_, _<_}
+use Prim.Native.Nat.{ℕ, _+_, _-_, _≤_}
 use native.Mathlib.Omega.{arith}
-use borrow.Author.Tests.{le-ltb, ltb-false}
+use borrow.Author.Tests.{le-ltb, ltb-false, not-false}
 use lib.Dec.{ltb, eqb}
 use lib.ListN.{length, take, drop, length-drop}
 use lib.Seq.{take-all}
@@ -15,11 +15,11 @@ use Rattle.refusal.specs.declared.Fault.{Fault}
 use Rattle.refusal.specs.declared.Fault.the-variants as fault
 use Rattle.refusal.specs.declared.Reason.{Reason}
 use Rattle.refusal.specs.declared.Reason.the-variants as reason
-use Rattle.refusal.specs.Sizes.{maxRows, maxTable, maxPrefix, above}
+use Rattle.refusal.specs.Sizes.{maxTable}
 use Rattle.refusal.specs.Refusal.{number, numberOf, refuse, first}
 use Rattle.refusal.proofs.Tests.{found, not-found, passed}
 use Rattle.text.specs.Text.{wellFormed}
-use Rattle.text.specs.Span.{spanOf, spanFault}
+use Rattle.text.specs.Span.{spanFault}
 use Rattle.rows.specs.declared.Kind.{Kind}
 use Rattle.rows.specs.declared.Kind.the-variants.{Unigram, WordPiece}
 use Rattle.rows.specs.Rows.{Row, Worth, score, id, worthFault, rowFault, firstBad}
@@ -28,7 +28,7 @@ use Rattle.build.specs.Memory.{Memory, noScoredRoom}
 use Rattle.pack.specs.Pack.{headerOf, kindOf, laidOut, rowAt, rowsOf, stringsOf, prefixOf}
 use Rattle.pack.specs.Build.{nodesOf, contentFault, packFault}
 use Rattle.pack.specs.Reading.{faultBefore, PackBad}
-use Rattle.pack.proofs.Headers.{large, strings-follow, strings-end, rows-inside, kind-laid}
+use Rattle.pack.proofs.Headers.{large, strings-end, kind-laid}
 
 -- ---- the strings
 
@@ -62,6 +62,12 @@ called-refused true f later = refl
 called-refused false f later = refl
 
 -- ---- the faults before the room
+
+-- nothing is found where neither of two finds anything
+pub first-none : {A : Type 0} (o later : Option A) → first o later ≡ none → (o ≡ none) × (later ≡ none)
+unfolding first
+first-none none later e = (refl, e)
+first-none (some f) later e = (cc, cc)
 
 module _ (kind : Kind) (bytes : List ℕ) where
   abbrev outside : Bool
@@ -120,13 +126,17 @@ module _ (kind : Kind) (bytes : List ℕ) where
     pub not-large : large (headerOf bytes) ≡ false
     not-large = sizes .0
 
-    first-none : {A : Type 0} (o later : Option A) → first o later ≡ none → o ≡ none
-    unfolding first
-    first-none none later e = refl
-    first-none (some f) later e = cc
-
     pub rows-fine : bad ≡ none
-    rows-fine = first-none bad prefix-fault (sizes .1)
+    rows-fine = first-none bad prefix-fault (sizes .1) .0
+
+    prefixes : (outside ≡ false) × (refuse (not (wellFormed (prefixOf bytes))) (reason.Call fault.Text) none ≡ none)
+    prefixes = passed _ _ _ (first-none bad prefix-fault (sizes .1) .1)
+
+    pub prefix-inside : headerOf bytes .prefixOff + headerOf bytes .prefixLen ≤ length (stringsOf bytes)
+    prefix-inside = ltb-false (length (stringsOf bytes)) (headerOf bytes .prefixOff + headerOf bytes .prefixLen) (prefixes .0)
+
+    pub prefix-text : wellFormed (prefixOf bytes) ≡ true
+    prefix-text = not-false (wellFormed (prefixOf bytes)) (passed _ _ _ (prefixes .1) .0)
 
 -- ---- no fault before the room has the number 7
 

@@ -1,11 +1,11 @@
 -- The header's tests: each way through the code, and what it says of the definitions. Assumes nothing.
 use mathlib.Core.Path.{_≡_, refl, sym, ap, _∙_}
-use mathlib.Core.Bool.{Bool, true, false, _&&_, _||_, cond, or-true}
+use mathlib.Core.Bool.{Bool, true, false, _&&_, _||_, cond}
 use mathlib.Core.List.{List}
-use mathlib.Core.Option.{Option, none, some}
+use mathlib.Core.Option.{none, some}
 use Prim.Native.Nat.{ℕ, _+_, _*_, _≤_, _<_}
 use native.Mathlib.Omega.{arith}
-use borrow.Author.Tests.{le-leb, leb-true, eq-eqb, ne-eqb, eqb-true, lt-leb, lt-ltb, le-ltb, ltb-false}
+use borrow.Author.Tests.{le-leb, eq-eqb, ne-eqb, eqb-true, lt-leb, lt-ltb, le-ltb, ltb-false}
 use lib.Dec.{leb, eqb, ltb}
 use lib.ListN.{length}
 use Rattle.refusal.specs.Sizes.{maxRows, maxTable, maxPrefix, above}

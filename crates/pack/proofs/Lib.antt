@@ -16,5 +16,7 @@ pub mod Scoring
 pub mod FinePacks
 -- the promise, in each case
 pub mod Promised
+-- after a build: sound parts
+pub mod BuiltPacks
 -- the promise fixes its outcome
 pub mod Determinacy

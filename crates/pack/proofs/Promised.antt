@@ -4,10 +4,10 @@ use mathlib.Core.Path.{_≡_, refl, sym, ap, _∙_, subst}
 use mathlib.Core.Bool.{Bool, true, false, cond}
 use mathlib.Core.List.{List, [], _∷_, map}
 use mathlib.Core.Option.{Option, none, some, Option·getD}
-use Prim.Native.Nat.{ℕ, _-_, _≤_, _<_, min}
+use Prim.Native.Nat.{ℕ, _-_, _≤_, min}
 use native.Mathlib.Omega.{arith}
 use borrow.Author.Tests.{ltb-false}
-use lib.Dec.{ltb, eqb}
+use lib.Dec.{ltb}
 use lib.Ieee.{Float}
 use lib.ListN.{length, getD, take, drop, replicate, length-map, List·getD-eq-default}
 use lib.Seq.{take-at}
@@ -17,7 +17,7 @@ use Rattle.refusal.specs.declared.Fault.the-variants as fault
 use Rattle.refusal.specs.declared.Reason.{Reason}
 use Rattle.refusal.specs.declared.Reason.the-variants as reason
 use Rattle.refusal.specs.Refusal.{refuse}
-use Rattle.refusal.specs.Sizes.{maxToken, noId}
+use Rattle.refusal.specs.Sizes.{noId}
 use Rattle.refusal.specs.Places.{filled}
 use Rattle.rows.specs.declared.Kind.{Kind}
 use Rattle.rows.specs.declared.Kind.the-variants.{Unigram, WordPiece}
@@ -39,12 +39,12 @@ use Rattle.unigram.specs.NodeScores.{rowScore, filledScores}
 use Rattle.pack.specs.declared.header.Header as code-header
 use Rattle.pack.specs.declared.PackAnswer.{PackAnswer}
 use Rattle.pack.specs.declared.PackAnswer.the-variants as answer-is
-use Rattle.pack.specs.Pack.{headerOf, kindOf, rowAt, rowsFrom, rowsOf, stringsOf}
+use Rattle.pack.specs.Pack.{rowAt, rowsFrom, rowsOf, stringsOf}
 use Rattle.pack.specs.Build.{nodesOf, packFault, told, toldOf, theKind, toldFor, trieIn, scoresIn, PackBuilt}
 use Rattle.pack.specs.Reading.{rowStart, FineRows, firstOf, PackBad, PackFine, ScoresLeft}
 use Rattle.pack.proofs.Resting.{from-at, from-length}
 use Rattle.pack.proofs.Faults.{pack-room}
-use Rattle.pack.proofs.FinePacks.{rows-are, lent-strings, fine-rows, rows-read}
+use Rattle.pack.proofs.FinePacks.{lent-strings, fine-rows, rows-read}
 
 -- ---- what the core answers
 

@@ -1,9 +1,9 @@
 -- One row as the code reads it: the very row where it is fine, and its fault in any case. Assumes nothing.
-use mathlib.Core.Path.{_≡_, refl, sym, ap, ap₂, _∙_, subst}
+use mathlib.Core.Path.{_≡_, refl, sym, ap, _∙_, subst}
 use mathlib.Core.Bool.{Bool, true, false, not}
 use mathlib.Core.List.{List}
-use mathlib.Core.Option.{none, some}
-use Prim.Native.Nat.{ℕ, _+_, _*_, _≤_, _<_}
+use mathlib.Core.Option.{none}
+use Prim.Native.Nat.{ℕ, _+_}
 use native.Mathlib.Omega.{arith}
 use lib.Dec.{T}
 use lib.Ieee.{Float, ofBits, binary64}
@@ -19,8 +19,7 @@ use Rattle.rows.specs.declared.Kind.{Kind}
 use Rattle.rows.specs.declared.Kind.the-variants.{Unigram, WordPiece}
 use Rattle.rows.specs.declared.Worth as code-worth
 use Rattle.rows.specs.declared.Worth.the-variants as code-worth-is
-use Rattle.rows.specs.declared.Row as code-row
-use Rattle.rows.specs.Rows.{Worth, score, id, Row, worthIs, rowIs, tokenOf, worthFault, rowFault}
+use Rattle.rows.specs.Rows.{Worth, score, id, Row, worthIs, rowIs, worthFault, rowFault}
 use Rattle.rows.proofs.RowFaults.{fine-score, fine-worth}
 use Rattle.pack.specs.Pack.{word, worthAt, rowAt}
 use Rattle.pack.specs.Reading.{doubleAt, ScoreRead, WorthRead, RowRead}

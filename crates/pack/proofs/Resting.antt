@@ -13,7 +13,7 @@ use Rattle.rows.specs.declared.Kind.{Kind}
 use Rattle.rows.specs.Rows.{Row, rowFault, firstBad}
 use Rattle.rows.proofs.FirstBad.{bad-here, fine-here, none-bad-says}
 use Rattle.pack.specs.Pack.{rowAt, rowsFrom}
-use Rattle.pack.specs.Reading.{rowStart, FineRows}
+use Rattle.pack.specs.Reading.{rowStart}
 
 module _ (kind : Kind) (bytes : List ℕ) where
   pub from-length : (at n : ℕ) → length (rowsFrom kind bytes at n) ≡ n

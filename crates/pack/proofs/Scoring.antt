@@ -1,14 +1,12 @@
 -- The scores of a Unigram pack's rows, by their place; the lowest, in a loop from row to row; and the unknown score. Assumes nothing.
-use mathlib.Core.Path.{_≡_, refl, sym, ap, _∙_}
-use mathlib.Core.Bool.{true}
-use mathlib.Core.List.{List, [], _∷_, map}
-use mathlib.Core.Option.{none}
-use Prim.Native.Nat.{ℕ, zero, suc, _+_, _-_, _*_, _≤_, _<_}
+use mathlib.Core.Path.{_≡_, refl, ap, _∙_}
+use mathlib.Core.List.{List, map}
+use Prim.Native.Nat.{ℕ, suc, _+_, _-_, _≤_, _<_}
 use native.Mathlib.Omega.{arith}
 use lib.ListN.{length, getD, length-map, List·getD-eq-default}
 use Rattle.doubles.specs.Double.{Double, plusZero, minusTen, sum, isFinite, lowerOf}
 use Rattle.rows.specs.declared.Kind.the-variants.{Unigram}
-use Rattle.rows.specs.Rows.{Row, score, worthFault, rowFault}
+use Rattle.rows.specs.Rows.{Row, score}
 use Rattle.rows.specs.Scores.{lowest, unknownScore}
 use Rattle.rows.proofs.RowFaults.{fine-score, fine-worth}
 use Rattle.rows.proofs.RowLists.{getD-map-inside}

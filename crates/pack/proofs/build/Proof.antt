@@ -1,8 +1,7 @@
 -- `pack::build` meets its contract: what is found of the pack is refused, or else it is built. Assumes nothing.
-use mathlib.Core.Path.{_≡_, subst}
-use mathlib.Core.List.{List, map}
+use mathlib.Core.Path.{subst}
+use mathlib.Core.List.{map}
 use borrow.Author.Needs.{needs}
-use Rattle.doubles.specs.Double.{Double}
 use Rattle.doubles.specs.Units.{units}
 use Rattle.build.specs.Memory.{Memory, memory}
 use Rattle.pack.specs.Reading.{FoundIs}

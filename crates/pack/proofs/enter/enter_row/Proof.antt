@@ -1,5 +1,5 @@
 -- `pack::enter::enter_row` meets its contract: what is read is the row, since it is fine, and its token is entered. Assumes nothing.
-use mathlib.Core.Path.{_≡_, ap, _∙_}
+use mathlib.Core.Path.{_≡_, ap}
 use native.Mathlib.Omega.{arith}
 use borrow.Author.Needs.{needs}
 use Rattle.rows.specs.Rows.{Row, rowIs}

@@ -1,6 +1,4 @@
 -- `pack::header::is_bare` meets its contract: each word that is not 0 decides. Assumes nothing.
-use mathlib.Core.Path.{refl}
-use native.Mathlib.Omega.{arith}
 use borrow.Author.Tests.{eq-eqb, ne-eqb}
 use Rattle.pack.specs.Reading.{headerIs}
 use Rattle.pack.proofs.header.is_bare.Statement.{statement}

@@ -1,7 +1,5 @@
 -- `pack::header::layout_of` meets its contract: the parts stand where they should, and then the kind decides. Assumes nothing.
 use mathlib.Core.Path.{_≡_, sym, ap, _∙_}
-use mathlib.Core.Bool.{Bool, true}
-use native.Mathlib.Omega.{arith}
 use borrow.Author.Needs.{needs}
 use borrow.Author.Tests.{not-true, not-false}
 use Rattle.pack.specs.Pack.{headerOf, laidOut, kindLaidOut}

@@ -1,5 +1,4 @@
 -- `pack::header::read_header` meets its contract: nine words, each read where the definition reads it. Assumes nothing.
-use mathlib.Core.Path.{_≡_}
 use borrow.Author.Needs.{needs}
 use Rattle.pack.specs.Pack.{headerOf}
 use Rattle.pack.specs.Reading.{headerIs}

@@ -1,6 +1,5 @@
 -- `pack::judge::is_large` meets its contract: each number above its limit decides. Assumes nothing.
 use borrow.Author.Needs.{needs}
-use native.Mathlib.Omega.{arith}
 use Rattle.pack.specs.Reading.{headerIs}
 use Rattle.pack.proofs.Headers.{many-rows, large-table, by-prefix}
 use Rattle.pack.proofs.judge.is_large.Statement.{statement}

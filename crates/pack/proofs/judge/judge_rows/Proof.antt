@@ -1,9 +1,9 @@
 -- `pack::judge::judge_rows` meets its contract: the sizes, then the first bad row, then the prefix, each where those before it found nothing.
 -- Assumes nothing.
 use mathlib.Core.Path.{_≡_, sym, ap, _∙_, subst}
-use mathlib.Core.Bool.{Bool, false}
+use mathlib.Core.Bool.{false}
 use mathlib.Core.List.{List}
-use mathlib.Core.Option.{Option, none, some}
+use mathlib.Core.Option.{none}
 use Prim.Native.Nat.{ℕ, _≤_}
 use native.Mathlib.Omega.{arith}
 use borrow.Author.Needs.{needs}
@@ -13,7 +13,7 @@ use Rattle.text.specs.Span.{TextAnswered}
 use Rattle.text.proofs.Spans.{refused-fault, accepted-none}
 use Rattle.rows.specs.Rows.{firstBad}
 use Rattle.rows.specs.Answers.{reasonIn}
-use Rattle.pack.specs.Pack.{Header, headerOf, kindOf, rowsFrom, rowsOf, stringsOf}
+use Rattle.pack.specs.Pack.{Header, headerOf, rowsFrom, rowsOf, stringsOf}
 use Rattle.pack.specs.Reading.{headerIs}
 use Rattle.pack.proofs.Headers.{large, rows-inside, kind-laid, few-rows, small-table}
 use Rattle.pack.proofs.Faults.{strings-start, strings-length, strings-are, before-large, before-rows, before-bad-prefix, before-none}

@@ -1,8 +1,5 @@
 -- `pack::row::score_at` meets its contract: whatever the pattern stands for, the score is read for it. Assumes nothing.
-use mathlib.Core.Path.{_≡_, ap₂}
-use Prim.Native.Nat.{ℕ, _+_, _*_, _^_}
 use borrow.Author.Needs.{needs}
-use Rattle.doubles.specs.Double.{ofPattern}
 use Rattle.doubles.specs.Pattern.{Reads}
 use Rattle.pack.specs.Reading.{doubleAt}
 use Rattle.pack.proofs.Readings.{score-finite, score-infinite, score-none}

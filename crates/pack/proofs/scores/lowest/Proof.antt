@@ -1,8 +1,8 @@
 -- `pack::scores::lowest` meets its contract. The loop's invariant: the lowest of all is that of `low` and the scores from row i on. The measure
 -- is what is left of the rows. Assumes nothing.
 use borrow.Author.Needs.{needs}
-use mathlib.Core.Path.{_≡_, refl, sym, ap, ap₂, _∙_}
-use Prim.Native.Nat.{ℕ, _+_, _-_, _≤_}
+use mathlib.Core.Path.{_≡_, sym, ap, _∙_}
+use Prim.Native.Nat.{_+_, _-_, _≤_}
 use native.Mathlib.Omega.{arith}
 use Rattle.doubles.specs.Double.{Double, lowerOf}
 use Rattle.doubles.specs.Units.{units}

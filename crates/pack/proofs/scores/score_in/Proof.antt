@@ -1,7 +1,6 @@
 -- `pack::scores::score_in` meets its contract: the score is finite, so what is read is the score. Assumes nothing.
 use mathlib.Core.Path.{sym, _∙_}
 use native.Mathlib.Omega.{arith}
-use borrow.Author.Needs.{needs}
 use Rattle.pack.proofs.Scoring.{scores-at}
 use Rattle.pack.proofs.scores.score_in.Statement.{statement}
 use Rattle.pack.proofs.scores.score_in.Tie as tie
