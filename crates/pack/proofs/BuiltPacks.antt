@@ -52,9 +52,8 @@ use Rattle.wordpiece.proofs.BuiltTries as words
 use Rattle.pack.specs.declared.header.Header as code-header
 use Rattle.pack.specs.declared.PackAnswer.the-variants as answer-is
 use Rattle.pack.specs.Pack.{headerOf, kindOf, rowsOf, stringsOf, prefixOf}
-use Rattle.pack.specs.Build.{nodesOf, packFault, unigram, wordpiece, told, toldOf, theKind, toldFor, trieIn, scoresIn, PackBuilt}
+use Rattle.pack.specs.Build.{nodesOf, packFault, unigram, wordpiece, told, toldOf, theKind, toldFor, trieIn, scoresIn, modelOf, PackBuilt}
 use Rattle.pack.specs.Reading.{headerIs, FiniteRows, faultBefore, PackFine}
-use Rattle.pack.specs.Output.{modelOf}
 use Rattle.pack.proofs.Headers.{short-prefix}
 use Rattle.pack.proofs.Faults.{first-none, pack-wrong, pack-laid, not-large, prefix-inside, prefix-text}
 use Rattle.pack.proofs.FinePacks.{finite-rows}
