@@ -5,3 +5,4 @@ pub mod Ending
 pub mod Printing
 pub mod Following
 pub mod Whole
+pub mod Packs

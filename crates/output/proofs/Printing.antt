@@ -88,7 +88,7 @@ module _ {t : Trie} {unknown maxChars : ℕ} {prefix w after : List ℕ} {answer
 -- ---- Unigram
 
 -- a column of +0, as the doubles that it holds
-zeros : (n : ℕ) (z : Float) → units z ≡ plusZero → map units (replicate n z) ≡ replicate n plusZero
+pub zeros : (n : ℕ) (z : Float) → units z ≡ plusZero → map units (replicate n z) ≡ replicate n plusZero
 zeros zero z e = refl
 zeros (suc n) z e = ap₂ _∷_ e (zeros n z e)
 

@@ -1,7 +1,14 @@
 -- A trie in the first places of lent columns. Definitions only; assumes nothing.
-use mathlib.Core.List.{List}
+use mathlib.Core.List.{List, map}
 use Prim.Native.Nat.{ℕ, _-_, _≤_}
+use mathlib.Core.Path.{_≡_}
+use lib.Ieee.{Float}
 use lib.ListN.{length}
+use Rattle.doubles.specs.Units.{units}
+use Rattle.build.specs.Memory.{memory}
+use Rattle.pack.specs.declared.PackAnswer.{PackAnswer}
+use Rattle.pack.specs.Build.{PackBuilt}
+use Rattle.output.specs.Output.{lentMemory, scorePlaces}
 
 -- the columns have places for n nodes, of which there is at least the root, and their edges
 pub record Cuttable (n : ℕ) (edgeAt edgeN id byte to : List ℕ) : Type 0 where
@@ -11,3 +18,15 @@ pub record Cuttable (n : ℕ) (edgeAt edgeN id byte to : List ℕ) : Type 0 wher
   pub ids : n ≤ length id
   pub bytes : n - 1 ≤ length byte
   pub targets : n - 1 ≤ length to
+
+-- the pack was judged, and built where it is fine, in the columns that the program lends; what the work places hold afterwards is no matter
+pub record Judged (pack : List ℕ) (answer : PackAnswer) (edgeAt edgeN id : List ℕ) (scores : List Float) (byte to : List ℕ) : Type 0 where
+  pub work : List ℕ
+  pub built : PackBuilt pack lentMemory scorePlaces answer (memory edgeAt edgeN id byte to work) (map units scores)
+  pub small : length pack ≤ 65_536
+  pub starts : length edgeAt ≡ 4_096
+  pub counts : length edgeN ≡ 4_096
+  pub ids : length id ≡ 4_096
+  pub places : length scores ≡ 4_096
+  pub bytes : length byte ≡ 4_096
+  pub targets : length to ≡ 4_096

@@ -74,14 +74,18 @@ linesPrinted f input =
       | false ↦ flatMap f (lines input)
     ]
 
--- "A refused pack prints only `pack refused` and the number (1 if too large)". "The pack is judged first."
+-- "A refused pack prints only `pack refused` and the number"
+unfoldable pub outputOf : List ℕ → List ℕ → List ℕ
+outputOf bytes input =
+    elim (packFault bytes lentMemory scorePlaces) [
+      | some r ↦ printedRefusal (ascii "pack ") (faultOf r)
+      | none ↦ linesPrinted (printedLine (theKind bytes) bytes) input
+    ]
+
+-- "(1 if too large)". "The pack is judged first."
 unfoldable pub output : List ℕ → List ℕ → List ℕ
 output bytes input =
     elim (above maxPack (length bytes)) [
       | true ↦ printedRefusal (ascii "pack ") fault.Size
-      | false ↦
-          elim (packFault bytes lentMemory scorePlaces) [
-            | some r ↦ printedRefusal (ascii "pack ") (faultOf r)
-            | none ↦ linesPrinted (printedLine (theKind bytes) bytes) input
-          ]
+      | false ↦ outputOf bytes input
     ]

@@ -9,19 +9,15 @@ pub mod put;
 pub mod segmented;
 
 ghost use mathlib.Core.Path.{_≡_};
-ghost use mathlib.Core.List.{map};
 ghost use Prim.Native.Nat.{_-_, _≤_};
 ghost use lib.ListN.{length, take};
-ghost use Rattle.doubles.specs.Units.{units};
 ghost use Rattle.text.specs.Span.{TextGiven};
 ghost use Rattle.trie.specs.Trie.{partsOf};
-ghost use Rattle.build.specs.Memory.{memory};
 ghost use Rattle.unigram.specs.Work.{modelOf, pieceWith};
 ghost use Rattle.pack.specs.Pack.{headerOf, stringsOf};
-ghost use Rattle.pack.specs.Build.{PackBuilt};
-ghost use Rattle.output.specs.Output.{lentMemory, scorePlaces, segmentedLine, encodedLine, linesPrinted, faultOf, output};
+ghost use Rattle.output.specs.Output.{segmentedLine, encodedLine, linesPrinted, faultOf, outputOf, output};
 ghost use Rattle.output.specs.Put.{Put};
-ghost use Rattle.output.specs.Cut.{Cuttable};
+ghost use Rattle.output.specs.Cut.{Cuttable, Judged};
 
 // The largest pack and the most input, in bytes.
 const MAX_PACK: usize = 65_536;
@@ -124,6 +120,105 @@ fn print_encoded(
         unknown,
         max_chars,
         prefix,
+        input,
+        out,
+    )
+}
+
+// What is printed once the pack is judged: its refusal, or the lines.
+fn print_built(
+    answer: PackAnswer,
+    pack: &[u8],
+    edge_at: &[u32],
+    edge_n: &[u16],
+    id: &[u32],
+    score: &[f64],
+    byte: &[u8],
+    to: &[u32],
+    input: &[u8],
+    out: &mut [u8],
+) -> usize
+    requires { ⌜ Judged (now pack) answer (now «edge_at») (now «edge_n») (now id) (now score) (now byte) (now to) × (360_459 ≤ length (now out)) ⌝ }
+    ensures { λ r. ⌜ Put (now (out .entry)) 0 (outputOf (now (pack .entry)) (now (input .entry))) r (now (out .exit)) ⌝ }
+{
+    match answer {
+        PackAnswer::Refused(r) => put::put_refusal(out, 0, b"pack ", fault_of(r)),
+        PackAnswer::Unigram {
+            nodes,
+            unknown,
+            unknown_score,
+        } => print_segmented(
+            nodes,
+            unknown,
+            unknown_score,
+            edge_at,
+            edge_n,
+            id,
+            score,
+            byte,
+            to,
+            input,
+            out,
+        ),
+        PackAnswer::WordPiece {
+            nodes,
+            unknown,
+            max_chars,
+            prefix_off,
+            prefix_len,
+        } => {
+            let prefix = prefix_of(pack, prefix_off, prefix_len);
+            print_encoded(
+                nodes,
+                unknown,
+                max_chars,
+                prefix,
+                edge_at,
+                edge_n,
+                id,
+                byte,
+                to,
+                input,
+                out,
+            )
+        }
+    }
+}
+
+// All that the program prints for a pack and an input, from the front of the buffer: at most 360,459 bytes.
+pub fn print(pack: &[u8], input: &[u8], out: &mut [u8]) -> usize
+    requires { ⌜ 360_459 ≤ length (now out) ⌝ }
+    ensures { λ r. ⌜ Put (now (out .entry)) 0 (output (now (pack .entry)) (now (input .entry))) r (now (out .exit)) ⌝ }
+{
+    if MAX_PACK < pack.len() {
+        return put::put_refusal(out, 0, b"pack ", Fault::Size);
+    }
+    let mut edge_at = [0u32; 4096];
+    let mut edge_n = [0u16; 4096];
+    let mut id = [0u32; 4096];
+    let mut score = [0.0; 4096];
+    let mut byte = [0u8; 4096];
+    let mut to = [0u32; 4096];
+    let mut work = [0u32; 8192];
+    let answer = pack::build(
+        pack,
+        &mut edge_at,
+        &mut edge_n,
+        &mut id,
+        &mut score,
+        &mut byte,
+        &mut to,
+        &mut work,
+    );
+    print_built(
+        answer,
+        pack,
+        &edge_at,
+        &edge_n,
+        &id,
+        &score,
+        &byte,
+        &to,
         input,
         out,
     )

@@ -23,6 +23,7 @@ use Rattle.refusal.specs.declared.Reason.the-variants as reason
 use Rattle.refusal.specs.Sizes.{maxPrefix}
 use Rattle.refusal.specs.Refusal.{refuse, first}
 use Rattle.refusal.specs.Places.{filled}
+use Rattle.refusal.proofs.Tests.{passed}
 use Rattle.text.specs.Text.{wellFormed}
 use Rattle.text.specs.Span.{spanOf}
 use Rattle.trie.specs.Trie.{Trie, partsOf}
@@ -37,7 +38,7 @@ use Rattle.build.specs.Names.{names}
 use Rattle.build.specs.Grown.{Bytes}
 use Rattle.build.specs.Parts.{trieOf}
 use Rattle.build.specs.Rules.{tokensOf, firstRow, scoresOf, nodeScore, unigramTrie, unigramScores, lastId, wordpieceTrie}
-use Rattle.build.specs.Memory.{Memory, cleared, holding, zeroScores, leaves}
+use Rattle.build.specs.Memory.{Memory, noScoredRoom, cleared, holding, zeroScores, leaves}
 use Rattle.build.specs.Core as builds
 use Rattle.build.proofs.Laid.{getD-map-of}
 use Rattle.build.proofs.Sounds.{sound-built, length-edgeAt, length-edgeN, length-id, length-byte, length-to}
@@ -93,6 +94,11 @@ module _ (bytes : List ℕ) (m : Memory) (x : List Double) (accepted : packFault
 
   pub accepted-fine : faultBefore (theKind bytes) bytes ≡ none
   accepted-fine = first-none (faultBefore (theKind bytes) bytes) _ (sym (pack-laid bytes m x accepted-kind) ∙ accepted) .0
+
+  -- there is room for its nodes, in the score column too
+  pub accepted-room : noScoredRoom (nodesOf (theKind bytes) bytes) m x ≡ false
+  accepted-room =
+      passed _ _ _ (first-none (faultBefore (theKind bytes) bytes) _ (sym (pack-laid bytes m x accepted-kind) ∙ accepted) .1) .0
 
 -- ---- the trie of a fine pack
 
@@ -288,6 +294,13 @@ module _
     unfolding told
     said = told-unigram bytes (packFault bytes m before) (b .answered)
 
+    -- the pack has no fault, and is a Unigram pack
+    pub unigram-accepted : packFault bytes m before ≡ none
+    unigram-accepted = said .accepted
+
+    pub unigram-is : theKind bytes ≡ Unigram
+    unigram-is = said .kind
+
     pub unigram-kind : kindOf bytes ≡ some Unigram
     unigram-kind = accepted-kind bytes m before (said .accepted) ∙ ap some (said .kind)
 
@@ -351,6 +364,13 @@ module _
     spoke : ToldWordPiece bytes (packFault bytes m before) n unknown most off len
     unfolding told
     spoke = told-wordpiece bytes (packFault bytes m before) (b .answered)
+
+    -- the pack has no fault, and is a WordPiece pack
+    pub wordpiece-accepted : packFault bytes m before ≡ none
+    wordpiece-accepted = spoke .accepted
+
+    pub wordpiece-is : theKind bytes ≡ WordPiece
+    wordpiece-is = spoke .kind
 
     pub wordpiece-kind : kindOf bytes ≡ some WordPiece
     wordpiece-kind = accepted-kind bytes m before (spoke .accepted) ∙ ap some (spoke .kind)

@@ -52,7 +52,7 @@ unfolding wordpiece.pieceTo wordpiece.longestTo wordpiece.longest wordpiece.befo
 wordpiece-opened = tt
 
 unfoldable pub pack-opened : Unit {0}
-unfolding pack.word pack.headerOf pack.laidOut pack.kindLaidOut pack.kindOf pack.worthAt pack.rowAt pack.rowsFrom pack.rowsOf pack.stringsOf pack.prefixOf build.nodesOf build.contentFault build.packFault build.theKind build.trieIn build.scoresIn build.modelOf lines.linesAfter lines.lines lines.digits lines.decimal lines.spaced lines.printedIds lines.printedRefusal output.lentMemory output.lentScratch output.printed output.segmentedLine output.encodedLine output.printedLine output.faultOf output.linesPrinted output.output
+unfolding pack.word pack.headerOf pack.laidOut pack.kindLaidOut pack.kindOf pack.worthAt pack.rowAt pack.rowsFrom pack.rowsOf pack.stringsOf pack.prefixOf build.nodesOf build.contentFault build.packFault build.theKind build.trieIn build.scoresIn build.modelOf lines.linesAfter lines.lines lines.digits lines.decimal lines.spaced lines.printedIds lines.printedRefusal output.lentMemory output.lentScratch output.printed output.segmentedLine output.encodedLine output.printedLine output.faultOf output.linesPrinted output.outputOf output.output
 pack-opened = tt
 
 unfoldable pub example-opened : Unit {0}

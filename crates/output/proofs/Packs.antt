@@ -1,0 +1,245 @@
+-- What is printed of a pack that was judged: the refusal of one that has a fault, and else the lines in the trie that its build left in the first places
+-- of the lent columns, which is the pack's. Assumes nothing.
+use mathlib.Core.Path.{_≡_, refl, sym, ap, _∙_, subst}
+use mathlib.Core.Bool.{Bool, true, false, not, _&&_}
+use mathlib.Core.List.{List, [], _∷_, map}
+use mathlib.Core.Option.{Option, none, some}
+use Prim.Native.Nat.{ℕ, zero, suc, _+_, _-_, _*_, _≤_, _<_}
+use native.Mathlib.Omega.{arith}
+use borrow.Author.Tests.{ltb-false, le-ltb, lt-ltb, eqb-true, leb-true}
+use lib.Dec.{ltb, leb, eqb}
+use lib.Ieee.{Float}
+use lib.ListN.{length, take, drop, replicate, length-replicate, length-drop}
+use Rattle.doubles.specs.Double.{Double, plusZero}
+use Rattle.doubles.specs.Units.{units}
+use Rattle.refusal.specs.declared.Fault.{Fault}
+use Rattle.refusal.specs.declared.Fault.the-variants as fault
+use Rattle.refusal.specs.declared.Reason.{Reason}
+use Rattle.refusal.specs.Sizes.{maxTable}
+use Rattle.refusal.specs.Refusal.{refuse}
+use Rattle.refusal.proofs.Tests.{not-found}
+use Rattle.text.specs.Ascii.{ascii}
+use Rattle.text.specs.Text.{wellFormed}
+use Rattle.text.specs.Span.{spanOf, spanFault, givenFor, TextGiven}
+use Rattle.trie.specs.Trie.{Trie, partsOf}
+use Rattle.trie.proofs.Every.{first, second}
+use Rattle.rows.specs.declared.Kind.{Kind}
+use Rattle.rows.specs.declared.Kind.the-variants.{Unigram, WordPiece}
+use Rattle.build.specs.Grown.{Bytes}
+use Rattle.build.specs.Memory.{Memory, memory, noRoom, noScoredRoom}
+use Rattle.build.proofs.Rooms.{or-false, nodes-some}
+use Rattle.unigram.specs.Work as work
+use Rattle.unigram.specs.Pieces.{Model}
+use Rattle.pack.specs.declared.PackAnswer.{PackAnswer}
+use Rattle.pack.specs.declared.PackAnswer.the-variants as answer-is
+use Rattle.pack.specs.Pack.{headerOf, laidOut, kindOf, rowsOf, stringsOf, prefixOf}
+use Rattle.pack.specs.Build.{nodesOf, packFault, theKind, trieIn, modelOf, PackBuilt}
+use Rattle.pack.proofs.Headers.{kind-laid}
+use Rattle.pack.proofs.Determinacy as determined
+use Rattle.pack.proofs.BuiltPacks as packs
+use Rattle.output.specs.Lines.{printedRefusal}
+use Rattle.output.specs.Output.{maxPack, places, lentMemory, scorePlaces, segmentedLine, encodedLine, printedLine, linesPrinted, faultOf, outputOf, output}
+use Rattle.output.specs.Cut.{Cuttable, Judged}
+use Rattle.output.proofs.Printing.{zeros}
+
+-- ---- a pack that is too large
+
+module _ (pack input : List ℕ) where
+  abbrev told : Bool → List ℕ
+  told b = elim b [ true ↦ printedRefusal (ascii "pack ") fault.Size | false ↦ outputOf pack input ]
+
+  pub pack-large : maxPack < length pack → printedRefusal (ascii "pack ") fault.Size ≡ output pack input
+  unfolding output
+  pack-large h = sym (ap told (lt-ltb maxPack (length pack) h))
+
+  pub pack-small : length pack ≤ maxPack → outputOf pack input ≡ output pack input
+  unfolding output
+  pack-small h = sym (ap told (le-ltb maxPack (length pack) h))
+
+  -- ---- by what the pack's fault is
+
+  abbrev by-fault : Option Reason → List ℕ
+  by-fault o = elim o [ some r ↦ printedRefusal (ascii "pack ") (faultOf r) | none ↦ linesPrinted (printedLine (theKind pack) pack) input ]
+
+  fault-some : {r : Reason} → packFault pack lentMemory scorePlaces ≡ some r → printedRefusal (ascii "pack ") (faultOf r) ≡ outputOf pack input
+  unfolding outputOf
+  fault-some e = sym (ap by-fault e)
+
+  fault-none : packFault pack lentMemory scorePlaces ≡ none → linesPrinted (printedLine (theKind pack) pack) input ≡ outputOf pack input
+  unfolding outputOf
+  fault-none e = sym (ap by-fault e)
+
+take-map : (n : ℕ) (xs : List Float) → map units (take n xs) ≡ take n (map units xs)
+take-map zero xs = refl
+take-map (suc n) [] = refl
+take-map (suc n) (x ∷ xs) = ap (λ (l : List Double). units x ∷ l) (take-map n xs)
+
+-- ---- the columns
+
+-- the memory that the program lends
+pub lent-built :
+    {pack : List ℕ} {answer : PackAnswer} {after : Memory} {xs : List Double} (z : Float) → units z ≡ plusZero
+    → PackBuilt pack (memory places places places places places (replicate 8_192 0)) (map units (replicate 4_096 z)) answer after xs
+    → PackBuilt pack lentMemory scorePlaces answer after xs
+unfolding lentMemory
+lent-built {pack = pack} {answer = answer} {after = after} {xs = xs} z e b =
+    subst (λ (ys : List Double). PackBuilt pack lentMemory ys answer after xs) (zeros 4_096 z e) b
+
+lent-nodes : (pack : List ℕ) → packFault pack lentMemory scorePlaces ≡ none → nodesOf (theKind pack) pack ≤ 4_096
+unfolding noScoredRoom
+lent-nodes pack e =
+    let n = nodesOf (theKind pack) pack in
+    let p = or-false (noRoom n lentMemory) (ltb (length scorePlaces) n) (packs.accepted-room pack lentMemory scorePlaces e) in
+    omega (arith, ltb-false (length scorePlaces) n (p .1), length-replicate 4_096 plusZero)
+
+some-node : (kind : Kind) (pack : List ℕ) → 1 ≤ nodesOf kind pack
+unfolding nodesOf
+some-node kind pack = nodes-some (stringsOf pack) (rowsOf kind pack)
+
+module _ (pack edgeAt edgeN id : List ℕ) (scores : List Float) (byte to : List ℕ) (good : Bytes pack) where
+  abbrev after : List ℕ → Memory
+  after work = memory edgeAt edgeN id byte to work
+
+  pub judged-refused :
+      {r : Reason} (input : List ℕ) → Judged pack (answer-is.Refused r) edgeAt edgeN id scores byte to
+      → printedRefusal (ascii "pack ") (faultOf r) ≡ outputOf pack input
+  judged-refused {r = r} input j = fault-some pack input (determined.refused-exactly (j .built) r .0 refl)
+
+  -- ---- Unigram
+
+  module _ (n unknown : ℕ) (lowest : Float) (j : Judged pack (answer-is.Unigram n unknown lowest) edgeAt edgeN id scores byte to) where
+    abbrev left : Memory
+    left = after (j .work)
+
+    abbrev doubles : List Double
+    doubles = map units scores
+
+    accepted : packFault pack lentMemory scorePlaces ≡ none
+    accepted = packs.unigram-accepted pack lentMemory left scorePlaces doubles n unknown lowest good (j .built)
+
+    is-unigram : theKind pack ≡ Unigram
+    is-unigram = packs.unigram-is pack lentMemory left scorePlaces doubles n unknown lowest good (j .built)
+
+    pub unigram-nodes : (1 ≤ n) × (n ≤ 4_096)
+    unigram-nodes =
+        let c = packs.unigram-count pack lentMemory left scorePlaces doubles n unknown lowest good (j .built) in
+        let k = ap (λ (x : Kind). nodesOf x pack) is-unigram in
+        (omega (arith, c, some-node Unigram pack), omega (arith, c, k, lent-nodes pack accepted))
+
+    pub unigram-cuttable : Cuttable n edgeAt edgeN id byte to × (n ≤ length scores)
+    unigram-cuttable =
+        let m = unigram-nodes in (
+          record {
+            root = m .0;
+            starts = omega (arith, m .1, j .starts);
+            counts = omega (arith, m .1, j .counts);
+            ids = omega (arith, m .1, j .ids);
+            bytes = omega (arith, m .1, j .bytes);
+            targets = omega (arith, m .1, j .targets);
+          },
+          omega (arith, m .1, j .places),
+        )
+
+    abbrev cut : Model
+    cut = work.modelOf (take n edgeAt) (take n edgeN) (take n id) (take n scores) (take (n - 1) byte) (take (n - 1) to) (work.pieceWith unknown lowest)
+
+    cut-is : cut ≡ modelOf pack
+    cut-is =
+        ap
+        (λ (xs : List Double). record {
+          trie = partsOf (take n edgeAt) (take n edgeN) (take n id) (take (n - 1) byte) (take (n - 1) to);
+          score = xs;
+          unknown = work.pieceWith unknown lowest;
+        })
+        (take-map n scores)
+        ∙ packs.unigram-model pack lentMemory left scorePlaces doubles n unknown lowest good (j .built)
+
+    pub judged-unigram : (input : List ℕ) → linesPrinted (segmentedLine cut) input ≡ outputOf pack input
+    unfolding printedLine
+    judged-unigram input =
+        ap (λ (m : Model). linesPrinted (segmentedLine m) input) cut-is
+        ∙ sym (ap (λ (k : Kind). linesPrinted (printedLine k pack) input) is-unigram)
+        ∙ fault-none pack input accepted
+
+  -- ---- WordPiece
+
+  module _ (n unknown most off len : ℕ) (j : Judged pack (answer-is.WordPiece n unknown most off len) edgeAt edgeN id scores byte to) where
+    abbrev left′ : Memory
+    left′ = after (j .work)
+
+    abbrev doubles′ : List Double
+    doubles′ = map units scores
+
+    accepted′ : packFault pack lentMemory scorePlaces ≡ none
+    accepted′ = packs.wordpiece-accepted pack lentMemory left′ scorePlaces doubles′ n unknown most off len good (j .built)
+
+    is-wordpiece : theKind pack ≡ WordPiece
+    is-wordpiece = packs.wordpiece-is pack lentMemory left′ scorePlaces doubles′ n unknown most off len good (j .built)
+
+    wordpiece-nodes : (1 ≤ n) × (n ≤ 4_096)
+    wordpiece-nodes =
+        let c = packs.wordpiece-count pack lentMemory left′ scorePlaces doubles′ n unknown most off len good (j .built) in
+        let k = ap (λ (x : Kind). nodesOf x pack) is-wordpiece in
+        (omega (arith, c, some-node WordPiece pack), omega (arith, c, k, lent-nodes pack accepted′))
+
+    pub wordpiece-cuttable : Cuttable n edgeAt edgeN id byte to
+    wordpiece-cuttable =
+        let m = wordpiece-nodes in
+        record {
+          root = m .0;
+          starts = omega (arith, m .1, j .starts);
+          counts = omega (arith, m .1, j .counts);
+          ids = omega (arith, m .1, j .ids);
+          bytes = omega (arith, m .1, j .bytes);
+          targets = omega (arith, m .1, j .targets);
+        }
+
+    -- the strings lie in the file, behind the header
+    pub strings-inside : (36 ≤ length pack) × (headerOf pack .stringsOff ≤ length pack)
+    unfolding laidOut
+    strings-inside =
+        let h = headerOf pack in
+        let laid = kind-laid pack (packs.wordpiece-kind pack lentMemory left′ scorePlaces doubles′ n unknown most off len good (j .built)) in
+        let long = leb 36 (length pack) in
+        let rows = eqb (h .rowsOff) 36 in
+        let strings = eqb (h .stringsOff) (36 + 16 * h .rows) in
+        let ends = eqb (h .stringsOff + h .stringsLen) (length pack) in
+        let three = first (long && rows && strings) ends laid in (
+          leb-true 36 (length pack) (first long rows (first (long && rows) strings three)),
+          omega (arith, eqb-true (h .stringsOff + h .stringsLen) (length pack) (second (long && rows && strings) ends laid)),
+        )
+
+    -- the prefix that is given back is the pack's
+    prefix-fine : spanFault (stringsOf pack) off len ≡ none
+    unfolding spanFault stringsOf
+    prefix-fine =
+        let strings = stringsOf pack in
+        let inside = packs.wordpiece-prefix-inside pack lentMemory left′ scorePlaces doubles′ n unknown most off len good (j .built) in
+        let text =
+        ap wellFormed (packs.wordpiece-prefix pack lentMemory left′ scorePlaces doubles′ n unknown most off len good (j .built))
+        ∙ packs.wordpiece-prefix-text pack lentMemory left′ scorePlaces doubles′ n unknown most off len good (j .built) in
+        not-found (ltb maxTable (length strings)) fault.Size _ (le-ltb maxTable (length strings) (omega (arith, j .small, length-drop (headerOf pack .stringsOff) pack)))
+        ∙ not-found (ltb (length strings) (off + len)) fault.Span _ (le-ltb (length strings) (off + len) inside)
+        ∙ not-found (not (wellFormed (spanOf strings off len))) fault.Text none (ap not text)
+
+    prefix-is : {prefix : List ℕ} → TextGiven (stringsOf pack) off len prefix → prefix ≡ prefixOf pack
+    unfolding givenFor
+    prefix-is g =
+        g .gave ∙ ap (λ (o : Option Fault). givenFor o (spanOf (stringsOf pack) off len)) prefix-fine
+        ∙ packs.wordpiece-prefix pack lentMemory left′ scorePlaces doubles′ n unknown most off len good (j .built)
+
+    pub judged-wordpiece :
+        {prefix : List ℕ} (input : List ℕ) → TextGiven (stringsOf pack) off len prefix
+        → linesPrinted (encodedLine (partsOf (take n edgeAt) (take n edgeN) (take n id) (take (n - 1) byte) (take (n - 1) to)) unknown most prefix) input
+        ≡ outputOf pack input
+    unfolding printedLine
+    judged-wordpiece {prefix = prefix} input g =
+        let parts = packs.wordpiece-parts pack lentMemory left′ scorePlaces doubles′ n unknown most off len good (j .built) in
+        let u = packs.wordpiece-unknown pack lentMemory left′ scorePlaces doubles′ n unknown most off len good (j .built) in
+        let c = packs.wordpiece-most pack lentMemory left′ scorePlaces doubles′ n unknown most off len good (j .built) in
+        ap (λ (t : Trie). linesPrinted (encodedLine t unknown most prefix) input) parts
+        ∙ ap (λ (x : ℕ). linesPrinted (encodedLine (trieIn WordPiece pack) x most prefix) input) u
+        ∙ ap (λ (x : ℕ). linesPrinted (encodedLine (trieIn WordPiece pack) (headerOf pack .unknown) x prefix) input) c
+        ∙ ap (λ (x : List ℕ). linesPrinted (encodedLine (trieIn WordPiece pack) (headerOf pack .unknown) (headerOf pack .maxChars) x) input) (prefix-is g)
+        ∙ sym (ap (λ (k : Kind). linesPrinted (printedLine k pack) input) is-wordpiece)
+        ∙ fault-none pack input accepted′

@@ -1,0 +1,136 @@
+-- `output::print` meets its contract: a pack that is too large is refused, and else it is built in zero columns and printed. Assumes nothing.
+use mathlib.Core.Path.{_≡_, sym, ap, _∙_}
+use Prim.Native.Nat.{ℕ}
+use lib.Ieee.{Float, binary64, ofBits}
+use lib.ListN.{length, length-replicate}
+use Rattle.doubles.proofs.Patterns.{zero-units}
+use Rattle.text.specs.Ascii.{ascii}
+use Rattle.output.proofs.Putting.{put-as}
+use Rattle.output.proofs.Packs.{lent-built, pack-large, pack-small}
+use borrow.Author.Needs.{needs}
+use Rattle.output.proofs.print.Statement.{statement}
+use Rattle.output.proofs.print.Tie as tie
+
+-- ---- the ways back from the pack's build: to the test, and to the start
+
+abbrev tested : tie.After-build → tie.Else1
+tested c = let k = c .before .before .before .before in k .before .before .before .before
+
+abbrev entry : tie.After-build → tie.Start
+entry c = tested c .before .before .before .before
+
+slice-aggregate-put-refusal : tie.Need-slice-aggregate-put-refusal
+slice-aggregate-put-refusal c = search needs
+
+put-refusal-requires : tie.Need-put-refusal-requires
+put-refusal-requires c κs = search needs
+
+same-length : tie.Need-same-length
+same-length c = search needs
+
+returns : tie.Need-returns
+unfolding ascii
+returns c =
+    let p = c .before .before in
+    let t = p .before .before .before in
+    let a = t .before .before .before .before .args in
+    put-as (pack-large (a .pack .now) (a .input .now) (t .if1 .taken)) (p .put-refusal .ensures .0)
+
+slice-aggregate-build : tie.Need-slice-aggregate-build
+slice-aggregate-build c = search needs
+
+slice-aggregate-build-2 : tie.Need-slice-aggregate-build-2
+slice-aggregate-build-2 c = search needs
+
+slice-aggregate-build-3 : tie.Need-slice-aggregate-build-3
+slice-aggregate-build-3 c = search needs
+
+slice-aggregate-build-4 : tie.Need-slice-aggregate-build-4
+slice-aggregate-build-4 c = search needs
+
+slice-aggregate-build-5 : tie.Need-slice-aggregate-build-5
+slice-aggregate-build-5 c = search needs
+
+slice-aggregate-build-6 : tie.Need-slice-aggregate-build-6
+slice-aggregate-build-6 c = search needs
+
+slice-aggregate-build-7 : tie.Need-slice-aggregate-build-7
+slice-aggregate-build-7 c = search needs
+
+build-requires : tie.Need-build-requires
+build-requires c κs = search needs
+
+slice-aggregate-print-built : tie.Need-slice-aggregate-print-built
+slice-aggregate-print-built c = search needs
+
+slice-aggregate-print-built-2 : tie.Need-slice-aggregate-print-built-2
+slice-aggregate-print-built-2 c = search needs
+
+slice-aggregate-print-built-3 : tie.Need-slice-aggregate-print-built-3
+slice-aggregate-print-built-3 c = search needs
+
+slice-aggregate-print-built-4 : tie.Need-slice-aggregate-print-built-4
+slice-aggregate-print-built-4 c = search needs
+
+slice-aggregate-print-built-5 : tie.Need-slice-aggregate-print-built-5
+slice-aggregate-print-built-5 c = search needs
+
+slice-aggregate-print-built-6 : tie.Need-slice-aggregate-print-built-6
+slice-aggregate-print-built-6 c = search needs
+
+print-built-requires : tie.Need-print-built-requires
+print-built-requires c κs =
+    let k = c .before .before .before .before .before .before .before in
+    let b = k .before .before .before .before .before .before .before in
+    let n = length-replicate {A = ℕ} 4_096 0 in
+    let kept = b .build .kept in (
+      record {
+        work = b .build .last .1 .1 .1 .1 .1 .1 .1 .0;
+        built = lent-built _ zero-units (b .build .ensures);
+        small = tested b .if1 .left;
+        starts = kept .1 .0 ∙ n;
+        counts = kept .1 .1 .0 ∙ n;
+        ids = kept .1 .1 .1 .0 ∙ n;
+        places = kept .1 .1 .1 .1 .0 ∙ length-replicate {A = Float} 4_096 (ofBits binary64 0);
+        bytes = kept .1 .1 .1 .1 .1 .0 ∙ n;
+        targets = kept .1 .1 .1 .1 .1 .1 .0 ∙ n;
+      },
+      entry b .pre,
+    )
+
+same-length-2 : tie.Need-same-length-2
+same-length-2 c = search needs
+
+returns-2 : tie.Need-returns-2
+returns-2 c =
+    let p = c .before .before in
+    let k = p .before .before .before .before .before .before .before .before in
+    let b = k .before .before .before .before .before .before .before in
+    let a = entry b .args in
+    put-as (pack-small (a .pack .now) (a .input .now) (tested b .if1 .left)) (p .print-built .ensures)
+
+pub print-spec : {M : Type 1} → statement M
+print-spec =
+    tie.close
+    (tie.spec
+    slice-aggregate-put-refusal
+    put-refusal-requires
+    same-length
+    returns
+    slice-aggregate-build
+    slice-aggregate-build-2
+    slice-aggregate-build-3
+    slice-aggregate-build-4
+    slice-aggregate-build-5
+    slice-aggregate-build-6
+    slice-aggregate-build-7
+    build-requires
+    slice-aggregate-print-built
+    slice-aggregate-print-built-2
+    slice-aggregate-print-built-3
+    slice-aggregate-print-built-4
+    slice-aggregate-print-built-5
+    slice-aggregate-print-built-6
+    print-built-requires
+    same-length-2
+    returns-2)

@@ -1,0 +1,137 @@
+-- `output::print_built` meets its contract: each answer of the pack's build says what the whole output is. Assumes nothing.
+use mathlib.Core.Path.{_≡_, sym, ap, _∙_, subst}
+use mathlib.Core.List.{List}
+use Prim.Native.Nat.{ℕ, _<_}
+use native.Mathlib.Omega.{arith}
+use lib.ListN.{length, getD}
+use Rattle.refusal.specs.declared.Fault.{Fault}
+use Rattle.text.specs.Ascii.{ascii}
+use Rattle.build.specs.Grown.{Bytes}
+use Rattle.pack.specs.declared.PackAnswer.{PackAnswer}
+use Rattle.output.specs.Lines.{printedRefusal}
+use Rattle.output.specs.Cut.{Judged}
+use Rattle.output.proofs.Putting.{put-as}
+use Rattle.output.proofs.Packs.{judged-refused, unigram-cuttable, judged-unigram, strings-inside, wordpiece-cuttable, judged-wordpiece}
+use borrow.Author.Needs.{needs}
+use Rattle.output.proofs.print_built.Statement.{statement}
+use Rattle.output.proofs.print_built.Tie as tie
+
+-- ---- the ways back: from where the answer is told, to what is known of the pack's bytes, and to the start
+
+abbrev known : tie.After-slice-known → tie.After-shared-slice-known
+known c = let k = c .before .before .before .before in k .before .before .before .before
+
+abbrev entry : tie.After-slice-known → tie.Start
+entry c = known c .before
+
+-- a lent byte is below 256
+good : (c : tie.After-shared-slice-known) → Bytes (c .before .args .pack .now)
+good c i h = omega (arith, c .shared-slice-known .given i)
+
+-- the pack was judged, and this is the answer
+judged :
+    (c : tie.After-slice-known) (answer : PackAnswer) → entry c .args .answer ≡ answer
+    → let a = entry c .args in Judged (a .pack .now) answer (a .edge-at .now) (a .edge-n .now) (a .id .now) (a .score .now) (a .byte .now) (a .to .now)
+judged c answer e =
+    let a = entry c .args in
+    subst (λ (x : PackAnswer). Judged (a .pack .now) x (a .edge-at .now) (a .edge-n .now) (a .id .now) (a .score .now) (a .byte .now) (a .to .now)) e
+    (entry c .pre .0)
+
+enum-known-answer : tie.Need-enum-known-answer
+enum-known-answer c = search needs
+
+slice-aggregate-put-refusal : tie.Need-slice-aggregate-put-refusal
+slice-aggregate-put-refusal c = search needs
+
+fault-of-requires : tie.Need-fault-of-requires
+fault-of-requires c κs = search needs
+
+put-refusal-requires : tie.Need-put-refusal-requires
+put-refusal-requires c κs = search needs
+
+enum-known-answer-2 : tie.Need-enum-known-answer-2
+enum-known-answer-2 c = search needs
+
+print-segmented-requires : tie.Need-print-segmented-requires
+print-segmented-requires c κs =
+    let t = c .before .before in
+    let k = t .before .before in
+    let a = entry k .args in
+    let cut = unigram-cuttable (a .pack .now) (a .edge-at .now) (a .edge-n .now) (a .id .now) (a .score .now) (a .byte .now) (a .to .now) (good (known k)) _ _ _ (judged k _ (t .answer2 .given .1)) in
+    (cut .0, cut .1, entry k .pre .1)
+
+enum-known-answer-3 : tie.Need-enum-known-answer-3
+enum-known-answer-3 c = search needs
+
+prefix-of-requires : tie.Need-prefix-of-requires
+prefix-of-requires c κs =
+    let t = c .before in
+    let k = t .before .before in
+    let a = entry k .args in
+    strings-inside (a .pack .now) (a .edge-at .now) (a .edge-n .now) (a .id .now) (a .score .now) (a .byte .now) (a .to .now) (good (known k)) _ _ _ _ _ (judged k _ (t .answer3 .given .1))
+
+print-encoded-requires : tie.Need-print-encoded-requires
+print-encoded-requires c κs =
+    let t = c .before .before .before in
+    let k = t .before .before in
+    let a = entry k .args in
+    (wordpiece-cuttable (a .pack .now) (a .edge-at .now) (a .edge-n .now) (a .id .now) (a .score .now) (a .byte .now) (a .to .now) (good (known k)) _ _ _ _ _ (judged k _ (t .answer3 .given .1)), entry k .pre .1)
+
+same-length : tie.Need-same-length
+same-length c = search needs
+
+returns : tie.Need-returns
+unfolding ascii
+returns c =
+    let p = c .before .before in
+    let f = p .before in
+    let t = f .before .before .before .before in
+    let k = t .before .before in
+    let a = entry k .args in
+    put-as
+    (ap (printedRefusal (ascii "pack ")) (f .fault-of .ensures)
+    ∙ judged-refused (a .pack .now) (a .edge-at .now) (a .edge-n .now) (a .id .now) (a .score .now) (a .byte .now) (a .to .now) (good (known k)) (a .input .now) (judged k _ (t .answer .given .1)))
+    (p .put-refusal .ensures .0)
+
+same-length-2 : tie.Need-same-length-2
+same-length-2 c = search needs
+
+returns-2 : tie.Need-returns-2
+returns-2 c =
+    let p = c .before .before in
+    let t = p .before .before .before in
+    let k = t .before .before in
+    let a = entry k .args in
+    put-as (judged-unigram (a .pack .now) (a .edge-at .now) (a .edge-n .now) (a .id .now) (a .score .now) (a .byte .now) (a .to .now) (good (known k)) _ _ _ (judged k _ (t .answer2 .given .1)) (a .input .now)) (p .print-segmented .ensures)
+
+same-length-3 : tie.Need-same-length-3
+same-length-3 c = search needs
+
+returns-3 : tie.Need-returns-3
+returns-3 c =
+    let p = c .before .before in
+    let x = p .before .before in
+    let t = x .before .before in
+    let k = t .before .before in
+    let a = entry k .args in
+    put-as (judged-wordpiece (a .pack .now) (a .edge-at .now) (a .edge-n .now) (a .id .now) (a .score .now) (a .byte .now) (a .to .now) (good (known k)) _ _ _ _ _ (judged k _ (t .answer3 .given .1)) (a .input .now) (x .prefix-of .ensures)) (p .print-encoded .ensures)
+
+pub print-built-spec : {M : Type 1} → statement M
+print-built-spec =
+    tie.close
+    (tie.spec
+    enum-known-answer
+    slice-aggregate-put-refusal
+    fault-of-requires
+    put-refusal-requires
+    enum-known-answer-2
+    print-segmented-requires
+    enum-known-answer-3
+    prefix-of-requires
+    print-encoded-requires
+    same-length
+    returns
+    same-length-2
+    returns-2
+    same-length-3
+    returns-3)
