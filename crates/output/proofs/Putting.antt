@@ -4,7 +4,7 @@ use mathlib.Core.List.{List, [], _∷_, _++_, append-assoc, append-nil}
 use Prim.Native.Nat.{ℕ, suc, _+_, _≤_, _<_}
 use native.Mathlib.Omega.{arith}
 use native.Mathlib.Numerals.{add-one}
-use lib.ListN.{length, getD, set, take, length-append}
+use lib.ListN.{length, getD, set, take, length-append, length-take}
 use lib.Seq.{take-suc, take-suc-set, take-all}
 use Rattle.output.specs.Put.{Put}
 
@@ -55,3 +55,9 @@ module _ (text : List ℕ → List ℕ) (one : ℕ → List ℕ) (none : text []
   pub along-end :
       {xs out₀ out : List ℕ} {at i end : ℕ} → Along text xs out₀ at i end out → length xs ≤ i → Put out₀ at (text xs) end out
   along-end {xs = xs} {i = i} a h = put-as (ap text (take-all i xs h)) (a .put)
+
+-- text put from the front on lies inside the buffer
+pub put-inside : {a b s : List ℕ} {j : ℕ} → Put a 0 s j b → (j ≤ length b) × (j ≡ length (take j b))
+put-inside {b = b} {s = s} {j = j} p =
+    let text : length (take j b) ≡ length s = ap length (p .text) in
+    (omega (arith, length-take j b, text, p .ends), omega (arith, text, p .ends))
