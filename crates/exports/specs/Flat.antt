@@ -1,6 +1,6 @@
 -- Answers as numbers, for callers in other languages. Definitions only; assumes nothing.
 use mathlib.Core.Path.{_≡_}
-use Prim.Native.Nat.{ℕ, _+_, _*_, _^_}
+use Prim.Native.Nat.{ℕ, _+_, _*_, _^_, _≤_, _<_}
 use mathlib.Core.Bool.{cond}
 use mathlib.Core.List.{List, [], _∷_}
 use mathlib.Core.Option.{Option, none, some}
@@ -29,6 +29,9 @@ use Rattle.wordpiece.specs.declared.EncodeAnswer.the-variants as encode-is
 use Rattle.wordpiece.specs.declared.BuildAnswer as wordpiece
 use Rattle.wordpiece.specs.declared.BuildAnswer.the-variants as wordpiece-is
 use Rattle.wordpiece.specs.Build as from-rows
+use Rattle.pack.specs.Build as pack
+use Rattle.output.specs.Output.{output}
+use Rattle.output.specs.Put.{Put}
 
 -- 0 where there is no fault, else the paper's number
 abbrev pub status : Option Fault → ℕ
@@ -97,3 +100,29 @@ pub record BuiltAs (tab : List ℕ) (c : Columns) (before : Memory) (scoresBefor
   pub unknown : unknownAfter ≡ toldScore (toldFor (buildFault tab c before scoresBefore) tab (rowsOf c)) unknownBefore
   pub columns : after ≡ leaves (buildFault tab c before scoresBefore) (holding (unigramTrie tab (rowsOf c)) before) (cleared before) before
   pub scores : scoresAfter ≡ leaves (buildFault tab c before scoresBefore) (filled plusZero (unigramScores tab (rowsOf c)) scoresBefore) (zeroScores scoresBefore) scoresBefore
+
+-- ---- packs
+
+-- what a build from a pack tells: how many nodes, or why nothing was built. The rest of its answer stands in the pack's header.
+abbrev pub packNumber : pack.Told → ℕ
+packNumber (pack.unigram n u x) = n
+packNumber (pack.wordpiece n u c off len) = n
+packNumber (pack.refused r) = reasonNumber r
+
+-- the places lent for the unknown score, which only a Unigram pack has
+abbrev pub packScore : pack.Told → List Double → List Double
+packScore (pack.unigram n u x) places = withFirst x places
+packScore (pack.wordpiece n u c off len) places = places
+packScore (pack.refused r) places = places
+
+-- what `pack::build` promises, its answer as a number and a score in a lent place
+pub record PackBuiltAs (bytes : List ℕ) (before : Memory) (scoresBefore unknownBefore : List Double) (answer : ℕ) (after : Memory) (scoresAfter unknownAfter : List Double) : Type 0 where
+  pub answered : answer ≡ packNumber (pack.toldFor (pack.packFault bytes before scoresBefore) bytes)
+  pub unknown : unknownAfter ≡ packScore (pack.toldFor (pack.packFault bytes before scoresBefore) bytes) unknownBefore
+  pub columns : after ≡ leaves (pack.packFault bytes before scoresBefore) (holding (pack.trieIn (pack.theKind bytes) bytes) before) (cleared before) before
+  pub scores : scoresAfter ≡ leaves (pack.packFault bytes before scoresBefore) (filled plusZero (pack.scoresIn (pack.theKind bytes) bytes) scoresBefore) (zeroScores scoresBefore) scoresBefore
+
+-- what the program prints, in a buffer that may be too short for some output: then 2 ^ 32, and nothing is written
+pub record PrintedAs (bytes input before : List ℕ) (answer : ℕ) (after : List ℕ) : Type 0 where
+  pub short : length before < 360_459 → (answer ≡ 2 ^ 32) × (after ≡ before)
+  pub printed : 360_459 ≤ length before → Put before 0 (output bytes input) answer after

@@ -6,6 +6,7 @@ use unigram::SegmentAnswer;
 use wordpiece::EncodeAnswer;
 
 pub mod builds;
+pub mod packs;
 
 ghost use mathlib.Core.Path.{_≡_};
 ghost use mathlib.Core.List.{map};

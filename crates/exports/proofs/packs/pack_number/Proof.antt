@@ -1,0 +1,77 @@
+-- `exports::packs::pack_number` meets its contract: each answer has its number, and a Unigram pack its score. Assumes nothing.
+use mathlib.Core.Path.{_≡_, sym, ap, _∙_}
+use mathlib.Core.List.{map}
+use Rattle.doubles.specs.Units.{units}
+use Rattle.pack.specs.Build.{told}
+use Rattle.exports.specs.Flat.{packNumber, packScore}
+use borrow.Author.Needs.{needs}
+use Rattle.exports.proofs.packs.pack_number.Statement.{statement}
+use Rattle.exports.proofs.packs.pack_number.Tie as tie
+
+enum-known-a : tie.Need-enum-known-a
+enum-known-a c = search needs
+
+put-score-requires : tie.Need-put-score-requires
+put-score-requires c κs = search needs
+
+cast-result : tie.Need-cast-result
+cast-result c = search needs
+
+enum-known-a-2 : tie.Need-enum-known-a-2
+enum-known-a-2 c = search needs
+
+cast-result-2 : tie.Need-cast-result-2
+cast-result-2 c = search needs
+
+enum-known-a-3 : tie.Need-enum-known-a-3
+enum-known-a-3 c = search needs
+
+reason-number-requires : tie.Need-reason-number-requires
+reason-number-requires c κs = search needs
+
+same-length : tie.Need-same-length
+same-length c = search needs
+
+returns : tie.Need-returns
+unfolding told
+returns c =
+    let p = c .before .before in
+    let b = p .before .before .before in
+    let e = b .before .before .before in (
+      sym (ap (λ x. packNumber (told x)) (b .a .given .1)),
+      p .put-score .ensures ∙ sym (ap (λ x. packScore (told x) (map units (e .args .unknown-score .now))) (b .a .given .1)),
+    )
+
+returns-2 : tie.Need-returns-2
+unfolding told
+returns-2 c =
+    let b = c .before in
+    let e = b .before .before .before in (
+      sym (ap (λ x. packNumber (told x)) (b .a2 .given .1)),
+      sym (ap (λ x. packScore (told x) (map units (e .args .unknown-score .now))) (b .a2 .given .1)),
+    )
+
+returns-3 : tie.Need-returns-3
+unfolding told
+returns-3 c =
+    let b = c .before .before in
+    let e = b .before .before .before in (
+      c .reason-number .ensures ∙ sym (ap (λ x. packNumber (told x)) (b .a3 .given .1)),
+      sym (ap (λ x. packScore (told x) (map units (e .args .unknown-score .now))) (b .a3 .given .1)),
+    )
+
+pub pack-number-spec : {M : Type 1} → statement M
+pack-number-spec =
+    tie.close
+    (tie.spec
+    enum-known-a
+    put-score-requires
+    cast-result
+    enum-known-a-2
+    cast-result-2
+    enum-known-a-3
+    reason-number-requires
+    same-length
+    returns
+    returns-2
+    returns-3)

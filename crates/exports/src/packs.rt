@@ -1,0 +1,74 @@
+// A build from a pack, and all that the program prints. Answers of the build are numbers as in `builds`.
+use crate::builds::put_score;
+use crate::builds::reason_number;
+use pack::PackAnswer;
+ghost use mathlib.Core.Path.{_≡_};
+ghost use mathlib.Core.List.{map};
+ghost use Rattle.doubles.specs.Units.{units};
+ghost use Rattle.build.specs.Memory.{memory};
+ghost use Rattle.pack.specs.Build.{told};
+ghost use Rattle.exports.specs.Flat.{packNumber, packScore, PackBuiltAs, PrintedAs};
+
+// An answer of the build as one number, and its unknown score in the first of the lent places.
+fn pack_number(a: PackAnswer, unknown_score: &mut [f64]) -> u64
+    ensures { λ n. ⌜ (n ≡ packNumber (told a)) × (map units (now («unknown_score» .exit)) ≡ packScore (told a) (map units (now («unknown_score» .entry)))) ⌝ }
+{
+    match a {
+        PackAnswer::Unigram {
+            nodes,
+            unknown: _,
+            unknown_score: x,
+        } => {
+            put_score(unknown_score, x);
+            nodes as u64
+        }
+        PackAnswer::WordPiece {
+            nodes,
+            unknown: _,
+            max_chars: _,
+            prefix_off: _,
+            prefix_len: _,
+        } => nodes as u64,
+        PackAnswer::Refused(r) => reason_number(r),
+    }
+}
+
+// The trie of a pack, in the lent columns; a Unigram pack's unknown score is in the first place lent for it. Kind, unknown id, max_chars and the
+// prefix's span are the words 0, 5, 6, 7 and 8 of the header.
+#[no_mangle]
+pub extern "C" fn sk_pack_build(
+    bytes: &[u8],
+    edge_at: &mut [u32],
+    edge_n: &mut [u16],
+    node_id: &mut [u32],
+    node_score: &mut [f64],
+    byte: &mut [u8],
+    to: &mut [u32],
+    work: &mut [u32],
+    unknown_score: &mut [f64],
+) -> u64
+    ensures { λ r.
+        ⌜ PackBuiltAs (now (bytes .entry))
+        (memory (now («edge_at» .entry)) (now («edge_n» .entry)) (now («node_id» .entry)) (now (byte .entry)) (now (to .entry)) (now (work .entry)))
+        (map units (now («node_score» .entry))) (map units (now («unknown_score» .entry)))
+        r
+        (memory (now («edge_at» .exit)) (now («edge_n» .exit)) (now («node_id» .exit)) (now (byte .exit)) (now (to .exit)) (now (work .exit)))
+        (map units (now («node_score» .exit))) (map units (now («unknown_score» .exit))) ⌝ }
+{
+    pack_number(
+        pack::build(bytes, edge_at, edge_n, node_id, node_score, byte, to, work),
+        unknown_score,
+    )
+}
+
+// All that the program prints for a pack and an input, from the front of the buffer: how many bytes. 2^32, and nothing written, where the buffer
+// has fewer than 360,459 bytes, which are enough for any output.
+#[no_mangle]
+pub extern "C" fn sk_print(pack: &[u8], input: &[u8], out: &mut [u8]) -> usize
+    ensures { λ r. ⌜ PrintedAs (now (pack .entry)) (now (input .entry)) (now (out .entry)) r (now (out .exit)) ⌝ }
+{
+    if out.len() < 360_459 {
+        return 4_294_967_296;
+    }
+    output::print(pack, input, out)
+}
