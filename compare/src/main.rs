@@ -11,6 +11,8 @@
 //!   compare wordpieces [SEED] [--quick]        `encode` against tokie's
 //!   compare segments [SEED] [--quick]          `segment` against tokie's, records against all cuttings
 //!   compare builds [SEED] [--quick]            both builds against tokie's, column by column
+//!   compare packs [SEED] [--quick]             packs and what the program prints; the program itself
+//!   compare packs --print                      prints the cases that `replay` replays
 //!   compare bench-text, bench-tries, bench-wordpieces, bench-segments, bench-builds   times
 //!
 //! Run from anywhere; the repository is the folder above this package.
@@ -25,6 +27,8 @@ mod definitions;
 mod examples;
 #[cfg(feature = "port")]
 mod large;
+#[cfg(feature = "port")]
+mod packs;
 #[cfg(feature = "port")]
 mod port;
 mod random;
@@ -69,6 +73,12 @@ fn main() -> ExitCode {
         #[cfg(feature = "port")]
         Some("builds") => builds::run(seed, quick),
         #[cfg(feature = "port")]
+        Some("packs") if args.get(1).is_some_and(|w| w == "--print") => {
+            std::io::Write::write_all(&mut std::io::stdout(), &packs::stored_bytes()).is_ok()
+        }
+        #[cfg(feature = "port")]
+        Some("packs") => packs::run(root, seed, quick),
+        #[cfg(feature = "port")]
         Some("bench-builds") => {
             bench::builds();
             true
@@ -95,7 +105,7 @@ fn main() -> ExitCode {
         }
         _ => {
             eprintln!(
-                "usage: compare examples | sums [--print] | definitions [SEED..] [--cases N] | text [SEED] [--quick] | tries [SEED] [--quick] | wordpieces [SEED] [--quick] | segments [SEED] [--quick] | builds [SEED] [--quick] | bench-text | bench-tries | bench-wordpieces | bench-segments | bench-builds"
+                "usage: compare examples | sums [--print] | definitions [SEED..] [--cases N] | text [SEED] [--quick] | tries [SEED] [--quick] | wordpieces [SEED] [--quick] | segments [SEED] [--quick] | builds [SEED] [--quick] | packs [SEED] [--quick] [--print] | bench-text | bench-tries | bench-wordpieces | bench-segments | bench-builds"
             );
             return ExitCode::from(2);
         }

@@ -42,6 +42,7 @@ mod c {
         mut [u32], mut [u16], mut [u32], mut [u8], mut [u32], mut [u32],) -> u64);
     declare!(sk_build([u8], [u32], [u32], [bool], [f64], [u32],
         mut [u32], mut [u16], mut [u32], mut [f64], mut [u8], mut [u32], mut [u32], mut [f64],) -> u64);
+    declare!(sk_print([u8], [u8], mut [u8],) -> usize);
 }
 
 /// A slice as a pointer and a length, in the middle of a call's arguments.
@@ -214,6 +215,16 @@ pub fn build(kind: Kind, rows: &Rows, b: &mut Lent) -> Result<(u32, u64), Refusa
         (number, u32::MAX) => Err((number as u32, None)),
         (number, row) => Err((number as u32, Some(row))),
     }
+}
+
+/// What the program prints. A buffer that is too short is left alone.
+pub fn print(pack: &[u8], input: &[u8]) -> Vec<u8> {
+    let mut out = vec![0xA5u8; 360_459];
+    let short = call!(sk_print(pack, input; out.as_mut_ptr(), 360_458));
+    assert!(short == 1 << 32 && out.iter().all(|&b| b == 0xA5), "a short buffer is left alone");
+    let n = call!(sk_print(pack, input; out.as_mut_ptr(), out.len()));
+    out.truncate(n);
+    out
 }
 
 /// The cores behind the calls, for parts that were tested once.
