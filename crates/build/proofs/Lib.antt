@@ -12,9 +12,10 @@ pub mod Counted
 pub mod Sounds
 pub mod Ruled
 pub mod Lookups
--- the core's callers: room, judged rows, one outcome
+-- the core's callers: room, judged rows, what an answer says, one outcome
 pub mod Rooms
 pub mod Judging
+pub mod Outcomes
 pub mod Determinacy
 -- entering tokens and laying out nodes, step by step; `Rowing` and `Filled` also serve a caller that enters rows of its own
 pub mod Linking

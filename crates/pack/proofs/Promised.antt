@@ -1,7 +1,7 @@
 -- What `build` promises, in each case. A fault before the room writes nothing; then the room, that of the score column too, decides; and what
 -- the core says of the rows is said of the pack. Assumes nothing.
 use mathlib.Core.Path.{_≡_, refl, sym, ap, _∙_, subst}
-use mathlib.Core.Bool.{Bool, true, false, cond}
+use mathlib.Core.Bool.{Bool, false, cond}
 use mathlib.Core.List.{List, [], _∷_, map}
 use mathlib.Core.Option.{Option, none, some, Option·getD}
 use Prim.Native.Nat.{ℕ, _-_, _≤_, min}
@@ -33,6 +33,7 @@ use Rattle.build.specs.Memory.{Memory, noScoredRoom, cleared, holding, zeroScor
 use Rattle.build.specs.Core as builds
 use Rattle.build.specs.Core.{roomOf, RoomFor, BuiltOf}
 use Rattle.build.proofs.Rooms.{room-for, no-scored-room, nodes-some, nodes-few}
+use Rattle.build.proofs.Outcomes.{core-full, core-fits}
 use Rattle.build.proofs.Lookups.{noRow}
 use Rattle.build.proofs.Sounds.{length-id}
 use Rattle.unigram.specs.NodeScores.{rowScore, filledScores}
@@ -45,36 +46,6 @@ use Rattle.pack.specs.Reading.{rowStart, FineRows, firstOf, PackBad, Pac
 use Rattle.pack.proofs.Resting.{from-at, from-length}
 use Rattle.pack.proofs.Faults.{pack-room}
 use Rattle.pack.proofs.FinePacks.{lent-strings, fine-rows, rows-read}
-
--- ---- what the core answers
-
-module _ {b : Bool} {tab : List ℕ} {rows : List Row} {room : ℕ} {before after : Memory} {answer : core.Built}
-    (d : BuiltOf b tab rows room before after answer)
-  where
-    abbrev nodes : ℕ
-    nodes = builds.nodesOf tab rows
-
-    core-full : answer ≡ NoRoom → ltb room nodes ≡ true
-    core-full e = go (ltb room nodes) refl
-      where
-        go : (t : Bool) → ltb room nodes ≡ t → t ≡ true
-        go true p = refl
-        go false p =
-            let z : NoRoom ≡ Nodes nodes = sym e ∙ d .answered ∙ ap (λ (t : Bool). cond t NoRoom (Nodes nodes)) p in
-            let y : _≡_ {A = ℕ} 0 1 = cc in
-            absurd (omega arith)
-
-    core-fits : {n : ℕ} → answer ≡ Nodes n → (ltb room nodes ≡ false) × (n ≡ nodes)
-    core-fits {n = n} e = go (ltb room nodes) refl
-      where
-        go : (t : Bool) → ltb room nodes ≡ t → (t ≡ false) × (n ≡ nodes)
-        go true p =
-            let z : Nodes n ≡ NoRoom = sym e ∙ d .answered ∙ ap (λ (t : Bool). cond t NoRoom (Nodes nodes)) p in
-            let y : _≡_ {A = ℕ} 0 1 = cc in
-            absurd (omega arith)
-        go false p =
-            let z : Nodes n ≡ Nodes nodes = sym e ∙ d .answered ∙ ap (λ (t : Bool). cond t NoRoom (Nodes nodes)) p in
-            (refl, cc)
 
 -- ---- the scores of the nodes
 

@@ -60,7 +60,7 @@ add-high-3 : tie.Need-add-high-3
 add-high-3 c = omega (arith, byte-is c 2, byte-is c 3)
 
 mul-result : tie.Need-mul-result
-mul-result c = omega (arith, byte-is c 2, byte-is c 3)
+mul-result c = let a = entry c .args .at in omega (arith, c .shared-slice-known4 .given a, byte-is c 1, byte-is c 2, byte-is c 3)
 
 add-result : tie.Need-add-result
 add-result c = let a = entry c .args .at in omega (arith, c .shared-slice-known4 .given a, byte-is c 1, byte-is c 2, byte-is c 3)

@@ -1,0 +1,42 @@
+-- What the core's answer says of the nodes that the rows need. Assumes nothing.
+use mathlib.Core.Path.{_≡_, refl, sym, ap, _∙_}
+use mathlib.Core.Bool.{Bool, true, false, cond}
+use mathlib.Core.List.{List}
+use Prim.Native.Nat.{ℕ}
+use native.Mathlib.Omega.{arith}
+use lib.Dec.{ltb}
+use Rattle.rows.specs.Rows.{Row}
+use Rattle.build.specs.declared.Built.{Built}
+use Rattle.build.specs.declared.Built.the-variants.{Nodes, NoRoom}
+use Rattle.build.specs.Memory.{Memory}
+use Rattle.build.specs.Core.{nodesOf, BuiltOf}
+
+module _ {b : Bool} {tab : List ℕ} {rows : List Row} {room : ℕ} {before after : Memory} {answer : Built}
+    (d : BuiltOf b tab rows room before after answer)
+  where
+    abbrev nodes : ℕ
+    nodes = nodesOf tab rows
+
+    -- no room is answered where the rows need more nodes than fit
+    pub core-full : answer ≡ NoRoom → ltb room nodes ≡ true
+    core-full e = go (ltb room nodes) refl
+      where
+        go : (t : Bool) → ltb room nodes ≡ t → t ≡ true
+        go true p = refl
+        go false p =
+            let z : NoRoom ≡ Nodes nodes = sym e ∙ d .answered ∙ ap (λ (t : Bool). cond t NoRoom (Nodes nodes)) p in
+            let y : _≡_ {A = ℕ} 0 1 = cc in
+            absurd (omega arith)
+
+    -- a number of nodes is answered where they fit, and it is theirs
+    pub core-fits : {n : ℕ} → answer ≡ Nodes n → (ltb room nodes ≡ false) × (n ≡ nodes)
+    core-fits {n = n} e = go (ltb room nodes) refl
+      where
+        go : (t : Bool) → ltb room nodes ≡ t → (t ≡ false) × (n ≡ nodes)
+        go true p =
+            let z : Nodes n ≡ NoRoom = sym e ∙ d .answered ∙ ap (λ (t : Bool). cond t NoRoom (Nodes nodes)) p in
+            let y : _≡_ {A = ℕ} 0 1 = cc in
+            absurd (omega arith)
+        go false p =
+            let z : Nodes n ≡ Nodes nodes = sym e ∙ d .answered ∙ ap (λ (t : Bool). cond t NoRoom (Nodes nodes)) p in
+            (refl, cc)
