@@ -6,10 +6,15 @@ use std::time::Instant;
 use crate::random::Random;
 use crate::rows::{Kind, Rows, Worth};
 use crate::tokie::{self, Lattice, VocabTrie};
-use crate::{builds, large, port, segments, text, wordpieces};
+use crate::{builds, large, packs, port, segments, text, wordpieces};
 
 /// Nanoseconds a call: the least of some runs of many calls, so that other work on the machine counts little.
-pub fn nanoseconds<R>(mut call: impl FnMut() -> R) -> f64 {
+pub fn nanoseconds<R>(call: impl FnMut() -> R) -> f64 {
+    runs(call)[0]
+}
+
+/// Nanoseconds a call in 15 runs, the least first.
+fn runs<R>(mut call: impl FnMut() -> R) -> Vec<f64> {
     let began = Instant::now();
     let mut calls = 1u32;
     // as many calls as take some 2 milliseconds
@@ -26,7 +31,132 @@ pub fn nanoseconds<R>(mut call: impl FnMut() -> R) -> f64 {
         (0..calls).for_each(|_| _ = black_box(call()));
         start.elapsed().as_nanos() as f64 / f64::from(calls)
     };
-    (0..15).map(run).fold(f64::INFINITY, f64::min)
+    let mut all: Vec<f64> = (0..15).map(run).collect();
+    all.sort_by(f64::total_cmp);
+    all
+}
+
+/// One line of `bench`: what, at which size of what, nanoseconds for each of how many: the least and the median of both.
+fn line<A, B>(what: &str, of: &str, size: usize, each: f64, rust: impl FnMut() -> A, port: impl FnMut() -> B) {
+    let (a, b) = (runs(rust), runs(port));
+    let of_each = [a[0], a[7], b[0], b[7]].map(|ns| format!("{:.1}", ns / each)).join("\t");
+    println!("{what}\t{of}\t{size}\t{of_each}\t{:.2}", b[0] / a[0]);
+}
+
+/// Everything at several sizes, as a table of tabs. The Rust's builds are timed with the copy that they consume; all
+/// other buffers are lent or allocated before, and cleared by neither side.
+pub fn all() {
+    println!("what\tof\tsize\trust least\trust median\tport least\tport median\tratio");
+    let mut r = Random::new(1);
+    for bytes in [1_000, 10_000, 65_536] {
+        for (name, kind) in &text::KINDS[..3] {
+            let s = text::made_of(&mut r, kind, bytes);
+            let n = s.len() as f64;
+            let what = format!("valid_up_to, {name}");
+            line(&what, "bytes", bytes, n, || std::str::from_utf8(black_box(&s)), || port::valid_up_to(black_box(&s)));
+        }
+    }
+    let (u, w) = (large::unigram(&mut r), wordpieces::real(&mut r));
+    for tokens in [1_000, 10_000, 30_000] {
+        sized(&mut r, &u, &w, tokens, &[10_000]);
+    }
+    sized(&mut r, &u, &w, 30_000, &[1_000, 100_000]);
+    program(&mut r);
+}
+
+/// Builds of so many tokens, and the coding of comments and words in them.
+fn sized(r: &mut Random, u: &tokie::Unigram, w: &tokie::Wordpiece, tokens: usize, counts: &[usize]) {
+    let u = tokie::Unigram { rows: u.rows[..tokens].to_vec(), unknown: 0 };
+    let w = tokie::Wordpiece { rows: w.rows[..tokens].to_vec(), ..w.clone() };
+    let (lattice, trie) = (Lattice::build(&u), VocabTrie::build(&w));
+    let (p, q) = (lattice.parts(), trie.parts());
+    if counts == [10_000] {
+        let n = tokens as f64;
+        let rows = Rows::of(u.rows.iter().map(|(s, x)| (s, Worth::Score(*x))));
+        let mut lent = port::Lent::pattern(builds::least(p.edge_at.len()));
+        line(
+            "build, Unigram",
+            "tokens",
+            tokens,
+            n,
+            || Lattice::build(&u),
+            || port::build(Kind::Unigram, &rows, &mut lent),
+        );
+        let rows = Rows::of(w.rows.iter().map(|(s, i)| (s, Worth::Id(*i))));
+        let mut lent = port::Lent::pattern(builds::least(q.edge_at.len()));
+        line(
+            "build, WordPiece",
+            "tokens",
+            tokens,
+            n,
+            || VocabTrie::build(&w),
+            || port::build(Kind::WordPiece, &rows, &mut lent),
+        );
+        let sound = runs(|| port::sound_scored(black_box(&p)));
+        let nodes = p.edge_at.len() as f64;
+        println!("sound_scored\ttokens\t{tokens}\t\t\t{:.1}\t{:.1}\t", sound[0] / nodes, sound[7] / nodes);
+    }
+    let (tested, words) = (port::Tested::scored(&p), port::Tested::new(&q));
+    let given = port::Given { unknown: 0, max_chars: 100, prefix: b"##" };
+    let places = 4_096;
+    let mut b = port::Scratch {
+        start: vec![0; places],
+        slot_id: vec![0; places],
+        slot_score: vec![0.0; places],
+        path: vec![0; places],
+        ids: vec![0; places],
+    };
+    for &count in counts {
+        let (of, size) = if tokens == 30_000 && count != 10_000 { ("comments", count) } else { ("tokens", tokens) };
+        let comments: Vec<String> = (0..count).map(|_| segments::comment(r)).collect();
+        let mut out = Vec::new();
+        line(
+            "segment",
+            of,
+            size,
+            count as f64,
+            || {
+                out.clear();
+                comments.iter().for_each(|t| lattice.segment_into(t, &mut out));
+                out.len()
+            },
+            || comments.iter().map(|t| tested.segment(0, t, &mut b)).sum::<usize>(),
+        );
+        let all: Vec<String> = (0..count).map(|_| large::word(r) + &large::word(r)).collect();
+        let (mut out, mut ids) = (Vec::new(), vec![0u32; 256]);
+        line(
+            "encode",
+            of,
+            size,
+            count as f64,
+            || {
+                out.clear();
+                all.iter().for_each(|t| trie.encode_into(t, 100, &mut out));
+                out.len()
+            },
+            || all.iter().map(|t| words.encode(given, t, &mut ids)).sum::<usize>(),
+        );
+    }
+}
+
+/// The whole program's work, pack to printed lines, beside the Rust's tries and ids with the same reading and printing.
+/// The port tests the trie for each line, and clears the scratch that it lends.
+fn program(r: &mut Random) {
+    let u = large::unigram(r);
+    let rows = u.rows[..900].iter().map(|(t, x)| (t.clone().into_bytes(), Worth::Score(*x))).collect();
+    let pack = packs::pack(&packs::Made { kind: Kind::Unigram, rows, unknown: 0, max_chars: 0, prefix: Vec::new() });
+    for count in [10, 100, 800] {
+        let input: String = (0..count).map(|_| segments::comment(r) + "\n").collect();
+        let input = &input.as_bytes()[..input.len().min(32_768)];
+        line(
+            "whole program",
+            "lines",
+            count,
+            count as f64,
+            || packs::printed(&pack, input),
+            || port::printed(&pack, input),
+        );
+    }
 }
 
 /// How far bytes are text.

@@ -13,6 +13,8 @@
 //!   compare builds [SEED] [--quick]            both builds against tokie's, column by column
 //!   compare packs [SEED] [--quick]             packs and what the program prints; the program itself
 //!   compare packs --print                      prints the cases that `replay` replays
+//!   compare all [SEED] [--quick]               all of these but `definitions`, and a table at the end
+//!   compare bench                              times at several sizes, one line each, for tools/draw_times.py
 //!   compare bench-text, bench-tries, bench-wordpieces, bench-segments, bench-builds   times
 //!
 //! Run from anywhere; the repository is the folder above this package.
@@ -71,6 +73,13 @@ fn main() -> ExitCode {
         #[cfg(feature = "port")]
         Some("segments") => segments::run(seed, quick),
         #[cfg(feature = "port")]
+        Some("all") => all(root, seed, quick),
+        #[cfg(feature = "port")]
+        Some("bench") => {
+            bench::all();
+            true
+        }
+        #[cfg(feature = "port")]
         Some("builds") => builds::run(seed, quick),
         #[cfg(feature = "port")]
         Some("packs") if args.get(1).is_some_and(|w| w == "--print") => {
@@ -105,12 +114,39 @@ fn main() -> ExitCode {
         }
         _ => {
             eprintln!(
-                "usage: compare examples | sums [--print] | definitions [SEED..] [--cases N] | text [SEED] [--quick] | tries [SEED] [--quick] | wordpieces [SEED] [--quick] | segments [SEED] [--quick] | builds [SEED] [--quick] | packs [SEED] [--quick] [--print] | bench-text | bench-tries | bench-wordpieces | bench-segments | bench-builds"
+                "usage: compare examples | sums [--print] | definitions [SEED..] [--cases N] | text [SEED] [--quick] | tries [SEED] [--quick] | wordpieces [SEED] [--quick] | segments [SEED] [--quick] | builds [SEED] [--quick] | packs [SEED] [--quick] [--print] | all [SEED] [--quick] | bench | bench-text | bench-tries | bench-wordpieces | bench-segments | bench-builds"
             );
             return ExitCode::from(2);
         }
     };
     if agrees { ExitCode::SUCCESS } else { ExitCode::FAILURE }
+}
+
+/// Every comparison over the compiled port, and a table of them: in minutes, with --quick in seconds.
+#[cfg(feature = "port")]
+fn all(root: &Path, seed: u64, quick: bool) -> bool {
+    let each: [(&str, &dyn Fn() -> bool); 8] = [
+        ("01's examples", &examples::run),
+        ("the stored sums", &|| sums::stored(root)),
+        ("text", &|| text::run(seed, quick)),
+        ("tries", &|| tries::run(seed, quick)),
+        ("builds", &|| builds::run(seed, quick)),
+        ("WordPiece", &|| wordpieces::run(seed, quick)),
+        ("Unigram", &|| segments::run(seed, quick)),
+        ("packs and the program", &|| packs::run(root, seed, quick)),
+    ];
+    let began = std::time::Instant::now();
+    let mut same = true;
+    for (k, (name, run)) in each.iter().enumerate() {
+        eprintln!("[{} of {}, {} s] {name}", k + 1, each.len(), began.elapsed().as_secs());
+        same &= run();
+    }
+    println!("\n| compared (seed {seed}) | cases | differences |\n|---|---|---|");
+    let said = text::SAID.lock().unwrap();
+    said.iter().for_each(|(what, cases, different)| println!("| {what} | {cases} | {different} |"));
+    let (cases, different) = said.iter().fold((0, 0), |n, row| (n.0 + row.1, n.1 + row.2));
+    println!("| in all, {} s | {cases} | {different} |", began.elapsed().as_secs());
+    same
 }
 
 fn definitions_command(root: &Path, args: &[String]) -> bool {

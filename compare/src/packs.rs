@@ -46,7 +46,8 @@ pub fn pack(m: &Made) -> Vec<u8> {
     }
     let at = 36 + 16 * m.rows.len();
     let max_chars = if m.kind == Kind::Unigram { 0 } else { m.max_chars };
-    let header = [kind, m.rows.len(), 36, at, strings.len(), m.unknown as usize, max_chars as usize, prefix.0, prefix.1];
+    let header =
+        [kind, m.rows.len(), 36, at, strings.len(), m.unknown as usize, max_chars as usize, prefix.0, prefix.1];
     let mut out: Vec<u8> = header.iter().flat_map(|&w| (w as u32).to_le_bytes()).collect();
     out.extend(rows);
     out.extend(strings);
@@ -205,7 +206,8 @@ fn damage(r: &mut Random, bytes: &mut Vec<u8>) {
         3 => {
             let at = 4 * r.below(9);
             let near = word(bytes, at / 4) as u32;
-            let to = *r.pick(&[0, 1, 2, 3, 35, 36, 64, 65, near.wrapping_add(1), near.wrapping_sub(1), u32::MAX, 1 << 31]);
+            let to =
+                *r.pick(&[0, 1, 2, 3, 35, 36, 64, 65, near.wrapping_add(1), near.wrapping_sub(1), u32::MAX, 1 << 31]);
             bytes[at..at + 4].copy_from_slice(&to.to_le_bytes());
         }
         4 if n > 52 => {

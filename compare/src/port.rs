@@ -227,6 +227,14 @@ pub fn print(pack: &[u8], input: &[u8]) -> Vec<u8> {
     out
 }
 
+/// The same without the trial of a short buffer.
+pub fn printed(pack: &[u8], input: &[u8]) -> Vec<u8> {
+    let mut out = vec![0u8; 360_459];
+    let n = call!(sk_print(pack, input; out.as_mut_ptr(), out.len()));
+    out.truncate(n);
+    out
+}
+
 /// The cores behind the calls, for parts that were tested once.
 pub struct Tested<'a>(&'a Parts);
 

@@ -2,6 +2,7 @@
 //! span check.
 
 use std::str;
+use std::sync::Mutex;
 
 use crate::random::Random;
 use crate::{port, small, tokie};
@@ -12,6 +13,9 @@ pub struct Tally {
     pub cases: u64,
     pub different: u64,
 }
+
+/// What was said so far, for the table at the end of `compare all`.
+pub static SAID: Mutex<Vec<(String, u64, u64)>> = Mutex::new(Vec::new());
 
 impl Tally {
     pub fn check(&mut self, same: bool, about: impl FnOnce() -> String) {
@@ -26,6 +30,7 @@ impl Tally {
 
     pub fn say(&self, what: &str) -> bool {
         println!("{what}: {} cases, {} differences", self.cases, self.different);
+        SAID.lock().unwrap().push((what.to_string(), self.cases, self.different));
         self.different == 0
     }
 }
