@@ -5,7 +5,6 @@
  *   behind it and is aligned for them. It may be null where the number is 0.
  * - A buffer that is not const is lent: while the call runs it overlaps no other buffer of the call.
  * - A bool, also each one in a buffer, is the byte 0 or 1.
- * - A buffer that is lent holds values, whatever they are: set fresh memory to something first.
  *
  * Everything else is tested. Each call without `_checked` answers for any bytes, lengths and doubles, and a bad input is
  * refused under one number. Calls keep nothing: no heap, no global state, no pointer after the return. So calls from

@@ -11,10 +11,12 @@ fn wordpiece(rows: &[(&str, u32)], max_chars: u32) -> WordPiece {
     WordPiece::from_rows(rows, 0, max_chars, b"##").unwrap()
 }
 
-/// A table of rows, a text and its ids.
+/// The rows, a text and its ids.
+type Text<'a> = (&'a [(&'a str, f64)], &'a str, &'a [u32]);
+
 #[test]
 fn unigram_1_to_6() {
-    let table: [(&[(&str, f64)], &str, &[u32]); 5] = [
+    let table: [Text; 5] = [
         (&[("a", -1.0), ("b", -1.0), ("ab", -2.0)], "ab", &[3]),
         (&[("a", -1.0), ("ab", -2.0), ("bc", -2.0), ("c", -1.0)], "abc", &[1, 3]),
         (&[("a", 0.1), ("b", 0.2), ("ab", 0.3)], "ab", &[1, 2]),
@@ -44,9 +46,12 @@ fn unigram_8_an_empty_token() {
     assert_eq!(u.unknown_score(), -60.0);
 }
 
+/// The rows, a word, max_chars and the ids.
+type Word<'a> = (&'a [(&'a str, u32)], &'a str, u32, &'a [u32]);
+
 #[test]
 fn wordpiece_9_to_12() {
-    let table: [(&[(&str, u32)], &str, u32, &[u32]); 5] = [
+    let table: [Word; 5] = [
         (&[("ab", 1), ("abc", 2), ("##cd", 3)], "abcd", 100, &[0]),
         (&[("un", 1), ("##able", 2)], "##able", 100, &[2]),
         (&[("a", 1), ("a", 2)], "a", 100, &[2]),
