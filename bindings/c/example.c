@@ -22,9 +22,9 @@ static double node_score[NODES], unknown_score[1];
 static uint8_t byte[NODES];
 
 static uint64_t build(void) {
-    return sk_build((const uint8_t *)table, strlen(table), off, ROWS, len, ROWS, scored, ROWS, score, ROWS, no_ids, ROWS,
-                    edge_at, NODES, edge_n, NODES, node_id, NODES, node_score, NODES, byte, NODES, to, NODES,
-                    work, 2 * NODES, unknown_score, 1);
+    return sk_build((const uint8_t *)table, strlen(table), off, ROWS, len, ROWS, scored, ROWS, score, ROWS,
+                    no_ids, ROWS, edge_at, NODES, edge_n, NODES, node_id, NODES, node_score, NODES,
+                    byte, NODES, to, NODES, work, 2 * NODES, unknown_score, 1);
 }
 
 /* One comment, in a trie of so many nodes: its ids, or why it is refused. */

@@ -1,5 +1,5 @@
-/* The calls at their edges: null with length 0, buffers of no places, each kind of answer. Prints each check that fails,
- * and ends with status 0 exactly when none does. */
+/* The calls at their edges: null with length 0, buffers of no places, each kind of answer. Prints each check that
+ * fails, and ends with status 0 exactly when none does. */
 #include <stdio.h>
 #include <string.h>
 

@@ -6,8 +6,8 @@
  * - A buffer that is not const is lent: while the call runs it overlaps no other buffer of the call.
  * - A bool, also each one in a buffer, is the byte 0 or 1.
  *
- * Everything else is tested. Each call without `_checked` answers for any bytes, lengths and doubles, and a bad input is
- * refused under one number. Calls keep nothing: no heap, no global state, no pointer after the return. So calls from
+ * Everything else is tested. Each call without `_checked` answers for any bytes, lengths and doubles, and a bad input
+ * is refused under one number. Calls keep nothing: no heap, no global state, no pointer after the return. So calls from
  * many threads are safe as long as their lent buffers are apart.
  *
  * The columns of a trie, in the order in which every call takes them:
@@ -79,7 +79,8 @@ static inline uint32_t SK_BUILD_ROW(uint64_t answer) { return (uint32_t)answer; 
 
 /* ---- Text (RFC 3629) */
 
-/* The length of the longest prefix made of whole well-formed characters. The bytes are text exactly when it is s_length. */
+/* The length of the longest prefix made of whole well-formed characters. The bytes are text exactly when it is
+ * s_length. */
 size_t sk_valid_up_to(
     const uint8_t *s, size_t s_length);
 
@@ -114,12 +115,12 @@ size_t sk_text_len(
  * other place is not looked at. Unigram asks for scores (a row's id is its index), WordPiece for ids.
  *
  * Refused, in this order: 1; at the first bad row 2, 3, 4, then 5 (Unigram) or 6 (WordPiece), with that row; 7.
- * Lent memory: after success the columns hold the trie, the work places and all places past the counts are zero; after 7
- * every lent node, edge and work place is zero; any other refusal writes nothing.
+ * Lent memory: after success the columns hold the trie, the work places and all places past the counts are zero; after
+ * 7 every lent node, edge and work place is zero; any other refusal writes nothing.
  * N is at most 1 + the bytes of all tokens. */
 
-/* The Unigram trie of the rows: the number of nodes. Its unknown score is written to unknown_score[0] if there is such a
- * place; after a refusal, 7 too, these places are unchanged. */
+/* The Unigram trie of the rows: the number of nodes. Its unknown score is written to unknown_score[0] if there is such
+ * a place; after a refusal, 7 too, these places are unchanged. */
 uint64_t sk_build(
     const uint8_t *tab, size_t tab_length,
     const uint32_t *off, size_t off_length,
@@ -151,11 +152,12 @@ uint64_t sk_from_rows(
     uint32_t *to, size_t to_length,
     uint32_t *work, size_t work_length);
 
-/* The trie of a pack: the number of nodes. Kind (1 Unigram, 2 WordPiece), unknown id, max_chars, prefix offset and prefix
- * length are the words 0, 5, 6, 7 and 8 of its header, little-endian; the prefix's offset counts from the strings, which
- * begin at word 3. A Unigram pack's unknown score is written as by sk_build; a WordPiece pack leaves those places.
- * Refused, in this order: 11; 1 (the prefix's length too); at the first bad row 2, 3, 4, then 5 or 6, with that row; 2 for
- * a prefix outside the strings, 4 for one that is no text, with no row; 7.
+/* The trie of a pack: the number of nodes. Kind (1 Unigram, 2 WordPiece), unknown id, max_chars, prefix offset and
+ * prefix length are the words 0, 5, 6, 7 and 8 of its header, little-endian; the prefix's offset counts from the
+ * strings, which begin at the byte that word 3 names. A Unigram pack's unknown score is written as by sk_build; a
+ * WordPiece pack leaves those places unchanged.
+ * Refused, in this order: 11; 1 (the prefix's length too); at the first bad row 2, 3, 4, then 5 or 6, with that row; 2
+ * for a prefix outside the strings, 4 for one that is no text, with no row; 7.
  * Lent memory as above. Either kind needs N score places, and after a WordPiece pack they are all zero. */
 uint64_t sk_pack_build(
     const uint8_t *bytes, size_t bytes_length,
@@ -273,8 +275,8 @@ size_t sk_encode(
     uint32_t *ids, size_t ids_length);
 
 /* The same without a test and without a refusal. Before the call all of this has been tested, or the call is undefined:
- * sk_sound is true of the trie; sk_valid_up_to(word) is word_length; ids have a place for each character (word_length is
- * enough). To answer as sk_encode does, test the sizes and the prefix too. */
+ * sk_sound is true of the trie; sk_valid_up_to(word) is word_length; ids have a place for each character (word_length
+ * is enough). To answer as sk_encode does, test the sizes and the prefix too. */
 size_t sk_encode_checked(
     const uint32_t *edge_at, size_t edge_at_length,
     const uint16_t *edge_n, size_t edge_n_length,
@@ -289,9 +291,9 @@ size_t sk_encode_checked(
 
 /* ---- The program */
 
-/* All that the program `ids` prints for a pack and an input, from the front of out: how many bytes. What the places past
- * them hold afterwards is not promised. A refused pack or input is printed as such. SK_ABSENT, and nothing written, where
- * out_length is below SK_PRINT_ROOM. The call needs about 230,000 bytes of stack. */
+/* All that the program `ids` prints for a pack and an input, from the front of out: how many bytes. What the places
+ * past them hold afterwards is not promised. A refused pack or input is printed as such. SK_ABSENT, and nothing
+ * written, where out_length is below SK_PRINT_ROOM. The call needs about 230,000 bytes of stack. */
 size_t sk_print(
     const uint8_t *pack, size_t pack_length,
     const uint8_t *input, size_t input_length,

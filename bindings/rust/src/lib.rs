@@ -11,9 +11,10 @@
 //! # Ok::<(), soahkimal::Refusal>(())
 //! ```
 //!
-//! What the library promises is proved; this face is tested. It owns the memory that the library is lent and gives it as
-//! much as it needs, so that refusals 7, 9 and 10 can't come. A trie is held privately and never changed: what was sound
-//! when it was made stays sound, and is not tested again for each text. The functions as they are stand in [`raw`].
+//! What the library promises is proved; this face is tested. It owns the memory that the library is lent and gives it
+//! as much as it needs, so that refusals 7, 9 and 10 can't come. A trie is held privately and never changed: what was
+//! sound when it was made stays sound, and is not tested again for each text. The functions as they are stand in
+//! [`raw`].
 
 #[macro_use]
 mod call;
@@ -34,6 +35,11 @@ pub use wordpiece::WordPiece;
 
 /// The mark for no id: the id of a node that ends no token.
 pub const NO_ID: u32 = u32::MAX;
+
+// the page's example in Rust is run as a test
+#[cfg(doctest)]
+#[doc = include_str!("../../README.md")]
+struct Readme;
 
 // answers of 2^32 and more are numbers of the type usize
 const _: () = assert!(size_of::<usize>() == 8);

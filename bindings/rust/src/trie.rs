@@ -58,9 +58,9 @@ fn shrink<T>(column: &mut Vec<T>, n: usize) {
 /// The nodes that a first try of a build has room for.
 const FIRST_ROOM: usize = 65_536;
 
-/// What a build leaves that is lent node, edge and work places. It is tried with little room first, and with twice as much
-/// after each refusal 7, up to the most nodes that there can be. Any other refusal comes before 7, so that little room is
-/// enough for it.
+/// What a build leaves that is lent node, edge and work places. It is tried with little room first, and with twice as
+/// much after each refusal 7, up to the most nodes that there can be. Any other refusal comes before 7, so that little
+/// room is enough for it.
 pub(crate) fn build(
     most: usize,
     scored: bool,

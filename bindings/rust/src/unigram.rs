@@ -73,8 +73,8 @@ impl Unigram {
         Self::from_spans(&tab, &spans, &scores, unknown)
     }
 
-    /// The same with tokens as spans (offset, length) of a string table. Refused 1, also where the lists differ in length;
-    /// at the first bad row 2, 3, 4, 5.
+    /// The same with tokens as spans (offset, length) of a string table. Refused 1, also where the lists differ in
+    /// length; at the first bad row 2, 3, 4, 5.
     pub fn from_spans(table: &[u8], spans: &[(u32, u32)], scores: &[f64], unknown: u32) -> Result<Self, Refusal> {
         let c = Columns::scored(spans, scores);
         let mut unknown_score = [0.0];
@@ -116,7 +116,7 @@ impl Unigram {
     fn work(&self, text: &[u8]) -> Result<Scratch, Refusal> {
         text::test(text)?;
         let (p, mut b) = (&self.parts, Scratch::new(text.len()));
-        // SAFETY: the parts are sound, the text was tested, and there are a slot more than bytes and a place for each byte.
+        // SAFETY: the parts are sound and the text was tested. There are more slots than bytes, and a place for each byte.
         let n = unsafe {
             call!(sk_segment_checked([p.edge_at], [p.edge_n], [p.id], [p.score], [p.byte], [p.to],
                 self.unknown, self.unknown_score, [text],

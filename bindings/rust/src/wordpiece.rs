@@ -16,8 +16,8 @@ pub struct WordPiece {
 }
 
 impl WordPiece {
-    /// The vocabulary of these tokens and ids. Pieces after a word's first begin with the prefix. Refused 1; at the first
-    /// bad row 3, 4, 6; then 1, 4 for the prefix.
+    /// The vocabulary of these tokens and ids. Pieces after a word's first begin with the prefix. Refused 1; at the
+    /// first bad row 3, 4, 6; then 1, 4 for the prefix.
     pub fn from_rows<T: AsRef<[u8]>>(
         rows: &[(T, u32)],
         unknown: u32,
@@ -29,8 +29,8 @@ impl WordPiece {
         Self::from_spans(&tab, &spans, &ids, unknown, max_chars, prefix)
     }
 
-    /// The same with tokens as spans (offset, length) of a string table. Refused 1, also where the lists differ in length;
-    /// at the first bad row 2, 3, 4, 6; then 1, 4 for the prefix.
+    /// The same with tokens as spans (offset, length) of a string table. Refused 1, also where the lists differ in
+    /// length; at the first bad row 2, 3, 4, 6; then 1, 4 for the prefix.
     pub fn from_spans(
         table: &[u8],
         spans: &[(u32, u32)],

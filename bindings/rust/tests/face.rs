@@ -1,4 +1,5 @@
-//! The safe face: every refusal that it can give, limits at their number and one above, empty inputs, memory that grows.
+//! The safe face: every refusal that it can give, limits at their number and one above, empty inputs, memory that
+//! grows.
 
 use soahkimal::{Fault, NO_ID, Pack, Parts, Refusal, Unigram, WordPiece, print, text};
 

@@ -1,5 +1,5 @@
-//! The functions as they are: null for empty buffers, buffers of no places, and refusals 7, 9 and 10, which the safe face
-//! can't give.
+//! The functions as they are: null for empty buffers, buffers of no places, and refusals 7, 9 and 10, which the safe
+//! face can't give.
 
 use soahkimal::raw::*;
 use std::ptr::{null, null_mut};
