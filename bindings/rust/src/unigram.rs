@@ -116,7 +116,7 @@ impl Unigram {
     fn work(&self, text: &[u8]) -> Result<Scratch, Refusal> {
         text::test(text)?;
         let (p, mut b) = (&self.parts, Scratch::new(text.len()));
-        // SAFETY: the parts are sound and the text was tested. There are more slots than bytes, and a place for each byte.
+        // SAFETY: the parts are sound, the text was tested, there are more slots than bytes, and a place for each byte
         let n = unsafe {
             call!(sk_segment_checked([p.edge_at], [p.edge_n], [p.id], [p.score], [p.byte], [p.to],
                 self.unknown, self.unknown_score, [text],

@@ -1,6 +1,8 @@
 //! The safe face: every refusal that it can give, limits at their number and one above, empty inputs, memory that
 //! grows.
 
+use std::collections::HashSet;
+
 use soahkimal::{Fault, NO_ID, Pack, Parts, Refusal, Unigram, WordPiece, print, text};
 
 fn refused<T>(answer: Result<T, Refusal>) -> (u32, Option<u32>) {
@@ -228,15 +230,32 @@ fn cuttings_of_long_characters() {
     assert_eq!((text::char_len(0xE6), text::char_len(0x97)), (3, 0));
 }
 
+/// Fewer nodes than bytes: the columns are as long as the trie.
+#[test]
+fn parts_are_cut_to_the_trie() {
+    let shared = Parts {
+        edge_at: vec![0, 1, 3, 3],
+        edge_n: vec![1, 2, 0, 0],
+        id: vec![NO_ID, NO_ID, 0, 1],
+        score: vec![0.0, 0.0, -1.0, -2.0],
+        byte: vec![b'a', b'b', b'c'],
+        to: vec![1, 2, 3],
+    };
+    let u = Unigram::from_rows(&[("ab", -1.0), ("ac", -2.0), ("ab", -4.0)], 0).unwrap();
+    assert_eq!((u.parts(), u.unknown_score()), (&shared, -14.0));
+    let w = WordPiece::from_spans(b"abac", &[(0, 2), (2, 2)], &[0, 1], 0, 9, b"").unwrap();
+    assert_eq!(w.parts(), &Parts { score: vec![], ..shared });
+}
+
 /// More nodes than the first try has room for, twice over, in a vocabulary and in a pack of the same rows.
 #[test]
 fn memory_grows() {
     let tokens: Vec<String> = (0..50_000).map(|i| format!("{:05}{:05}", i, 99_999 - i)).collect();
     let rows: Vec<(&str, u32)> = tokens.iter().zip(1..).map(|(t, i)| (t.as_str(), i)).collect();
     let w = WordPiece::from_rows(&rows, 0, 100, b"##").unwrap();
-    let nodes = w.parts().id.len();
+    let nodes = tokens.iter().flat_map(|t| (0..=t.len()).map(|n| &t[..n])).collect::<HashSet<_>>().len();
     assert!(nodes > 2 * 65_536, "{nodes} nodes");
-    assert_eq!((w.parts().to.len(), w.parts().edge_n.len(), w.parts().score.len()), (nodes - 1, nodes, 0));
+    assert_eq!((w.parts().id.len(), w.parts().to.len(), w.parts().score.len()), (nodes, nodes - 1, 0));
     for (i, token) in tokens.iter().enumerate().step_by(777) {
         assert_eq!(w.encode(token.as_bytes()).unwrap(), [i as u32 + 1]);
     }
