@@ -31,3 +31,5 @@ pub mod Storing
 pub mod Builds
 -- the tries that `build` leaves
 pub mod BuiltTries
+-- a slice of rows: judged, copied, and what comes of it
+pub mod Slices

@@ -10,6 +10,7 @@ pub mod lattice;
 pub mod path;
 pub mod runs;
 pub mod scores;
+pub mod slice;
 pub mod slots;
 
 ghost use mathlib.Core.Path.{_≡_};
