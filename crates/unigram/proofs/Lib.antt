@@ -33,3 +33,5 @@ pub mod Builds
 pub mod BuiltTries
 -- a slice of rows: judged, copied, and what comes of it
 pub mod Slices
+-- slices that are lent again for a call, and come back
+pub mod Again

@@ -9,8 +9,9 @@ use native.Mathlib.Numerals.{add-one}
 use borrow.Author.Tests.{lt-ltb, le-ltb, ltb-false}
 use lib.Dec.{ltb}
 use lib.Ieee.{Float}
-use lib.ListN.{length, getD, set, drop, length-map}
-use lib.Seq.{drop-cons, drop-length}
+use lib.ListN.{length, getD, set, take, drop, length-map, List·getD-map}
+use native.Mathlib.Omega.{arith}
+use lib.Seq.{drop-cons, drop-length, length-take-le, getD-take}
 use Rattle.doubles.specs.Double.{Double}
 use Rattle.doubles.specs.Units.{units}
 use Rattle.refusal.specs.declared.Fault.{Fault}
@@ -34,7 +35,7 @@ use Rattle.build.specs.Rules.{scoreOf}
 use Rattle.build.proofs.Rooms.{or-false}
 use Rattle.unigram.proofs.Columns.{map-set}
 use Rattle.unigram.specs.BuildRows.{RowPlaces, rowPlaces, rowsJudged}
-use Rattle.unigram.specs.Copied.{foundAfter, putRow, toCopy}
+use Rattle.unigram.specs.Copied.{foundAfter, putRow, putRows, toCopy}
 
 pub at-last : (b : Bool) → b ≡ (b || false)
 at-last true = refl
@@ -156,6 +157,43 @@ unfolding putRow rowIs
 row-put off len score i r x e =
     ap (λ (ys : List Double). record { off = set off i (r .off); len = set len i (r .len); score = ys })
     (map-set units score i x ∙ ap (set (map units score) i) e)
+
+-- ---- row by row, again
+
+-- before row i: putting the rows from there on leaves what putting them all leaves
+pub record Copying (rows : List code-row.Row) (n : ℕ) (start : RowPlaces) (i : ℕ) (now : RowPlaces) : Type 0 where
+  pub said : putRows now i (drop i (take n (map rowIs rows))) ≡ putRows start 0 (take n (map rowIs rows))
+
+module _ (rows : List code-row.Row) (n : ℕ) (start : RowPlaces) (within-rows : n ≤ length rows) where
+  abbrev all : List Row
+  all = take n (map rowIs rows)
+
+  all-long : length all ≡ n
+  all-long = length-take-le n (map rowIs rows) (omega (arith, length-map rows rowIs))
+
+  row-there : (i : ℕ) (d : code-row.Row) → i < n → getD all i (rowIs d) ≡ rowIs (getD rows i d)
+  row-there i d h = getD-take n (map rowIs rows) i (rowIs d) h ∙ List·getD-map rowIs rows i d
+
+  pub copying-start : Copying rows n start 0 start
+  copying-start = record { said = refl }
+
+  pub copying-turn :
+      (i : ℕ) (d : code-row.Row) {c c′ : RowPlaces} → i < n → c′ ≡ putRow c i (rowIs (getD rows i d)) → Copying rows n start i c → Copying rows n start (i + 1) c′
+  unfolding putRows
+  copying-turn i d {c = c} {c′ = c′} h e j =
+      record {
+        said =
+            ap (λ (k : ℕ). putRows c′ k (drop k all)) (add-one i)
+            ∙ ap (λ (x : RowPlaces). putRows x (suc i) (drop (suc i) all)) (e ∙ ap (putRow c i) (sym (row-there i d h)))
+            ∙ sym (ap (putRows c i) (drop-cons all i (rowIs d) (omega (arith, all-long))))
+            ∙ j .said;
+      }
+
+  pub copying-end : (i : ℕ) {c : RowPlaces} → i ≡ n → Copying rows n start i c → c ≡ putRows start 0 (take n (map rowIs rows))
+  unfolding putRows
+  copying-end i {c = c} e j =
+      let empty : drop i all ≡ [] = ap (λ (k : ℕ). drop k all) (e ∙ sym all-long) ∙ drop-length all in
+      sym (ap (putRows c i) empty) ∙ j .said
 
 -- ---- how many to copy
 
