@@ -35,3 +35,5 @@ pub mod BuiltTries
 pub mod Slices
 -- slices that are lent again for a call, and come back
 pub mod Again
+-- the promise of `build_rows`, in each case
+pub mod Copies

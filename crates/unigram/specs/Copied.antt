@@ -4,13 +4,14 @@ use Prim.Native.Nat.{ℕ, suc, _≤_}
 use mathlib.Core.Bool.{Bool, true, false, cond}
 use mathlib.Core.List.{List, [], _∷_}
 use mathlib.Core.Option.{Option, none, some}
+use lib.Dec.{eqb}
 use lib.Ieee.{Float}
 use lib.ListN.{length, set, take, replicate}
 use Rattle.doubles.specs.Double.{Double, plusZero}
 use Rattle.refusal.specs.declared.Fault.the-variants as fault
 use Rattle.refusal.specs.declared.Reason.{Reason}
 use Rattle.refusal.specs.declared.Reason.the-variants as reason
-use Rattle.refusal.specs.Refusal.{refuse, first}
+use Rattle.refusal.specs.Refusal.{numberOf, refuse, first}
 use Rattle.refusal.specs.Places.{filled}
 use Rattle.rows.specs.declared.Kind.the-variants as kind
 use Rattle.rows.specs.Rows.{Row, firstBad}
@@ -51,10 +52,10 @@ toCopy none short n = cond short 0 n
 abbrev pub firstPlaces : ℕ → List ℕ → List ℕ → List Float → Columns
 firstPlaces n off len score = columns (take n off) (take n len) (replicate n true) (take n score) (take n off)
 
--- the rows that were found fine stand in the first places, where there is room for them
-abbrev pub Ready : Option Reason → ℕ → List ℕ → List ℕ → List ℕ → List Float → Type 0
-Ready found n tab off len score =
-    found ≡ none → shortOf n (rowPlaces off len score) ≡ false → columnsFault kind.Unigram tab (firstPlaces n off len score) ≡ none
+-- what was found is a fault of the rows, which is never 7; and rows that were found fine stand in the first places, where there is room for them
+pub record Ready (found : Option Reason) (n : ℕ) (tab off len : List ℕ) (score : List Float) : Type 0 where
+  pub other : (r : Reason) → found ≡ some r → eqb (numberOf r) 7 ≡ false
+  pub fine : found ≡ none → shortOf n (rowPlaces off len score) ≡ false → columnsFault kind.Unigram tab (firstPlaces n off len score) ≡ none
 
 -- "1, rows, 7", from what was found
 unfoldable pub copiedFault : Option Reason → ℕ → List ℕ → Columns → RowPlaces → Memory → List Double → Option Reason

@@ -10,7 +10,7 @@ use rows::RowAnswer;
 use rows::Worth;
 use rows::columns::RowsAnswer;
 ghost use mathlib.Core.Path.{_≡_};
-ghost use mathlib.Core.Bool.{_||_};
+ghost use mathlib.Core.Bool.{false, _||_};
 ghost use mathlib.Core.List.{[], _∷_, map};
 ghost use mathlib.Core.Option.{none};
 ghost use Prim.Native.Nat.{_+_, _<_};
@@ -21,9 +21,12 @@ ghost use Rattle.refusal.specs.declared.Reason.the-variants as reason;
 ghost use Rattle.refusal.specs.Refusal.{refuse};
 ghost use Rattle.refusal.specs.Sizes.{maxRows, maxTable, above};
 ghost use Rattle.rows.specs.Rows.{worthIs, rowIs};
+ghost use Rattle.rows.specs.declared.Kind.the-variants.{Unigram};
+ghost use Rattle.rows.specs.Columns.{columnsFault};
 ghost use Rattle.rows.specs.Answers.{reasonIn};
 ghost use Rattle.build.specs.Rules.{scoreOf};
-ghost use Rattle.build.specs.Memory.{memory, anyBelow};
+ghost use Rattle.build.specs.Memory.{memory, anyBelow, cleared, zeroScores};
+ghost use Rattle.unigram.specs.Build as promise;
 ghost use Rattle.unigram.specs.BuildRows.{rowPlaces, rowsJudged, zeroRows, shortOf};
 ghost use Rattle.unigram.specs.Copied.{foundAfter, putRow, putRows, Places, toCopy, firstPlaces, Ready, CopiedBuilt};
 
@@ -133,4 +136,144 @@ pub(crate) fn to_copy(found: RowsAnswer, n: usize, off: usize, len: usize, score
             }
         }
     }
+}
+
+// Every place of the three columns zero.
+fn clear_rows(off: &mut [u32], len: &mut [u32], score: &mut [f64])
+    ensures { λ _. ⌜ rowPlaces (now (off .exit)) (now (len .exit)) (now (score .exit)) ≡ zeroRows (rowPlaces (now (off .entry)) (now (len .entry)) (now (score .entry))) ⌝ }
+{
+    build::zero::zero32(off);
+    build::zero::zero32(len);
+    crate::scores::zero(score);
+}
+
+// The build of the rows in the first n places.
+fn build_first(
+    n: usize,
+    tab: &[u8],
+    off: &[u32],
+    len: &[u32],
+    score: &[f64],
+    edge_at: &mut [u32],
+    edge_n: &mut [u16],
+    node_id: &mut [u32],
+    node_score: &mut [f64],
+    byte: &mut [u8],
+    to: &mut [u32],
+    work: &mut [u32],
+) -> BuildAnswer
+    requires { ⌜ shortOf n (rowPlaces (now off) (now len) (now score)) ≡ false ⌝ }
+    requires { ⌜ columnsFault Unigram (now tab) (firstPlaces n (now off) (now len) (now score)) ≡ none ⌝ }
+    ensures { λ r.
+        ⌜ promise.Built (now (tab .entry)) (firstPlaces n (now (off .entry)) (now (len .entry)) (now (score .entry)))
+        (memory (now («edge_at» .entry)) (now («edge_n» .entry)) (now («node_id» .entry)) (now (byte .entry)) (now (to .entry)) (now (work .entry)))
+        (map units (now («node_score» .entry)))
+        r
+        (memory (now («edge_at» .exit)) (now («edge_n» .exit)) (now («node_id» .exit)) (now (byte .exit)) (now (to .exit)) (now (work .exit)))
+        (map units (now («node_score» .exit))) ⌝ }
+{
+    let first = &off[..n];
+    fine::build_rows(
+        tab,
+        first,
+        &len[..n],
+        &score[..n],
+        first,
+        edge_at,
+        edge_n,
+        node_id,
+        node_score,
+        byte,
+        to,
+        work,
+    )
+}
+
+// Too little room for the rows: every lent place zero.
+fn refuse_short(
+    off: &mut [u32],
+    len: &mut [u32],
+    score: &mut [f64],
+    edge_at: &mut [u32],
+    edge_n: &mut [u16],
+    node_id: &mut [u32],
+    node_score: &mut [f64],
+    byte: &mut [u8],
+    to: &mut [u32],
+    work: &mut [u32],
+) -> BuildAnswer
+    ensures { λ r.
+        ⌜ (r ≡ BuildAnswer.Refused (reason.Call fault.Room))
+        × (rowPlaces (now (off .exit)) (now (len .exit)) (now (score .exit)) ≡ zeroRows (rowPlaces (now (off .entry)) (now (len .entry)) (now (score .entry))))
+        × (memory (now («edge_at» .exit)) (now («edge_n» .exit)) (now («node_id» .exit)) (now (byte .exit)) (now (to .exit)) (now (work .exit))
+        ≡ cleared (memory (now («edge_at» .entry)) (now («edge_n» .entry)) (now («node_id» .entry)) (now (byte .entry)) (now (to .entry)) (now (work .entry))))
+        × (map units (now («node_score» .exit)) ≡ zeroScores (map units (now («node_score» .entry)))) ⌝ }
+{
+    clear_rows(off, len, score);
+    build::zero::clear(edge_at, edge_n, node_id, byte, to, work);
+    crate::scores::zero(node_score);
+    BuildAnswer::Refused(Reason::Call(Fault::Room))
+}
+
+// The build of n rows that were found fine and copied, where the columns have room for them; or else what was found, or too little room.
+// Afterwards the columns are zero, but where a fault was found they are as they were.
+pub(crate) fn build_copied(
+    found: RowsAnswer,
+    n: usize,
+    tab: &[u8],
+    off: &mut [u32],
+    len: &mut [u32],
+    score: &mut [f64],
+    edge_at: &mut [u32],
+    edge_n: &mut [u16],
+    node_id: &mut [u32],
+    node_score: &mut [f64],
+    byte: &mut [u8],
+    to: &mut [u32],
+    work: &mut [u32],
+) -> BuildAnswer
+    requires { ⌜ Ready (reasonIn found) n (now tab) (now off) (now len) (now score) ⌝ }
+    ensures { λ r.
+        ⌜ CopiedBuilt (reasonIn found) n (now (tab .entry)) (firstPlaces n (now (off .entry)) (now (len .entry)) (now (score .entry)))
+        (rowPlaces (now (off .entry)) (now (len .entry)) (now (score .entry)))
+        (memory (now («edge_at» .entry)) (now («edge_n» .entry)) (now («node_id» .entry)) (now (byte .entry)) (now (to .entry)) (now (work .entry)))
+        (map units (now («node_score» .entry)))
+        r
+        (rowPlaces (now (off .exit)) (now (len .exit)) (now (score .exit)))
+        (memory (now («edge_at» .exit)) (now («edge_n» .exit)) (now («node_id» .exit)) (now (byte .exit)) (now (to .exit)) (now (work .exit)))
+        (map units (now («node_score» .exit))) ⌝ }
+{
+    if let RowsAnswer::Refused(r) = found {
+        return BuildAnswer::Refused(r);
+    }
+    if is_short(n, off.len(), len.len(), score.len()) {
+        return refuse_short(
+            off,
+            len,
+            score,
+            edge_at,
+            edge_n,
+            node_id,
+            node_score,
+            byte,
+            to,
+            work,
+        );
+    }
+    let answer = build_first(
+        n,
+        tab,
+        off,
+        len,
+        score,
+        edge_at,
+        edge_n,
+        node_id,
+        node_score,
+        byte,
+        to,
+        work,
+    );
+    clear_rows(off, len, score);
+    answer
 }
