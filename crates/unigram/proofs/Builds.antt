@@ -69,7 +69,7 @@ unfolding worthFault
 worth-number (score x) e = refused-by _ fault.Score none refl none-refused e
 worth-number (id i) e = same-fault e refl
 
-row-number : {f : Fault} (tab : List ℕ) (r : Row) → rowFault Unigram tab r ≡ some f → NotRoom f
+pub row-number : {f : Fault} (tab : List ℕ) (r : Row) → rowFault Unigram tab r ≡ some f → NotRoom f
 unfolding rowFault
 row-number tab r e =
     refused-by _ fault.Span _ refl
@@ -179,7 +179,7 @@ module _ (tab : List ℕ) (c : Columns) (m : Memory) (scores : List Double) wher
   unfolding first
   fault-bad e = fault-rows e
 
-  fault-fine : columnsFault Unigram tab c ≡ none → buildFault tab c m scores ≡ room-left
+  pub fault-fine : columnsFault Unigram tab c ≡ none → buildFault tab c m scores ≡ room-left
   unfolding first
   fault-fine e = fault-rows e
 

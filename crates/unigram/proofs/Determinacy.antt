@@ -20,7 +20,7 @@ use Rattle.unigram.specs.declared.BuildAnswer.{BuildAnswer}
 use Rattle.unigram.specs.declared.BuildAnswer.the-variants as answer-is
 use Rattle.unigram.specs.declared.SegmentAnswer.{SegmentAnswer}
 use Rattle.unigram.specs.Build.{Told, built, refused, told, buildFault, toldFor, Built}
-use Rattle.unigram.specs.BuildRows.{rowsFault, RowsBuilt}
+use Rattle.unigram.specs.BuildRows.{RowPlaces, rowsFault, RowsBuilt}
 use Rattle.unigram.specs.declared.SegmentAnswer.the-variants.{Ids, Refused}
 use Rattle.unigram.specs.Pieces.{Model, idsOf}
 use Rattle.unigram.specs.Segment.{Scratch, segmentFault, segmentAnswer, Segmented}
@@ -28,8 +28,11 @@ use Rattle.unigram.specs.Segment.{Scratch, segmentFault, segmentAnswer, 
 pub built-once : {tab : List ℕ} {c : Columns} {m : Memory} {x : List Double} {a b : BuildAnswer} {m₁ m₂ : Memory} {x₁ x₂ : List Double} → Built tab c m x a m₁ x₁ → Built tab c m x b m₂ x₂ → (told a ≡ told b) × (m₁ ≡ m₂) × (x₁ ≡ x₂)
 built-once p q = (p .answered ∙ sym (q .answered), p .columns ∙ sym (q .columns), p .scores ∙ sym (q .scores))
 
-pub rows-built-once : {tab : List ℕ} {rows : List Row} {m : Memory} {x : List Double} {a b : BuildAnswer} {m₁ m₂ : Memory} {x₁ x₂ : List Double} → RowsBuilt tab rows m x a m₁ x₁ → RowsBuilt tab rows m x b m₂ x₂ → (told a ≡ told b) × (m₁ ≡ m₂) × (x₁ ≡ x₂)
-rows-built-once p q = (p .answered ∙ sym (q .answered), p .columns ∙ sym (q .columns), p .scores ∙ sym (q .scores))
+pub rows-built-once :
+    {tab : List ℕ} {rows : List Row} {l : RowPlaces} {m : Memory} {x : List Double} {a b : BuildAnswer} {l₁ l₂ : RowPlaces} {m₁ m₂ : Memory} {x₁ x₂ : List Double}
+    → RowsBuilt tab rows l m x a l₁ m₁ x₁ → RowsBuilt tab rows l m x b l₂ m₂ x₂ → (told a ≡ told b) × (l₁ ≡ l₂) × (m₁ ≡ m₂) × (x₁ ≡ x₂)
+rows-built-once p q =
+    (p .answered ∙ sym (q .answered), p .places ∙ sym (q .places), p .columns ∙ sym (q .columns), p .scores ∙ sym (q .scores))
 
 -- "exactly when", both ways: a build is refused with r exactly when r is its fault, and says N and the unknown score exactly when there is none
 abbrev accepted : List ℕ → List Row → Told
@@ -64,12 +67,14 @@ module _ {tab : List ℕ} {c : Columns} {m : Memory} {x : List Double} {answer :
   pub build-accepted-exactly : (told answer ≡ built (nodesOf tab (rowsOf c)) (unknownScore (scoresOf (rowsOf c)))) ↔ (buildFault tab c m x ≡ none)
   build-accepted-exactly = by-none answer (buildFault tab c m x) tab (rowsOf c) (p .answered)
 
-module _ {tab : List ℕ} {rows : List Row} {m : Memory} {x : List Double} {answer : BuildAnswer} {after : Memory} {x′ : List Double} (p : RowsBuilt tab rows m x answer after x′) where
-  pub rows-refused-exactly : (r : Reason) → (answer ≡ answer-is.Refused r) ↔ (rowsFault tab rows m x ≡ some r)
-  rows-refused-exactly = by-reason answer (rowsFault tab rows m x) tab rows (p .answered)
+module _ {tab : List ℕ} {rows : List Row} {l : RowPlaces} {m : Memory} {x : List Double} {answer : BuildAnswer} {l′ : RowPlaces} {after : Memory} {x′ : List Double}
+    (p : RowsBuilt tab rows l m x answer l′ after x′)
+  where
+    pub rows-refused-exactly : (r : Reason) → (answer ≡ answer-is.Refused r) ↔ (rowsFault tab rows l m x ≡ some r)
+    rows-refused-exactly = by-reason answer (rowsFault tab rows l m x) tab rows (p .answered)
 
-  pub rows-accepted-exactly : (told answer ≡ built (nodesOf tab rows) (unknownScore (scoresOf rows))) ↔ (rowsFault tab rows m x ≡ none)
-  rows-accepted-exactly = by-none answer (rowsFault tab rows m x) tab rows (p .answered)
+    pub rows-accepted-exactly : (told answer ≡ built (nodesOf tab rows) (unknownScore (scoresOf rows))) ↔ (rowsFault tab rows l m x ≡ none)
+    rows-accepted-exactly = by-none answer (rowsFault tab rows l m x) tab rows (p .answered)
 
 pub segmented-once : {m : Model} {s : List ℕ} {b : Scratch} {a₁ a₂ : SegmentAnswer} {b₁ b₂ : Scratch} → Segmented m s b a₁ b₁ → Segmented m s b a₂ b₂ → (a₁ ≡ a₂) × (b₁ ≡ b₂)
 segmented-once p q = (p .answered ∙ sym (q .answered), p .left ∙ sym (q .left))

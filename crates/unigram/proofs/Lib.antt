@@ -31,3 +31,9 @@ pub mod Storing
 pub mod Builds
 -- the tries that `build` leaves
 pub mod BuiltTries
+-- a slice of rows: judged, copied, and what comes of it
+pub mod Slices
+-- slices that are lent again for a call, and come back
+pub mod Again
+-- the promise of `build_rows`, in each case
+pub mod Copies

@@ -1,6 +1,7 @@
 -- Unigram: the build, pieces, cuttings, records, ids, and what `build` and `segment` promise.
 pub mod Build
 pub mod BuildRows
+pub mod Copied
 pub mod NodeScores
 pub mod Cuttings
 pub mod Records
