@@ -23,7 +23,8 @@ def main():
     level = {}
     for name, ns in needs.items():
         level[name] = 1 + max((level[n] for n in ns), default=-1)
-    rows = [[n for n in needs if level[n] == k] for k in range(max(level.values()) + 1)]
+    needed = {n for ns in needs.values() for n in ns}
+    rows = [sorted((n for n in needs if level[n] == k), key=lambda n: n not in needed) for k in range(max(level.values()) + 1)]
     width = max(len(r) for r in rows) * (WIDE + GAP_X) + GAP_X
     place = {}
     for k, row in enumerate(rows):

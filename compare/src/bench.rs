@@ -39,7 +39,7 @@ fn runs<R>(mut call: impl FnMut() -> R) -> Vec<f64> {
 /// One line of `bench`: what, at which size of what, nanoseconds for each of how many: the least and the median of both.
 fn line<A, B>(what: &str, of: &str, size: usize, each: f64, rust: impl FnMut() -> A, port: impl FnMut() -> B) {
     let (a, b) = (runs(rust), runs(port));
-    let of_each = [a[0], a[7], b[0], b[7]].map(|ns| format!("{:.1}", ns / each)).join("\t");
+    let of_each = [a[0], a[7], b[0], b[7]].map(|ns| format!("{:.3}", ns / each)).join("\t");
     println!("{what}\t{of}\t{size}\t{of_each}\t{:.2}", b[0] / a[0]);
 }
 
@@ -94,7 +94,7 @@ fn sized(r: &mut Random, u: &tokie::Unigram, w: &tokie::Wordpiece, tokens: usize
         );
         let sound = runs(|| port::sound_scored(black_box(&p)));
         let nodes = p.edge_at.len() as f64;
-        println!("sound_scored\ttokens\t{tokens}\t\t\t{:.1}\t{:.1}\t", sound[0] / nodes, sound[7] / nodes);
+        println!("sound_scored\ttokens\t{tokens}\t\t\t{:.3}\t{:.3}\t", sound[0] / nodes, sound[7] / nodes);
     }
     let (tested, words) = (port::Tested::scored(&p), port::Tested::new(&q));
     let given = port::Given { unknown: 0, max_chars: 100, prefix: b"##" };
