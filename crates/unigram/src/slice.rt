@@ -92,13 +92,7 @@ fn put_row(off: &mut [u32], len: &mut [u32], score: &mut [f64], i: usize, row: R
 }
 
 // The first n rows go to the first places of the columns.
-pub(crate) fn copy(
-    rows: &[Row],
-    n: usize,
-    off: &mut [u32],
-    len: &mut [u32],
-    score: &mut [f64],
-)
+pub(crate) fn copy(rows: &[Row], n: usize, off: &mut [u32], len: &mut [u32], score: &mut [f64])
     requires { ⌜ Places n (now rows) (now off) (now len) (now score) ⌝ }
     ensures { λ _. ⌜ rowPlaces (now (off .exit)) (now (len .exit)) (now (score .exit)) ≡ putRows (rowPlaces (now (off .entry)) (now (len .entry)) (now (score .entry))) 0 (take n (map rowIs (now (rows .entry)))) ⌝ }
 {
@@ -128,13 +122,7 @@ pub(crate) fn to_copy(found: RowsAnswer, n: usize, off: usize, len: usize, score
 {
     match found {
         RowsAnswer::Refused(_) => 0,
-        RowsAnswer::Fine => {
-            if is_short(n, off, len, score) {
-                0
-            } else {
-                n
-            }
-        }
+        RowsAnswer::Fine => { if is_short(n, off, len, score) { 0 } else { n } }
     }
 }
 

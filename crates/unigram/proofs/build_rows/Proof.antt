@@ -82,11 +82,14 @@ use Rattle.unigram.proofs.build_rows.Statement as stated
 use Rattle.unigram.proofs.build_rows.Code as code
 use Rattle.unigram.proofs.build_rows.Code.Mir as body
 
-
 abbrev stayed : Stays (build-rows.ended .signature .params) (build-rows.ended .kept)
-stayed =
-    (stay-none-slice (0 ∷ []) tt (plain (λ _. u8)) yes, (stay-none-slice (1 ∷ []) tt (plain (λ _. T.the-row)) yes,
-    (gave-slice (2 ∷ []) tt (plain (λ _. u32)), (gave-slice (3 ∷ []) tt (plain (λ _. u32)), (gave-slice (4 ∷ []) tt (plain (λ _. f64)), (gave-slice (5 ∷ []) tt (plain (λ _. u32)), (gave-slice (6 ∷ []) tt (plain (λ _. u16)), (gave-slice (7 ∷ []) tt (plain (λ _. u32)), (gave-slice (8 ∷ []) tt (plain (λ _. f64)), (gave-slice (9 ∷ []) tt (plain (λ _. u8)), (gave-slice (10 ∷ []) tt (plain (λ _. u32)), (gave-slice (11 ∷ []) tt (plain (λ _. u32)), tt))))))))))))
+stayed = (
+  stay-none-slice (0 ∷ []) tt (plain (λ _. u8)) yes,
+  (
+    stay-none-slice (1 ∷ []) tt (plain (λ _. T.the-row)) yes,
+    (gave-slice (2 ∷ []) tt (plain (λ _. u32)), (gave-slice (3 ∷ []) tt (plain (λ _. u32)), (gave-slice (4 ∷ []) tt (plain (λ _. f64)), (gave-slice (5 ∷ []) tt (plain (λ _. u32)), (gave-slice (6 ∷ []) tt (plain (λ _. u16)), (gave-slice (7 ∷ []) tt (plain (λ _. u32)), (gave-slice (8 ∷ []) tt (plain (λ _. f64)), (gave-slice (9 ∷ []) tt (plain (λ _. u8)), (gave-slice (10 ∷ []) tt (plain (λ _. u32)), (gave-slice (11 ∷ []) tt (plain (λ _. u32)), tt)))))))))),
+  ),
+)
 
 -- ---- the locals' types, and the function with them written out
 

@@ -67,9 +67,13 @@ use Rattle.unigram.proofs.slice.copy.Code as code
 use Rattle.unigram.proofs.slice.copy.Code.Mir as body
 
 abbrev stayed : Stays (copy.ended .signature .params) (copy.ended .kept)
-stayed =
-    (stay-none-slice (0 ∷ []) tt (plain (λ _. T.the-row)) yes, (stay-none (λ _. usize) yes,
-    (stay-slice (1 ∷ []) tt (plain (λ _. u32)), (stay-slice (2 ∷ []) tt (plain (λ _. u32)), (stay-slice (3 ∷ []) tt (plain (λ _. f64)), tt)))))
+stayed = (
+  stay-none-slice (0 ∷ []) tt (plain (λ _. T.the-row)) yes,
+  (
+    stay-none (λ _. usize) yes,
+    (stay-slice (1 ∷ []) tt (plain (λ _. u32)), (stay-slice (2 ∷ []) tt (plain (λ _. u32)), (stay-slice (3 ∷ []) tt (plain (λ _. f64)), tt))),
+  ),
+)
 
 -- ---- the locals' types, and the function with them written out
 
@@ -434,9 +438,13 @@ module _ {M : Type 1} (𝓤 : URA M) (H : Heap 𝓤) (A : Atoms 𝓤) (W : Given
 
   copy-meets : Meets 𝓤 H A copy.signature (WpFn 𝓤 H (𝓣 .C) (𝓣 .Λ) code.function) (copy.spec 𝓤 H A mem run)
   copy-meets = subst (λ (f : Fn). Meets 𝓤 H A copy.signature (WpFn 𝓤 H (𝓣 .C) (𝓣 .Λ) f) (copy.spec 𝓤 H A mem run)) is-spelt
-      (walk-meets 𝓤 H A copy.ended stayed W
-      (goes-none-slice 𝓤 H A W 4 (0 ∷ []) tt (plain (λ _. T.the-row)) yes, (goes-none 𝓤 H A W 4 (λ _. usize) yes (λ κs x f. refl),
-      (goes-slice 𝓤 H A W 4 1 tt (plain (λ _. u32)), (goes-slice 𝓤 H A W 4 2 tt (plain (λ _. u32)), (goes-slice 𝓤 H A W 4 3 tt (plain (λ _. f64)), tt)))))
+      (walk-meets 𝓤 H A copy.ended stayed W (
+        goes-none-slice 𝓤 H A W 4 (0 ∷ []) tt (plain (λ _. T.the-row)) yes,
+        (
+          goes-none 𝓤 H A W 4 (λ _. usize) yes (λ κs x f. refl),
+          (goes-slice 𝓤 H A W 4 1 tt (plain (λ _. u32)), (goes-slice 𝓤 H A W 4 2 tt (plain (λ _. u32)), (goes-slice 𝓤 H A W 4 3 tt (plain (λ _. f64)), tt))),
+        ),
+      )
       (copy.clauses 𝓤 H A mem run) (WpFn 𝓤 H (𝓣 .C) (𝓣 .Λ) spelt) (WpFn-mono 𝓤 H (W .laws) 𝓣 spelt) copy-walks)
 
 pub copy-spec : {M : Type 1} → stated.statement M
