@@ -289,7 +289,7 @@ pub(crate) fn entry(table: &[u32; 256], b: u8) -> u32
 }
 
 // How many bytes the character has that this byte begins; 0 where it begins none. By tests and not by the table: a call that reads one
-// entry of a constant table first lays out all of it, 15 ns against 3.
+// entry of a constant table first lays out all of it.
 pub fn char_len(b: u8) -> usize
     ensures { λ r. ⌜ r ≡ lengthOf b ⌝ }
 {
