@@ -13,6 +13,7 @@
 //!   compare builds [SEED] [--quick]            both builds against tokie's, column by column
 //!   compare packs [SEED] [--quick]             packs and what the program prints; the program itself
 //!   compare packs --print                      prints the cases that `replay` replays
+//!   compare print PACK < COMMENTS              what the Rust and 01 give for a pack and comments
 //!   compare all [SEED] [--quick]               all of these but `definitions`, and a table at the end
 //!   compare bench                              times at several sizes, one line each, for tools/draw_times.py
 //!   compare bench-text, bench-tries, bench-wordpieces, bench-segments, bench-builds   times
@@ -75,6 +76,13 @@ fn main() -> ExitCode {
         #[cfg(feature = "port")]
         Some("all") => all(root, seed, quick),
         #[cfg(feature = "port")]
+        Some("print") if args.len() == 2 => {
+            let pack = std::fs::read(&args[1]).unwrap_or_default();
+            let mut input = Vec::new();
+            std::io::Read::read_to_end(&mut std::io::stdin(), &mut input).expect("standard input is read");
+            std::io::Write::write_all(&mut std::io::stdout(), &packs::printed(&pack, &input)).is_ok()
+        }
+        #[cfg(feature = "port")]
         Some("bench") => {
             bench::all();
             true
@@ -114,7 +122,7 @@ fn main() -> ExitCode {
         }
         _ => {
             eprintln!(
-                "usage: compare examples | sums [--print] | definitions [SEED..] [--cases N] | text [SEED] [--quick] | tries [SEED] [--quick] | wordpieces [SEED] [--quick] | segments [SEED] [--quick] | builds [SEED] [--quick] | packs [SEED] [--quick] [--print] | all [SEED] [--quick] | bench | bench-text | bench-tries | bench-wordpieces | bench-segments | bench-builds"
+                "usage: compare examples | sums [--print] | definitions [SEED..] [--cases N] | text [SEED] [--quick] | tries [SEED] [--quick] | wordpieces [SEED] [--quick] | segments [SEED] [--quick] | builds [SEED] [--quick] | packs [SEED] [--quick] [--print] | print PACK | all [SEED] [--quick] | bench | bench-text | bench-tries | bench-wordpieces | bench-segments | bench-builds"
             );
             return ExitCode::from(2);
         }
