@@ -101,7 +101,7 @@ fn write_wordpiece(w: &mut Written, r: &mut Random, k: usize) {
         let (word, max_chars) = (small::text(r, &tokens), if r.one_in(3) { r.below(8) as u32 } else { 100 });
         let ids = built.encode(&word, max_chars);
         if word.is_empty() && !ids.is_empty() {
-            // 01's one known difference: an absent prefix and an empty word
+            // The paper's one known difference: an absent prefix and an empty word
             w.known_difference += 1;
         } else {
             words.push((word, max_chars, ids));

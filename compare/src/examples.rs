@@ -1,4 +1,4 @@
-//! 01's table of examples and its pack case, on the Rust: it gives what 01 says, and so what `worked` proves of the
+//! The paper's table of examples and its pack case, on the Rust: it gives what the paper says, and so what `worked` proves of the
 //! definitions.
 
 use crate::tokie::{Lattice, Unigram, VocabTrie, Wordpiece};
@@ -43,6 +43,6 @@ pub fn run() -> bool {
         ),
     ];
     let wrong: Vec<&str> = gives.iter().filter(|g| !g.1).map(|g| g.0).collect();
-    println!("01's examples on the Rust: {} tried, {} different {wrong:?}", gives.len(), wrong.len());
+    println!("the paper's examples on the Rust: {} tried, {} different {wrong:?}", gives.len(), wrong.len());
     wrong.is_empty()
 }

@@ -1,6 +1,6 @@
 //! Compares the port and its definitions with the Rust of tokie, run unchanged.
 //!
-//!   compare examples                           01's examples on the Rust
+//!   compare examples                           the paper's examples on the Rust
 //!   compare sums [--print]                     the stored sums are the Rust's; or prints them
 //!   compare definitions [SEED..] [--cases N]   small random cases, the definitions computed by the checker
 //!
@@ -13,7 +13,7 @@
 //!   compare builds [SEED] [--quick]            both builds against tokie's, column by column
 //!   compare packs [SEED] [--quick]             packs and what the program prints; the program itself
 //!   compare packs --print                      prints the cases that `replay` replays
-//!   compare print PACK < COMMENTS              what the Rust and 01 give for a pack and comments
+//!   compare print PACK < COMMENTS              what the Rust and the paper give for a pack and comments
 //!   compare all [SEED] [--quick]               all of these but `definitions`, and a table at the end
 //!   compare bench                              times at several sizes, one line each, for tools/draw_times.py
 //!   compare bench-text, bench-tries, bench-wordpieces, bench-segments, bench-builds   times
@@ -134,7 +134,7 @@ fn main() -> ExitCode {
 #[cfg(feature = "port")]
 fn all(root: &Path, seed: u64, quick: bool) -> bool {
     let each: [(&str, &dyn Fn() -> bool); 8] = [
-        ("01's examples", &examples::run),
+        ("the paper's examples", &examples::run),
         ("the stored sums", &|| sums::stored(root)),
         ("text", &|| text::run(seed, quick)),
         ("tries", &|| tries::run(seed, quick)),

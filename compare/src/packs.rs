@@ -1,4 +1,4 @@
-//! Packs and the program. What the program prints is read off 01 here a second time, with the Rust of tokie for tries and
+//! Packs and the program. What the program prints is read off the paper here a second time, with the Rust of tokie for tries and
 //! ids, and compared with the compiled port: random packs and inputs, each limit, and damaged packs. The program itself
 //! is run too, with its input in pieces.
 
@@ -126,7 +126,7 @@ fn line_ids(v: &Vocabulary, line: &[u8]) -> Result<Vec<u32>, u32> {
         Vocabulary::Unigram(_) if !text.is_empty() && (4_096 < text.len() + 1 || 4_096 < characters) => Err(9),
         _ if 4_096 < characters => Err(10),
         Vocabulary::Unigram(lattice) => Ok(lattice.segment(text).ids),
-        // 01's one known difference: an empty word has no ids
+        // The paper's one known difference: an empty word has no ids
         Vocabulary::WordPiece(..) if text.is_empty() => Ok(Vec::new()),
         Vocabulary::WordPiece(trie, max_chars) => Ok(trie.encode(text, *max_chars)),
     }
@@ -418,7 +418,7 @@ pub fn stored_bytes() -> Vec<u8> {
     out
 }
 
-/// What `replay` replays is what the Rust and 01 give.
+/// What `replay` replays is what the Rust and the paper give.
 pub fn stored(root: &Path) -> bool {
     let path: PathBuf = root.join("crates/replay/stdin");
     let same = fs::read(&path).is_ok_and(|bytes| bytes == stored_bytes());

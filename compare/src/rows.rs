@@ -1,4 +1,4 @@
-//! Row lists as the port is lent them, and 01's rules for them in Rust: which fault a list has, written from 01's
+//! Row lists as the port is lent them, and the paper's rules for them in Rust: which fault a list has, written from the paper's
 //! sentences alone.
 
 /// A row's worth.

@@ -214,7 +214,7 @@ fn enumeration(seed: u64, count: usize) -> bool {
     t.say("Unigram, records against all cuttings")
 }
 
-/// 01's examples 1 to 8: the port gives what the Rust gives, which `compare examples` holds to 01.
+/// The paper's examples 1 to 8: the port gives what the Rust gives, which `compare examples` holds to the paper.
 fn examples() -> bool {
     let mut t = Tally::default();
     let unk = ("<unk>", 0.0);
@@ -234,7 +234,7 @@ fn examples() -> bool {
         let parts = lattice.parts();
         texts.iter().for_each(|s| text_alike(&mut t, &parts, &lattice, unknown, s));
     }
-    t.say("Unigram, 01's examples 1 to 8")
+    t.say("Unigram, the paper's examples 1 to 8")
 }
 
 /// The order of refusals: 1, 8, 4, before 9 and 10.

@@ -115,7 +115,7 @@ impl VocabTrie {
         }
     }
 
-    /// The ids of a word. 01's one known difference: on an empty word with an absent prefix the Rust gives one unknown
+    /// The ids of a word. the paper's one known difference: on an empty word with an absent prefix the Rust gives one unknown
     /// id, and the port none.
     pub fn encode(&self, word: &str, max_chars: u32) -> Vec<u32> {
         let mut ids = Vec::new();
@@ -129,7 +129,7 @@ impl VocabTrie {
     }
 }
 
-/// What the span check answers: the part, or the number that 01 gives the fault.
+/// What the span check answers: the part, or the number that the paper gives the fault.
 pub fn span(table: &[u8], off: u32, len: u32) -> Result<&str, u32> {
     file::text_of(table, off, len).map_err(|said| if said.contains("not utf-8") { 4 } else { 2 })
 }

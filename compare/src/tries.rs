@@ -1,4 +1,4 @@
-//! Tries, the compiled port against an independent test of soundness, written from 01's list, and against the Rust's
+//! Tries, the compiled port against an independent test of soundness, written from the paper's list, and against the Rust's
 //! look-up. Every single fault is tried in every position of small tries.
 
 use crate::port;
@@ -7,7 +7,7 @@ use crate::small;
 use crate::text::Tally;
 use crate::tokie::{Lattice, Parts};
 
-/// 01's list, sentence by sentence: "1 to 4,294,967,295 nodes; columns of equal length; each node's edges lie inside the
+/// The paper's list, sentence by sentence: "1 to 4,294,967,295 nodes; columns of equal length; each node's edges lie inside the
 /// edge part, at most 256, bytes strictly rising; each target is a node".
 fn sound(p: &Parts) -> bool {
     let nodes = p.edge_at.len();

@@ -26,7 +26,7 @@ impl Case<'_> {
         let characters = word.chars().count();
         let mut expected = self.trie.encode(word, self.given.max_chars);
         if word.is_empty() && !expected.is_empty() {
-            // 01's one known difference: an absent prefix and an empty word
+            // The paper's one known difference: an absent prefix and an empty word
             *known += 1;
             expected.clear();
         }
@@ -105,7 +105,7 @@ fn random(seed: u64, count: usize) -> bool {
     t.say("WordPiece, random words over 30,000 tokens")
 }
 
-/// 01's examples 9 to 12 and its pack case: the port gives what the Rust gives, which `compare examples` holds to 01.
+/// The paper's examples 9 to 12 and its pack case: the port gives what the Rust gives, which `compare examples` holds to the paper.
 fn examples() -> bool {
     let (mut t, mut known) = (Tally::default(), 0);
     let vocabularies: [(&[(&str, u32)], &[(&str, u32)]); 4] = [
@@ -123,7 +123,7 @@ fn examples() -> bool {
             case.alike(&mut t, &mut known, word);
         }
     }
-    t.say("WordPiece, 01's examples 9 to 12 and its case")
+    t.say("WordPiece, the paper's examples 9 to 12 and its case")
 }
 
 /// Each refusal, alone and with a later one, and the limits at the number and one above.
