@@ -21,7 +21,7 @@ use Rattle.trie.specs.declared.LookupAnswer.{LookupAnswer}
 use Rattle.trie.specs.declared.LookupAnswer.the-variants.{Found, Absent, Refused}
 use Rattle.unigram.specs.declared.SegmentAnswer.{SegmentAnswer}
 use Rattle.unigram.specs.declared.SegmentAnswer.the-variants as segment-is
-use Rattle.unigram.specs.Build.{Told, built, refused, buildFault, toldFor}
+use Rattle.scored.specs.Build.{Told, built, refused, buildFault, toldFor}
 use Rattle.unigram.specs.Pieces.{Model, idsOf}
 use Rattle.unigram.specs.Segment.{Scratch, segmentFault, segmentAnswer, segmentLeaves, RecordLaw}
 use Rattle.wordpiece.specs.declared.EncodeAnswer.{EncodeAnswer}

@@ -7,7 +7,7 @@ ghost use Rattle.doubles.specs.Units.{units};
 ghost use Rattle.rows.specs.Answers.{columns};
 ghost use Rattle.build.specs.Memory.{memory};
 ghost use Rattle.exports.specs.Flat.{reasonNumber, fromRowsNumber, FromRowsAs, toldNumber, toldScore, withFirst, BuiltAs};
-ghost use Rattle.unigram.specs.Build.{told};
+ghost use Rattle.scored.specs.Build.{told};
 
 // The reason as one number.
 pub fn reason_number(r: Reason) -> u64
@@ -77,15 +77,15 @@ pub fn put_score(places: &mut [f64], x: f64)
 }
 
 // An answer of `build` as one number, and its unknown score in the first of the lent places.
-fn built_number(a: unigram::BuildAnswer, unknown_score: &mut [f64]) -> u64
+fn built_number(a: scored::BuildAnswer, unknown_score: &mut [f64]) -> u64
     ensures { λ n. ⌜ (n ≡ toldNumber (told a)) × (map units (now («unknown_score» .exit)) ≡ toldScore (told a) (map units (now («unknown_score» .entry)))) ⌝ }
 {
     match a {
-        unigram::BuildAnswer::Built(s) => {
+        scored::BuildAnswer::Built(s) => {
             put_score(unknown_score, s.unknown_score);
             s.nodes as u64
         }
-        unigram::BuildAnswer::Refused(r) => reason_number(r),
+        scored::BuildAnswer::Refused(r) => reason_number(r),
     }
 }
 
@@ -116,7 +116,7 @@ pub extern "C" fn sk_build(
         (map units (now («node_score» .exit))) (map units (now («unknown_score» .exit))) ⌝ }
 {
     built_number(
-        unigram::build(
+        scored::build(
             tab,
             off,
             len,

@@ -46,7 +46,7 @@ use Rattle.build.proofs.Lookups.{tokens-bytes}
 use Rattle.unigram.specs.Work.{pieceWith}
 use Rattle.unigram.specs.Pieces.{Model}
 use Rattle.unigram.specs.Segment.{Scratch, segmentFault}
-use Rattle.unigram.proofs.Working.{below-or}
+use Rattle.scored.proofs.Lists.{below-or}
 use Rattle.unigram.proofs.BuiltTries as tries
 use Rattle.wordpiece.specs.Encode.{encodeFault}
 use Rattle.wordpiece.proofs.BuiltTries as words

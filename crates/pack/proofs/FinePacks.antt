@@ -13,7 +13,7 @@ use Rattle.rows.specs.declared.Kind.the-variants.{Unigram, WordPiece}
 use Rattle.rows.specs.Scores.{unknownScore}
 use Rattle.build.specs.Rules.{scoresOf}
 use Rattle.build.specs.Memory.{zeroScores}
-use Rattle.unigram.specs.NodeScores.{filledScores}
+use Rattle.scored.specs.NodeScores.{filledScores}
 use Rattle.pack.specs.declared.header.Header as code-header
 use Rattle.pack.specs.declared.PackAnswer.the-variants as answer-is
 use Rattle.pack.specs.Pack.{Header, headerOf, rowsFrom, rowsOf, stringsOf}

@@ -36,7 +36,7 @@ use Rattle.build.proofs.Rooms.{room-for, no-scored-room, nodes-some, nodes-few}
 use Rattle.build.proofs.Outcomes.{core-full, core-fits}
 use Rattle.build.proofs.Lookups.{noRow}
 use Rattle.build.proofs.Sounds.{length-id}
-use Rattle.unigram.specs.NodeScores.{rowScore, filledScores}
+use Rattle.scored.specs.NodeScores.{rowScore, filledScores}
 use Rattle.pack.specs.declared.header.Header as code-header
 use Rattle.pack.specs.declared.PackAnswer.{PackAnswer}
 use Rattle.pack.specs.declared.PackAnswer.the-variants as answer-is

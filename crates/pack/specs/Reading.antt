@@ -19,7 +19,7 @@ use Rattle.rows.specs.Rows.{Row, Worth, score, id, worthFault, rowFault, firstB
 use Rattle.build.specs.Held.{Enterable}
 use Rattle.build.specs.Memory.{Memory, zeroScores}
 use Rattle.build.specs.Rules.{scoresOf}
-use Rattle.unigram.specs.NodeScores.{filledScores}
+use Rattle.scored.specs.NodeScores.{filledScores}
 use Rattle.pack.specs.declared.header.Header as code-header
 use Rattle.pack.specs.declared.header.Layout.{Layout}
 use Rattle.pack.specs.declared.header.Layout.the-variants.{Of, Wrong}

@@ -12,7 +12,7 @@ ghost use Rattle.refusal.specs.Places.{zeroed};
 ghost use Rattle.rows.specs.declared.Kind.the-variants.{Unigram};
 ghost use Rattle.rows.specs.Scores.{lowest, unknownScore};
 ghost use Rattle.build.specs.Rules.{scoresOf};
-ghost use Rattle.unigram.specs.NodeScores.{filledScores};
+ghost use Rattle.scored.specs.NodeScores.{filledScores};
 ghost use Rattle.pack.specs.Pack.{rowsFrom};
 ghost use Rattle.pack.specs.Reading.{doubleAt, rowStart, FiniteRows};
 

@@ -15,7 +15,8 @@ use Rattle.doubles.proofs.Sums.{sum-number, sum-mono, never-minus-zero}
 use Rattle.unigram.specs.Cuttings.{Piece, Slot, Cutting, empty, then, total, Through, whole, Best}
 use Rattle.unigram.specs.Records.{scoreOf, offered, candidate, best}
 use Rattle.unigram.proofs.Laws.{keeps, takes}
-use Rattle.unigram.proofs.Working.{Pieces, no-piece, looked, below-or, worked, passed, none-before, true-false}
+use Rattle.scored.proofs.Lists.{below-or}
+use Rattle.unigram.proofs.Working.{Pieces, no-piece, looked, worked, passed, none-before, true-false}
 
 some-same : {A : Type 0} {x y : A} → some x ≡ some y → x ≡ y
 some-same e = cc

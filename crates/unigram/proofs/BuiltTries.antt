@@ -44,17 +44,17 @@ use Rattle.build.proofs.Named.{grown-names}
 use Rattle.build.proofs.Laid.{getD-map-of, walk-built}
 use Rattle.build.proofs.Sounds.{sound-built, length-edgeAt, length-edgeN, length-id, length-byte, length-to}
 use Rattle.build.proofs.Lookups.{tokens-bytes, unigram-lookup}
-use Rattle.unigram.specs.declared.Summary.{Summary}
-use Rattle.unigram.specs.declared.BuildAnswer.the-variants as answer-is
+use Rattle.scored.specs.declared.Summary.{Summary}
+use Rattle.scored.specs.declared.BuildAnswer.the-variants as answer-is
 use Rattle.unigram.specs.declared.SegmentAnswer.the-variants as segment-is
-use Rattle.unigram.specs.Build.{built, told, buildFault, toldFor, Built}
+use Rattle.scored.specs.Build.{built, told, buildFault, toldFor, Built}
 use Rattle.unigram.specs.Cuttings.{Piece}
 use Rattle.unigram.specs.Work.{pieceWith}
 use Rattle.unigram.specs.Pieces.{Model, pieceAt, known}
 use Rattle.unigram.specs.Segment.{Scratch, segmentFault, Segmented}
-use Rattle.unigram.proofs.Working.{below-or}
+use Rattle.scored.proofs.Lists.{below-or}
 use Rattle.unigram.proofs.Determinacy.{refused-exactly}
-use Rattle.unigram.proofs.Builds.{nodes-small, scores-are}
+use Rattle.scored.proofs.Builds.{nodes-small, scores-are}
 
 -- the parts with n nodes that lent columns hold in front
 abbrev pub trieIn : ℕ → Memory → Trie

@@ -18,25 +18,10 @@ use Rattle.unigram.specs.Cuttings.{Piece, Slot}
 use Rattle.unigram.specs.Records.{offered, candidate, shown}
 use Rattle.unigram.specs.Slots.{Slots, slotsOf, slotAt, Inside, PutAt, taken, afterOffer}
 use Rattle.unigram.specs.Work.{Cleared}
-use Rattle.unigram.proofs.Working.{below-or}
+use Rattle.scored.proofs.Lists.{below-or, map-inside, place-inside, map-set}
 use Rattle.unigram.proofs.Best.{same-slot}
 
 -- ---- places
-
-pub map-inside {ℓ κ} : {A : Type ℓ} {B : Type κ} (f : A → B) (xs : List A) (k : ℕ) (d : A) (e : B) → k < length xs → getD (map f xs) k e ≡ f (getD xs k d)
-map-inside f [] k d e l = absurd (omega arith)
-map-inside f (x ∷ xs) zero d e l = refl
-map-inside f (x ∷ xs) (suc k) d e l = map-inside f xs k d e (omega arith)
-
-pub place-inside {ℓ} : {A : Type ℓ} (xs : List A) (k : ℕ) (d e : A) → k < length xs → getD xs k d ≡ getD xs k e
-place-inside [] k d e l = absurd (omega arith)
-place-inside (x ∷ xs) zero d e l = refl
-place-inside (x ∷ xs) (suc k) d e l = place-inside xs k d e (omega arith)
-
-pub map-set {ℓ κ} : {A : Type ℓ} {B : Type κ} (f : A → B) (xs : List A) (k : ℕ) (a : A) → map f (set xs k a) ≡ set (map f xs) k (f a)
-map-set f [] k a = refl
-map-set f (x ∷ xs) zero a = refl
-map-set f (x ∷ xs) (suc k) a = ap (λ l. f x ∷ l) (map-set f xs k a)
 
 -- one place is written
 set-at : {A : Type 0} (xs : List A) (j k : ℕ) (a d : A) → j < length xs → (t : Bool) → eqb k j ≡ t → getD (set xs j a) k d ≡ cond t a (getD xs k d)

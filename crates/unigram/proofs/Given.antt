@@ -19,7 +19,8 @@ use Rattle.trie.specs.Sound.{Sound, SoundScored}
 use Rattle.trie.proofs.Walking.{walk-inside}
 use Rattle.unigram.specs.Cuttings.{Piece}
 use Rattle.unigram.specs.Pieces.{Model, pieceAt, known, pieceHere, pieceOf}
-use Rattle.unigram.proofs.Working.{Pieces, no-piece, looked, below-or, true-false}
+use Rattle.scored.proofs.Lists.{below-or}
+use Rattle.unigram.proofs.Working.{Pieces, no-piece, looked, true-false}
 
 -- ---- taking the rule apart
 

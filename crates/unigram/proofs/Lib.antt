@@ -25,15 +25,5 @@ pub mod Placing
 pub mod Segmenting
 -- which test gives which fault, and the promise of `segment`
 pub mod Refusing
--- the score column of a build
-pub mod Storing
--- the promise of `build`, in each case
-pub mod Builds
--- the tries that `build` leaves
+-- the tries that `scored::build` leaves
 pub mod BuiltTries
--- a slice of rows: judged, copied, and what comes of it
-pub mod Slices
--- slices that are lent again for a call, and come back
-pub mod Again
--- the promise of `build_rows`, in each case
-pub mod Copies

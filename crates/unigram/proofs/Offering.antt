@@ -23,7 +23,8 @@ use Rattle.unigram.specs.Records.{scoreOf, offered, candidate, best, sho
 use Rattle.unigram.specs.Pieces.{Model, pieceAt, known, pieceHere, pieceOf}
 use Rattle.unigram.specs.Slots.{Slots, slotAt, PutAt, taken, afterOffer}
 use Rattle.unigram.specs.Work.{Cleared, isSome, endsHere, Ended, knownTo, KnownOffered, Holds, Ready, Worked, Recorded}
-use Rattle.unigram.proofs.Working.{Pieces, no-piece, true-false, looked, below-or, worked, passed, none-before, jumped, settled-le}
+use Rattle.scored.proofs.Lists.{below-or}
+use Rattle.unigram.proofs.Working.{Pieces, no-piece, true-false, looked, worked, passed, none-before, jumped, settled-le}
 use Rattle.unigram.proofs.Best.{Standing, status, filled, is-best, score-of}
 use Rattle.unigram.proofs.Given.{given, piece-between, between}
 use Rattle.unigram.proofs.Columns.{put-as, put-back, taken-empty, taken-weighed, Filled, filled-of, filled-more, filled-below, filled-above}

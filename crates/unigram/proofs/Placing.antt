@@ -17,7 +17,7 @@ use Rattle.refusal.specs.Places.{overlay}
 use Rattle.unigram.specs.Cuttings.{Step}
 use Rattle.unigram.specs.Runs.{runId, merged}
 use Rattle.unigram.specs.Merge.{stepsAt, Ends, no-more, and-then, runOf, waiting, runIds, closing, Placed}
-use Rattle.unigram.proofs.Working.{below-or}
+use Rattle.scored.proofs.Lists.{below-or}
 use Rattle.unigram.proofs.Following.{piece-to}
 use Rattle.unigram.proofs.Merging.{merged-end, merged-end-run, begins, joins, stands, ends-run}
 

@@ -27,10 +27,11 @@ use Rattle.unigram.specs.Tracing.{endsFrom, Falling, Traced}
 use Rattle.unigram.specs.Merge.{stepsAt, Ends, partId, Mergeable, Merged}
 use Rattle.unigram.specs.Segment.{Scratch, written, slotIn, RecordLaw}
 use Rattle.unigram.specs.Core.{scratchOf, Prepared, Cut}
-use Rattle.unigram.proofs.Working.{Pieces, below-or, settled-le}
+use Rattle.scored.proofs.Lists.{below-or}
+use Rattle.unigram.proofs.Working.{Pieces, settled-le}
 use Rattle.unigram.proofs.Following.{chained, chain-ends, named}
 use Rattle.unigram.proofs.Given.{given}
-use Rattle.unigram.proofs.Columns.{map-inside}
+use Rattle.scored.proofs.Lists.{map-inside}
 use Rattle.unigram.proofs.Tracing.{falling, ends-followed}
 use Rattle.unigram.proofs.RecordLaws.{length-records, record-at, pieces-few, law-of}
 

@@ -10,6 +10,7 @@ use native.Mathlib.Omega.{arith}
 use borrow.Author.Tests.{leb-true, leb-false}
 use lib.Dec.{T, leb}
 use Rattle.doubles.specs.Double.{isFinite}
+use Rattle.scored.proofs.Lists.{below-or}
 use Rattle.unigram.specs.Cuttings.{Piece, Slot}
 use Rattle.unigram.specs.Records.{scoreOf, offered, candidate, best}
 
@@ -35,14 +36,6 @@ true-false p q = let z : _≡_ {A = ℕ} 0 1 = cc in omega arith
 pub looked : {A : Type 0} (o : Option A) → (o ≡ none) ⊎ ((x : A) × (o ≡ some x))
 looked none = inl refl
 looked (some x) = inr (x, refl)
-
--- one number below the other, or not
-pub below-or : (i j : ℕ) → (i < j) ⊎ (j ≤ i)
-below-or i j = go (leb (suc i) j) refl
-  where
-    go : (t : Bool) → leb (suc i) j ≡ t → (i < j) ⊎ (j ≤ i)
-    go true e = inl (leb-true (suc i) j e)
-    go false e = inr (let h : j < suc i = leb-false (suc i) j e in omega arith)
 
 module _ (P : ℕ → ℕ → Option Piece) where
   -- the piece from i is offered to the record where it ends

@@ -1,8 +1,4 @@
--- Unigram: the build, pieces, cuttings, records, ids, and what `build` and `segment` promise.
-pub mod Build
-pub mod BuildRows
-pub mod Copied
-pub mod NodeScores
+-- Unigram: pieces, cuttings, records, ids, and what `segment` promises.
 pub mod Cuttings
 pub mod Records
 pub mod Slots

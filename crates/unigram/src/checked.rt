@@ -1,11 +1,16 @@
-// The cutting of a text, for layers above that have tested: sound parts, a well-formed text within the limit, and enough places. Nothing here
-// refuses.
+// The cutting of a text, for layers above that have tested the parts, or all.
+use crate::SegmentAnswer;
+use refusal::Fault;
 ghost use mathlib.Core.Path.{_≡_};
-ghost use Rattle.unigram.specs.Segment.{Scratch};
+ghost use Rattle.trie.specs.Trie.{partsOf};
+ghost use Rattle.trie.specs.Sound.{soundScored};
+ghost use Rattle.doubles.specs.Units.{units};
+ghost use mathlib.Core.List.{map};
+ghost use Rattle.unigram.specs.Segment.{Segmented};
 ghost use Rattle.unigram.specs.Work.{modelOf, pieceWith};
 ghost use Rattle.unigram.specs.Core.{scratchOf, Prepared, Cut};
 
-// The ids of the best cutting of the text go to the first id places, the ends of its pieces to the first path places, the records to the slots.
+// Nothing here refuses: sound parts, a well-formed text within the limit, and enough places. The ids of the best cutting of the text go to the first id places, the ends of its pieces to the first path places, the records to the slots.
 // Answers how many ids there are.
 pub fn segment(
     edge_at: &[u32],
@@ -51,6 +56,54 @@ pub fn segment(
         text,
         slot_id,
         &path[..pieces],
+        ids,
+    )
+}
+
+// As `unigram::segment`, where the soundness of the parts has been tested: `tested` is what was found. So that one test serves many texts.
+pub fn segment_tested(
+    tested: bool,
+    edge_at: &[u32],
+    edge_n: &[u16],
+    id: &[u32],
+    score: &[f64],
+    byte: &[u8],
+    to: &[u32],
+    unknown: u32,
+    unknown_score: f64,
+    text: &[u8],
+    start: &mut [u32],
+    slot_id: &mut [u32],
+    slot_score: &mut [f64],
+    path: &mut [u32],
+    ids: &mut [u32],
+) -> SegmentAnswer
+    requires { ⌜ tested ≡ soundScored (partsOf (now «edge_at») (now «edge_n») (now id) (now byte) (now to)) (map units (now score)) (units «unknown_score») ⌝ }
+    ensures { λ r. ⌜ Segmented (modelOf (now («edge_at» .entry)) (now («edge_n» .entry)) (now (id .entry)) (now (score .entry)) (now (byte .entry)) (now (to .entry)) (pieceWith unknown «unknown_score»)) (now (text .entry)) (scratchOf (now (start .entry)) (now («slot_id» .entry)) (now («slot_score» .entry)) (now (path .entry)) (now (ids .entry))) r (scratchOf (now (start .exit)) (now («slot_id» .exit)) (now («slot_score» .exit)) (now (path .exit)) (now (ids .exit))) ⌝ }
+{
+    if crate::MAX_TEXT < text.len() {
+        return SegmentAnswer::Refused(Fault::Size);
+    }
+    if !tested {
+        return SegmentAnswer::Refused(Fault::Trie);
+    }
+    if text::utf8::valid_up_to(text) < text.len() {
+        return SegmentAnswer::Refused(Fault::Text);
+    }
+    crate::cut(
+        edge_at,
+        edge_n,
+        id,
+        score,
+        byte,
+        to,
+        unknown,
+        unknown_score,
+        text,
+        start,
+        slot_id,
+        slot_score,
+        path,
         ids,
     )
 }

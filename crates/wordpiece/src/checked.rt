@@ -1,4 +1,6 @@
-// The ids of a word in sound parts, for layers above that have tested the parts, the text and the room. Nothing here refuses.
+// The ids of a word, for layers above that have tested the parts, or all. But for `encode_tested` nothing here refuses.
+use crate::EncodeAnswer;
+use crate::Judged;
 use trie::checked::NodeId;
 use trie::checked::Step;
 use trie::checked::Walk;
@@ -13,8 +15,9 @@ ghost use lib.Seq.{sets};
 ghost use Rattle.refusal.specs.Places.{overlay};
 ghost use Rattle.text.specs.Text.{wellFormed, boundary, characters};
 ghost use Rattle.trie.specs.Trie.{Trie, partsOf, idAt};
-ghost use Rattle.trie.specs.Sound.{Sound};
+ghost use Rattle.trie.specs.Sound.{sound, Sound};
 ghost use Rattle.wordpiece.specs.Pieces.{longestTo, piecesOf, orUnknown, idsOf};
+ghost use Rattle.wordpiece.specs.Encode.{Encoded};
 ghost use Rattle.wordpiece.specs.Checked.{foundIn, pick, endAt, restFrom, counted, countIn, Fitting, Planned, First, Ready};
 
 // A piece that was found: where it ends, and its id.
@@ -268,5 +271,40 @@ pub fn encode(
         Plan::Nothing => 0,
         Plan::One(x) => put(ids, x),
         Plan::Many(rest, first) => put_all(edge_at, edge_n, id, byte, to, rest, w, first, ids),
+    }
+}
+
+// As `wordpiece::encode`, where the soundness of the parts has been tested: `tested` is what was found. So that one test serves many words.
+pub fn encode_tested(
+    tested: bool,
+    edge_at: &[u32],
+    edge_n: &[u16],
+    id: &[u32],
+    byte: &[u8],
+    to: &[u32],
+    unknown: u32,
+    max_chars: u32,
+    prefix: &[u8],
+    word: &[u8],
+    ids: &mut [u32],
+) -> EncodeAnswer
+    requires { ⌜ tested ≡ sound (partsOf (now «edge_at») (now «edge_n») (now id) (now byte) (now to)) ⌝ }
+    ensures { λ r. ⌜ Encoded (partsOf (now («edge_at» .entry)) (now («edge_n» .entry)) (now (id .entry)) (now (byte .entry)) (now (to .entry))) unknown «max_chars» (now (prefix .entry)) (now (word .entry)) (now (ids .entry)) r (now (ids .exit)) ⌝ }
+{
+    let judged = crate::judge(tested, prefix, word, ids.len());
+    match judged {
+        Judged::Bad(f) => EncodeAnswer::Refused(f),
+        Judged::Fine => EncodeAnswer::Ids(encode(
+            edge_at,
+            edge_n,
+            id,
+            byte,
+            to,
+            unknown,
+            max_chars,
+            prefix,
+            word,
+            ids,
+        )),
     }
 }

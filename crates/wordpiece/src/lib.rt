@@ -11,7 +11,8 @@ ghost use mathlib.Core.Path.{_≡_};
 ghost use mathlib.Core.List.{List};
 ghost use Prim.Native.Nat.{ℕ};
 ghost use lib.ListN.{length};
-ghost use Rattle.trie.specs.Trie.{partsOf};
+ghost use Rattle.trie.specs.Trie.{Trie, partsOf};
+ghost use Rattle.trie.specs.Sound.{sound};
 ghost use Rattle.rows.specs.Answers.{columns};
 ghost use Rattle.build.specs.Memory.{memory};
 ghost use Rattle.wordpiece.specs.Build.{Built};
@@ -82,18 +83,10 @@ pub enum Judged {
     Bad(Fault),
 }
 
-// The first fault of a call of `encode` that is lent this many id places: the sizes, the parts, the word, the prefix, the places.
-fn judge(
-    edge_at: &[u32],
-    edge_n: &[u16],
-    id: &[u32],
-    byte: &[u8],
-    to: &[u32],
-    prefix: &[u8],
-    word: &[u8],
-    places: usize,
-) -> Judged
-    ensures { λ r. ⌜ ((ids : List ℕ) → length ids ≡ places → faultIn r ≡ encodeFault (partsOf (now («edge_at» .entry)) (now («edge_n» .entry)) (now (id .entry)) (now (byte .entry)) (now (to .entry))) (now (prefix .entry)) (now (word .entry)) ids) ⌝ }
+// The first fault of a call of `encode` in parts that are sound or not, lent this many id places: the sizes, the parts, the word, the prefix, the
+// places.
+fn judge(tested: bool, prefix: &[u8], word: &[u8], places: usize) -> Judged
+    ensures { λ r. ⌜ ((t : Trie) (ids : List ℕ) → sound t ≡ tested → length ids ≡ places → faultIn r ≡ encodeFault t (now (prefix .entry)) (now (word .entry)) ids) ⌝ }
 {
     if MAX_TEXT < word.len() {
         return Judged::Bad(Fault::Size);
@@ -101,7 +94,7 @@ fn judge(
     if MAX_PREFIX < prefix.len() {
         return Judged::Bad(Fault::Size);
     }
-    if !trie::soundness::sound(edge_at, edge_n, id, byte, to) {
+    if !tested {
         return Judged::Bad(Fault::Trie);
     }
     if text::utf8::valid_up_to(word) < word.len() {
@@ -132,20 +125,18 @@ pub fn encode(
 ) -> EncodeAnswer
     ensures { λ r. ⌜ Encoded (partsOf (now («edge_at» .entry)) (now («edge_n» .entry)) (now (id .entry)) (now (byte .entry)) (now (to .entry))) unknown «max_chars» (now (prefix .entry)) (now (word .entry)) (now (ids .entry)) r (now (ids .exit)) ⌝ }
 {
-    let judged = judge(edge_at, edge_n, id, byte, to, prefix, word, ids.len());
-    match judged {
-        Judged::Bad(f) => EncodeAnswer::Refused(f),
-        Judged::Fine => EncodeAnswer::Ids(checked::encode(
-            edge_at,
-            edge_n,
-            id,
-            byte,
-            to,
-            unknown,
-            max_chars,
-            prefix,
-            word,
-            ids,
-        )),
-    }
+    let found = trie::soundness::sound(edge_at, edge_n, id, byte, to);
+    checked::encode_tested(
+        found,
+        edge_at,
+        edge_n,
+        id,
+        byte,
+        to,
+        unknown,
+        max_chars,
+        prefix,
+        word,
+        ids,
+    )
 }

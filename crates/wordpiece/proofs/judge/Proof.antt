@@ -18,22 +18,19 @@ use Rattle.wordpiece.proofs.judge.Tie as tie
 -- ---- the ways back: from each test that was passed to the one before
 
 abbrev entry : tie.Else1 → tie.Start
-entry c = c .before .before .before .before .before .before .before .before
+entry c = c .before .before .before
 
 abbrev sized : tie.Else2 → tie.Start
 sized c = entry (c .before)
 
 abbrev tested : tie.Else3 → tie.Start
-tested c = sized (c .before .before)
+tested c = sized (c .before)
 
 abbrev read : tie.Else4 → tie.Start
 read c = tested (c .before .before)
 
 abbrev marked : tie.Else5 → tie.Start
 marked c = read (c .before .before)
-
-abbrev parts : tie.Start → Trie
-parts e = partsOf (e .args .edge-at .now) (e .args .edge-n .now) (e .args .id .now) (e .args .byte .now) (e .args .to .now)
 
 abbrev word : tie.Start → List ℕ
 word e = e .args .word .now
@@ -43,8 +40,9 @@ prefix e = e .args .prefix .now
 
 -- ---- what each says
 
-sound-parts : (c : tie.Else3) → sound (parts (tested c)) ≡ true
-sound-parts c = sym (c .before .sound .ensures) ∙ not-false _ (c .if3 .left)
+-- parts of which the test was right
+sound-parts : (c : tie.Else3) (t : Trie) → sound t ≡ tested c .args .tested → sound t ≡ true
+sound-parts c t s = s ∙ not-false _ (c .if3 .left)
 
 word-well : (c : tie.Else4) → wellFormed (word (read c)) ≡ true
 word-well c = whole-well (word (read c)) (omega (arith, c .before .valid-up-to .ensures, c .if4 .left))
@@ -53,76 +51,73 @@ prefix-well : (c : tie.Else5) → wellFormed (prefix (marked c)) ≡ true
 prefix-well c = whole-well (prefix (marked c)) (omega (arith, c .before .valid-up-to2 .ensures, c .if5 .left))
 
 returns : tie.Need-returns
-returns c ids e =
-    let s = c .before .before .before .before .before .before .before .before in
+returns c t ids s e =
+    let b = c .before .before .before in
     sym
-    (fault-word (parts s) (prefix s) (word s) ids (c .if1 .taken))
+    (fault-word t (prefix b) (word b) ids (c .if1 .taken))
 
 returns-2 : tie.Need-returns-2
-returns-2 c ids e =
-    let s = entry (c .before) in
+returns-2 c t ids s e =
+    let b = entry (c .before) in
     sym
-    (fault-prefix (parts s) (prefix s) (word s) ids (c .before .if1 .left) (c .if2 .taken))
-
-sound-requires : tie.Need-sound-requires
-sound-requires c κs = search needs
+    (fault-prefix t (prefix b) (word b) ids (c .before .if1 .left) (c .if2 .taken))
 
 returns-3 : tie.Need-returns-3
-returns-3 c ids e =
-    let two = c .before .before in
-    let s = sized two in
+returns-3 c t ids s e =
+    let two = c .before in
+    let b = sized two in
     sym
-    (fault-trie (parts s) (prefix s) (word s) ids (two .before .if1 .left) (two .if2 .left)
-    (sym (c .before .sound .ensures) ∙ not-true _ (c .if3 .taken)))
+    (fault-trie t (prefix b) (word b) ids (two .before .if1 .left) (two .if2 .left)
+    (s ∙ not-true _ (c .if3 .taken)))
 
 valid-up-to-requires : tie.Need-valid-up-to-requires
 valid-up-to-requires c κs = search needs
 
 returns-4 : tie.Need-returns-4
-returns-4 c ids e =
+returns-4 c t ids s e =
     let three = c .before .before in
-    let two = three .before .before in
-    let s = tested three in
+    let two = three .before in
+    let b = tested three in
     sym
-    (fault-text (parts s) (prefix s) (word s) ids (two .before .if1 .left) (two .if2 .left) (sound-parts three)
-    (short-ill (word s) (omega (arith, c .before .valid-up-to .ensures, c .if4 .taken))))
+    (fault-text t (prefix b) (word b) ids (two .before .if1 .left) (two .if2 .left) (sound-parts three t s)
+    (short-ill (word b) (omega (arith, c .before .valid-up-to .ensures, c .if4 .taken))))
 
 valid-up-to-requires-2 : tie.Need-valid-up-to-requires-2
 valid-up-to-requires-2 c κs = search needs
 
 returns-5 : tie.Need-returns-5
-returns-5 c ids e =
+returns-5 c t ids s e =
     let four = c .before .before in
     let three = four .before .before in
-    let two = three .before .before in
-    let s = read four in
+    let two = three .before in
+    let b = read four in
     sym
-    (fault-mark (parts s) (prefix s) (word s) ids (two .before .if1 .left) (two .if2 .left) (sound-parts three) (word-well four)
-    (short-ill (prefix s) (omega (arith, c .before .valid-up-to2 .ensures, c .if5 .taken))))
+    (fault-mark t (prefix b) (word b) ids (two .before .if1 .left) (two .if2 .left) (sound-parts three t s) (word-well four)
+    (short-ill (prefix b) (omega (arith, c .before .valid-up-to2 .ensures, c .if5 .taken))))
 
 characters-requires : tie.Need-characters-requires
 characters-requires c κs = word-well (c .before .before)
 
 returns-6 : tie.Need-returns-6
-returns-6 c ids e =
+returns-6 c t ids s e =
     let five = c .before .before in
     let four = five .before .before in
     let three = four .before .before in
-    let two = three .before .before in
-    let s = marked five in
+    let two = three .before in
+    let b = marked five in
     sym
-    (fault-ids (parts s) (prefix s) (word s) ids (two .before .if1 .left) (two .if2 .left) (sound-parts three) (word-well four) (prefix-well five)
+    (fault-ids t (prefix b) (word b) ids (two .before .if1 .left) (two .if2 .left) (sound-parts three t s) (word-well four) (prefix-well five)
     (omega (arith, e, c .before .characters .ensures, c .if6 .taken)))
 
 returns-7 : tie.Need-returns-7
-returns-7 c ids e =
+returns-7 c t ids s e =
     let five = c .before .before in
     let four = five .before .before in
     let three = four .before .before in
-    let two = three .before .before in
-    let s = marked five in
+    let two = three .before in
+    let b = marked five in
     sym
-    (fault-none (parts s) (prefix s) (word s) ids (two .before .if1 .left) (two .if2 .left) (sound-parts three) (word-well four) (prefix-well five)
+    (fault-none t (prefix b) (word b) ids (two .before .if1 .left) (two .if2 .left) (sound-parts three t s) (word-well four) (prefix-well five)
     (omega (arith, e, c .before .characters .ensures, c .if6 .left)))
 
 pub judge-spec : {M : Type 1} → statement M
@@ -131,7 +126,6 @@ judge-spec =
     (tie.spec
     returns
     returns-2
-    sound-requires
     returns-3
     valid-up-to-requires
     returns-4

@@ -2,7 +2,7 @@
 use mathlib.Core.Path.{_≡_, sym, ap, _∙_}
 use mathlib.Core.List.{map}
 use Rattle.doubles.specs.Units.{units}
-use Rattle.unigram.specs.Build.{told}
+use Rattle.scored.specs.Build.{told}
 use Rattle.exports.specs.Flat.{toldNumber, toldScore}
 use borrow.Author.Needs.{needs}
 use Rattle.exports.proofs.builds.built_number.Statement.{statement}

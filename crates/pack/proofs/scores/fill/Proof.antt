@@ -9,8 +9,8 @@ use lib.ListN.{length, getD, length-map}
 use Rattle.doubles.specs.Double.{Double, plusZero}
 use Rattle.doubles.specs.Units.{units}
 use Rattle.refusal.specs.Places.{zeroed}
-use Rattle.unigram.specs.NodeScores.{rowScore}
-use Rattle.unigram.proofs.Storing.{Stored, stored-none, stored-more, stored-scores}
+use Rattle.scored.specs.NodeScores.{rowScore}
+use Rattle.scored.proofs.Storing.{Stored, stored-none, stored-more, stored-scores}
 use Rattle.pack.proofs.Scoring.{scores}
 use Rattle.pack.proofs.scores.fill.Statement.{statement}
 use Rattle.pack.proofs.scores.fill.Tie as tie

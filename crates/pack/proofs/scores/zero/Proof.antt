@@ -7,7 +7,7 @@ use lib.ListN.{length, length-map}
 use Rattle.doubles.specs.Double.{plusZero}
 use Rattle.doubles.specs.Units.{units}
 use Rattle.doubles.proofs.Patterns.{zero-units}
-use Rattle.unigram.proofs.Storing.{Stored, stored-none, stored-more, stored-zeros}
+use Rattle.scored.proofs.Storing.{Stored, stored-none, stored-more, stored-zeros}
 use Rattle.pack.proofs.scores.zero.Statement.{statement}
 use Rattle.pack.proofs.scores.zero.Tie as tie
 

@@ -20,7 +20,8 @@ use Rattle.unigram.specs.Pieces.{Model, pieceAt}
 use Rattle.unigram.specs.Slots.{Slots, slotsOf, slotAt, PutAt, taken, held}
 use Rattle.unigram.specs.Work.{endsHere, Ended}
 use Rattle.unigram.proofs.Best.{same-slot}
-use Rattle.unigram.proofs.Columns.{map-inside, put-as}
+use Rattle.scored.proofs.Lists.{map-inside}
+use Rattle.unigram.proofs.Columns.{put-as}
 use Rattle.unigram.proofs.Offering.{piece-none, piece-some, ends-off, ends-on, ended-none, ended-some}
 use borrow.Author.Needs.{needs}
 use Rattle.unigram.proofs.lattice.end_at.Statement.{statement}

@@ -9,7 +9,7 @@ use borrow.Author.Needs.{needs}
 use lib.ListN.{length, getD, drop, set, length-append, length-set}
 use Rattle.refusal.specs.Sizes.{noId}
 use Rattle.unigram.specs.Tracing.{endsFrom, Falling}
-use Rattle.unigram.proofs.Columns.{place-inside}
+use Rattle.scored.proofs.Lists.{place-inside}
 use Rattle.unigram.proofs.Tracing.{ends-first, ends-few, ends-turn}
 use Rattle.unigram.proofs.path.count.Statement.{statement}
 use Rattle.unigram.proofs.path.count.Tie as tie

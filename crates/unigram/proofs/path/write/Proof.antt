@@ -10,7 +10,7 @@ use lib.ListN.{length, getD, drop, set, length-append, length-set}
 use Rattle.refusal.specs.Sizes.{noId}
 use Rattle.refusal.specs.Places.{overlay}
 use Rattle.unigram.specs.Tracing.{endsFrom, Falling, Traced}
-use Rattle.unigram.proofs.Columns.{place-inside}
+use Rattle.scored.proofs.Lists.{place-inside}
 use Rattle.unigram.proofs.Tracing.{ends-first, ends-turn, written-back}
 use Rattle.unigram.proofs.path.write.Statement.{statement}
 use Rattle.unigram.proofs.path.write.Tie as tie

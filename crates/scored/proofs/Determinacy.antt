@@ -1,0 +1,55 @@
+-- The promise of `build` fixes what it answers and what it leaves: each field is an equation with a value of the inputs. The answer is fixed as what
+-- it says, its score as a Double.
+use mathlib.Core.Path.{_≡_, refl, sym, ap, _∙_}
+use mathlib.Core.Logic.{_↔_}
+use Prim.Native.Nat.{ℕ}
+use native.Mathlib.Omega.{arith}
+use mathlib.Core.List.{List}
+use mathlib.Core.Option.{Option, none, some}
+use Rattle.refusal.specs.declared.Reason.{Reason}
+use Rattle.doubles.specs.Double.{Double}
+use Rattle.rows.specs.Rows.{Row}
+use Rattle.rows.specs.Columns.{Columns, rowsOf}
+use Rattle.rows.specs.Scores.{unknownScore}
+use Rattle.build.specs.Rules.{scoresOf}
+use Rattle.build.specs.Memory.{Memory}
+use Rattle.build.specs.Core.{nodesOf}
+use Rattle.scored.specs.declared.BuildAnswer.{BuildAnswer}
+use Rattle.scored.specs.declared.BuildAnswer.the-variants as answer-is
+use Rattle.scored.specs.Build.{Told, built, refused, told, buildFault, toldFor, Built}
+
+pub built-once : {tab : List ℕ} {c : Columns} {m : Memory} {x : List Double} {a b : BuildAnswer} {m₁ m₂ : Memory} {x₁ x₂ : List Double} → Built tab c m x a m₁ x₁ → Built tab c m x b m₂ x₂ → (told a ≡ told b) × (m₁ ≡ m₂) × (x₁ ≡ x₂)
+built-once p q = (p .answered ∙ sym (q .answered), p .columns ∙ sym (q .columns), p .scores ∙ sym (q .scores))
+
+-- "exactly when", both ways: a build is refused with r exactly when r is its fault, and says N and the unknown score exactly when there is none
+abbrev pub accepted : List ℕ → List Row → Told
+accepted tab rows = built (nodesOf tab rows) (unknownScore (scoresOf rows))
+
+told-refused : (b : BuildAnswer) (r : Reason) → told b ≡ refused r → b ≡ answer-is.Refused r
+unfolding told
+told-refused (answer-is.Built s) r e = absurd (let z : _≡_ {A = ℕ} 0 1 = cc in omega arith)
+told-refused (answer-is.Refused q) r e = let same : q ≡ r = cc in ap answer-is.Refused same
+
+module _ (answer : BuildAnswer) (o : Option Reason) (tab : List ℕ) (rows : List Row) (a : told answer ≡ toldFor o tab rows) where
+  pub by-reason : (r : Reason) → (answer ≡ answer-is.Refused r) ↔ (o ≡ some r)
+  unfolding told toldFor
+  by-reason r = (λ q. says o (sym a ∙ ap told q), λ e. told-refused answer r (a ∙ ap (λ (x : Option Reason). toldFor x tab rows) e))
+    where
+      says : (x : Option Reason) → toldFor x tab rows ≡ refused r → x ≡ some r
+      says none e = absurd (let z : _≡_ {A = ℕ} 0 1 = cc in omega arith)
+      says (some q) e = let same : q ≡ r = cc in ap (λ (x : Reason). some x) same
+
+  pub by-none : (told answer ≡ accepted tab rows) ↔ (o ≡ none)
+  unfolding toldFor
+  by-none = (λ q. says o (sym a ∙ q), λ e. a ∙ ap (λ (x : Option Reason). toldFor x tab rows) e)
+    where
+      says : (x : Option Reason) → toldFor x tab rows ≡ accepted tab rows → x ≡ none
+      says none e = refl
+      says (some q) e = absurd (let z : _≡_ {A = ℕ} 0 1 = cc in omega arith)
+
+module _ {tab : List ℕ} {c : Columns} {m : Memory} {x : List Double} {answer : BuildAnswer} {after : Memory} {x′ : List Double} (p : Built tab c m x answer after x′) where
+  pub build-refused-exactly : (r : Reason) → (answer ≡ answer-is.Refused r) ↔ (buildFault tab c m x ≡ some r)
+  build-refused-exactly = by-reason answer (buildFault tab c m x) tab (rowsOf c) (p .answered)
+
+  pub build-accepted-exactly : (told answer ≡ built (nodesOf tab (rowsOf c)) (unknownScore (scoresOf (rowsOf c)))) ↔ (buildFault tab c m x ≡ none)
+  build-accepted-exactly = by-none answer (buildFault tab c m x) tab (rowsOf c) (p .answered)

@@ -1,0 +1,9 @@
+-- Laws of the Unigram build that the layers above cite.
+-- numbers and lists
+pub mod Lists
+-- the score column of a build
+pub mod Storing
+-- the promise of `build`, in each case
+pub mod Builds
+-- the promise met twice, and "exactly when"
+pub mod Determinacy

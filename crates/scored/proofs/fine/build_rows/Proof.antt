@@ -1,0 +1,176 @@
+-- `scored::fine::build_rows` meets its contract: the room is the least that the columns have, what the core answers is answered, and the score
+-- column is made zero or filled. Assumes nothing.
+use mathlib.Core.Path.{ap}
+use native.Mathlib.Omega.{arith}
+use borrow.Author.Needs.{needs}
+use lib.ListN.{length}
+use Rattle.build.specs.Memory.{Memory, memory}
+use Rattle.scored.specs.Build.{built, told}
+use Rattle.scored.proofs.Builds.{scored-room-for, nodes-placed, Placed, lists-full, lists-built}
+use Rattle.scored.proofs.fine.build_rows.Statement.{statement}
+use Rattle.scored.proofs.fine.build_rows.Tie as tie
+
+-- ---- the ways back: to the start, to the call of `room`, to the call of the core, and to what it answered
+
+abbrev room-lent : tie.After-room → tie.After-slice-known7
+room-lent c = let k = c .before .before .before .before in k .before .before .before .before
+
+abbrev tables : tie.After-slice-known7 → tie.After-shared-slice-known5
+tables c = let k = c .before .before .before in k .before .before .before .before
+
+abbrev entry : tie.After-room → tie.Start
+entry c = tables (room-lent c) .before .before .before .before .before
+
+abbrev measured : tie.After-build → tie.After-room
+measured c = let k = c .before .before .before .before in k .before .before .before
+
+abbrev byte-back : tie.After-slice-known13 → tie.After-slice-known10
+byte-back c = let k = c .before .before .before in k .before .before .before
+
+abbrev called : tie.After-slice-known13 → tie.After-build
+called c = let k = byte-back c .before .before .before in k .before .before .before
+
+abbrev counted : tie.After-fill → tie.After-built
+counted c = c .before .before .before .before
+
+-- the lent columns, before and after
+
+abbrev lent : tie.Start → Memory
+lent e = let a = e .args in memory (a .edge-at .now) (a .edge-n .now) (a .node-id .now) (a .byte .now) (a .to .now) (a .work .now)
+
+abbrev left : tie.After-build → Memory
+left b =
+    let l = b .build .last .1 .1 .1 .1 .1 in
+    memory (l .0) (l .1 .0) (l .1 .1 .0) (l .1 .1 .1 .0) (l .1 .1 .1 .1 .0) (l .1 .1 .1 .1 .1 .0)
+
+-- the nodes that were counted stand in the id and the score column, and their number fits a u32
+placed : (t : tie.After-built) → let e = entry (measured (called (t .before .before))) in Placed (t .built .given .0 .0) (length (e .args .node-score .now)) (lent e)
+placed t =
+    let b = called (t .before .before) in
+    let r = measured b in
+    let a = entry r .args in
+    nodes-placed (a .tab .now) (a .off .now) (a .len .now) (a .id .now) (lent (entry r)) (left b) (length (a .node-score .now)) (r .room .ensures)
+    (b .build .ensures) (t .built .given .1)
+
+-- ---- the needs
+
+room-requires : tie.Need-room-requires
+room-requires c κs = search needs
+
+build-requires : tie.Need-build-requires
+build-requires c κs =
+    let r = c .before .before .before .before .before .before in
+    (entry r .pre, scored-room-for (lent (entry r)) _ (r .room .ensures))
+
+enum-told : tie.Need-enum-told
+enum-told c = search needs
+
+zero-requires : tie.Need-zero-requires
+zero-requires c κs = search needs
+
+enum-known-built : tie.Need-enum-known-built
+enum-known-built c = search needs
+
+fill-requires : tie.Need-fill-requires
+fill-requires c κs =
+    let t = c .before .before .before in
+    let kept = called (t .before .before) .build .kept .1 .1 .1 .1 .1 .1 .1 .0 in
+    (omega (arith, placed t .ids, kept), placed t .scores)
+
+cast-t53 : tie.Need-cast-t53
+cast-t53 c = omega (arith, placed (counted (c .before .before)) .small)
+
+unknown-score-requires : tie.Need-unknown-score-requires
+unknown-score-requires c κs = search needs
+
+same-length : tie.Need-same-length
+same-length c = search needs
+
+same-length-2 : tie.Need-same-length-2
+same-length-2 c = search needs
+
+same-length-3 : tie.Need-same-length-3
+same-length-3 c = search needs
+
+same-length-4 : tie.Need-same-length-4
+same-length-4 c = search needs
+
+same-length-5 : tie.Need-same-length-5
+same-length-5 c = search needs
+
+same-length-6 : tie.Need-same-length-6
+same-length-6 c = search needs
+
+same-length-7 : tie.Need-same-length-7
+same-length-7 c = search needs
+
+returns : tie.Need-returns
+returns c scored fine =
+    let told-full = c .before .before .before .before in
+    let b = called (told-full .before .before) in
+    let r = measured b in
+    let a = entry r .args in
+    lists-full (a .tab .now) (a .off .now) (a .len .now) (a .score .now) (a .id .now) (lent (entry r)) (left b) (a .node-score .now)
+    (r .room .ensures) scored fine (b .build .ensures) (told-full .enum-told .given .1) (c .before .before .zero .ensures)
+
+same-length-8 : tie.Need-same-length-8
+same-length-8 c = search needs
+
+same-length-9 : tie.Need-same-length-9
+same-length-9 c = search needs
+
+same-length-10 : tie.Need-same-length-10
+same-length-10 c = search needs
+
+same-length-11 : tie.Need-same-length-11
+same-length-11 c = search needs
+
+same-length-12 : tie.Need-same-length-12
+same-length-12 c = search needs
+
+same-length-13 : tie.Need-same-length-13
+same-length-13 c = search needs
+
+same-length-14 : tie.Need-same-length-14
+same-length-14 c = search needs
+
+returns-2 : tie.Need-returns-2
+unfolding told
+returns-2 c scored fine =
+    let f = c .before .before .before in
+    let t = counted f in
+    let b = called (t .before .before) in
+    let r = measured b in
+    let a = entry r .args in
+    lists-built (a .tab .now) (a .off .now) (a .len .now) (a .score .now) (a .id .now) (lent (entry r)) (left b) (a .node-score .now)
+    (r .room .ensures) scored fine (b .build .ensures) (t .built .given .1)
+    (ap (built (t .built .given .0 .0)) (c .unknown-score .ensures)) (f .fill .ensures)
+
+pub build-rows-spec : {M : Type 1} → statement M
+build-rows-spec =
+    tie.close
+    (tie.spec
+    room-requires
+    build-requires
+    enum-told
+    zero-requires
+    enum-known-built
+    fill-requires
+    cast-t53
+    unknown-score-requires
+    same-length
+    same-length-2
+    same-length-3
+    same-length-4
+    same-length-5
+    same-length-6
+    same-length-7
+    returns
+    same-length-8
+    same-length-9
+    same-length-10
+    same-length-11
+    same-length-12
+    same-length-13
+    same-length-14
+    returns-2)

@@ -1,0 +1,97 @@
+// The build of fine rows, for a layer above that has found no fault in them.
+use crate::BuildAnswer;
+use crate::Summary;
+use build::Built;
+use refusal::Fault;
+use refusal::Reason;
+ghost use mathlib.Core.Path.{_≡_};
+ghost use mathlib.Core.Bool.{Bool, true};
+ghost use mathlib.Core.List.{List, map};
+ghost use mathlib.Core.Option.{none};
+ghost use Prim.Native.Nat.{min};
+ghost use lib.ListN.{length};
+ghost use Rattle.doubles.specs.Units.{units};
+ghost use Rattle.rows.specs.declared.Kind.the-variants.{Unigram};
+ghost use Rattle.rows.specs.Columns.{columnsFault};
+ghost use Rattle.rows.specs.Answers.{columns};
+ghost use Rattle.build.specs.Held.{Judged};
+ghost use Rattle.build.specs.Memory.{memory};
+ghost use Rattle.build.specs.Core.{roomOf};
+ghost use Rattle.scored.specs.Build as promise;
+
+// How many nodes the lent columns have room for, the score column too.
+fn room(
+    edge_at: &[u32],
+    edge_n: &[u16],
+    node_id: &[u32],
+    node_score: &[f64],
+    byte: &[u8],
+    to: &[u32],
+    work: &[u32],
+) -> usize
+    ensures { λ r.
+        ⌜ r ≡ min (roomOf (memory (now («edge_at» .entry)) (now («edge_n» .entry)) (now («node_id» .entry)) (now (byte .entry)) (now (to .entry))
+        (now (work .entry)))) (length (now («node_score» .entry))) ⌝ }
+{
+    let room = build::core::room(edge_at, edge_n, node_id, byte, to, work);
+    if node_score.len() < room {
+        return node_score.len();
+    }
+    room
+}
+
+// The trie of the rows in the lent columns, the first row of a token giving the id and the score; or no room for it.
+pub fn build_rows(
+    tab: &[u8],
+    off: &[u32],
+    len: &[u32],
+    score: &[f64],
+    id: &[u32],
+    edge_at: &mut [u32],
+    edge_n: &mut [u16],
+    node_id: &mut [u32],
+    node_score: &mut [f64],
+    byte: &mut [u8],
+    to: &mut [u32],
+    work: &mut [u32],
+) -> BuildAnswer
+    requires { ⌜ Judged true (now tab) (now off) (now len) (now id) ⌝ }
+    ensures { λ r.
+        ⌜ ((scored : List Bool)
+        → columnsFault Unigram (now (tab .entry)) (columns (now (off .entry)) (now (len .entry)) scored (now (score .entry)) (now (id .entry))) ≡ none
+        → promise.Built (now (tab .entry)) (columns (now (off .entry)) (now (len .entry)) scored (now (score .entry)) (now (id .entry)))
+        (memory (now («edge_at» .entry)) (now («edge_n» .entry)) (now («node_id» .entry)) (now (byte .entry)) (now (to .entry)) (now (work .entry)))
+        (map units (now («node_score» .entry)))
+        r
+        (memory (now («edge_at» .exit)) (now («edge_n» .exit)) (now («node_id» .exit)) (now (byte .exit)) (now (to .exit)) (now (work .exit)))
+        (map units (now («node_score» .exit)))) ⌝ }
+{
+    let room = room(edge_at, edge_n, node_id, node_score, byte, to, work);
+    let built = build::core::build(
+        true,
+        tab,
+        off,
+        len,
+        id,
+        edge_at,
+        edge_n,
+        node_id,
+        byte,
+        to,
+        work,
+        room,
+    );
+    match built {
+        Built::NoRoom => {
+            crate::scores::zero(node_score);
+            BuildAnswer::Refused(Reason::Call(Fault::Room))
+        }
+        Built::Nodes(n) => {
+            crate::scores::fill(score, node_id, n, node_score);
+            BuildAnswer::Built(Summary {
+                nodes: n as u32,
+                unknown_score: rows::scores::unknown_score(score),
+            })
+        }
+    }
+}

@@ -1,0 +1,439 @@
+-- The promise of `build_rows`, from what its steps promise. Rows without a fault that were put in the columns are the rows of the first places, so
+-- that what is built from these is what the rows ask for; where there is a fault or too little room, nothing was put. Assumes nothing.
+use mathlib.Core.Path.{_≡_, refl, sym, ap, _∙_, subst}
+use mathlib.Core.Bool.{Bool, true, false, _||_, cond}
+use mathlib.Core.List.{List, [], _∷_, map}
+use mathlib.Core.Option.{Option, none, some}
+use Prim.Native.Nat.{ℕ, zero, suc, _≤_, _<_}
+use native.Mathlib.Omega.{arith}
+use borrow.Author.Tests.{ltb-false, eq-eqb}
+use lib.Dec.{ltb, eqb}
+use lib.Ieee.{Float}
+use lib.ListN.{length, getD, take, replicate, length-map, length-replicate, getD-replicate}
+use lib.Seq.{sets, sets-eq, length-sets, take-append-seam, ext-getD}
+use Rattle.doubles.specs.Double.{Double, plusZero}
+use Rattle.doubles.specs.Units.{units}
+use Rattle.refusal.specs.declared.Fault.the-variants as fault
+use Rattle.refusal.specs.declared.Reason.{Reason}
+use Rattle.refusal.specs.declared.Reason.the-variants as reason
+use Rattle.refusal.specs.Sizes.{maxRows, maxTable, above}
+use Rattle.refusal.specs.Refusal.{numberOf, refuse, first}
+use Rattle.refusal.specs.Places.{zeroed, filled}
+use Rattle.refusal.proofs.Tests.{found, not-found, passed}
+use Rattle.rows.specs.declared.Kind.the-variants.{Unigram}
+use Rattle.rows.specs.Rows.{Row, Worth, score, id, worthFault, rowFault, firstBad}
+use Rattle.rows.specs.Columns.{Columns, rowAt, rowsOf, level, columnsFault}
+use Rattle.rows.proofs.FirstBad.{first-bad-says, none-bad-says}
+use Rattle.rows.proofs.RowLists.{rows-length, rows-at, getD-map-inside}
+use Rattle.rows.proofs.ListFaults.{within-sizes}
+use Rattle.build.specs.Rules.{scoreOf, unigramTrie, unigramScores}
+use Rattle.build.specs.Core.{nodesOf}
+use Rattle.build.specs.Memory.{Memory, anyBelow, noScoredRoom, cleared, holding, zeroScores, leaves}
+use Rattle.build.proofs.Rooms.{or-false}
+use Rattle.scored.specs.declared.BuildAnswer.{BuildAnswer}
+use Rattle.scored.specs.declared.BuildAnswer.the-variants as answer-is
+use Rattle.scored.specs.Build.{told, toldFor, buildFault, Built}
+use Rattle.sliced.specs.BuildRows.{RowPlaces, rowPlaces, zeroRows, shortOf, rowsJudged, rowsFault, RowsBuilt}
+use Rattle.sliced.specs.Copied.{putRow, putRows, Places, toCopy, firstPlaces, Ready, copiedFault, CopiedBuilt}
+use Rattle.scored.proofs.Builds.{row-number, fault-fine}
+
+-- ---- room for the rows
+
+three-hold : (n a b c : ℕ) → anyBelow n (a ∷ b ∷ c ∷ []) ≡ false → (n ≤ a) × (n ≤ b) × (n ≤ c)
+unfolding anyBelow
+three-hold n a b c e =
+    let p = or-false (ltb a n) (ltb b n || (ltb c n || false)) e in
+    let q = or-false (ltb b n) (ltb c n || false) (p .1) in
+    (ltb-false a n (p .0), ltb-false b n (q .0), ltb-false c n (or-false (ltb c n) false (q .1) .0))
+
+module _ (n : ℕ) (off len : List ℕ) (scores : List Float) where
+  -- by the columns' lengths
+  pub short-is : anyBelow n (length off ∷ length len ∷ length scores ∷ []) ≡ shortOf n (rowPlaces off len scores)
+  unfolding shortOf
+  short-is = ap (λ (k : ℕ). anyBelow n (length off ∷ length len ∷ k ∷ [])) (sym (length-map scores units))
+
+  pub all-hold : shortOf n (rowPlaces off len scores) ≡ false → (n ≤ length off) × (n ≤ length len) × (n ≤ length scores)
+  all-hold e = three-hold n (length off) (length len) (length scores) (short-is ∙ e)
+
+  -- as many as are copied have room
+  pub copy-holds : {A : Type 0} (rows : List A) (o : Option Reason) → n ≡ length rows → Places (toCopy o (anyBelow n (length off ∷ length len ∷ length scores ∷ [])) n) rows off len scores
+  unfolding toCopy
+  copy-holds rows (some r) e = record { rows-hold = omega arith; off-holds = omega arith; len-holds = omega arith; score-holds = omega arith }
+  copy-holds rows none e = go (anyBelow n (length off ∷ length len ∷ length scores ∷ [])) refl
+    where
+      go : (t : Bool) → anyBelow n (length off ∷ length len ∷ length scores ∷ []) ≡ t → Places (cond t 0 n) rows off len scores
+      go true p = record { rows-hold = omega arith; off-holds = omega arith; len-holds = omega arith; score-holds = omega arith }
+      go false p =
+          let h = three-hold n (length off) (length len) (length scores) p in
+          record { rows-hold = omega (arith, e); off-holds = h .0; len-holds = h .1; score-holds = h .2 }
+
+-- ---- every place zero
+
+pub rows-cleared :
+    (off len : List ℕ) (scores s : List Float) {o l : List ℕ} → o ≡ zeroed 0 off → l ≡ zeroed 0 len → map units s ≡ zeroScores (map units scores)
+    → rowPlaces o l s ≡ zeroRows (rowPlaces off len scores)
+unfolding zeroRows
+rows-cleared off len scores s p q r = λ i. record { off = p i; len = q i; score = r i }
+
+-- ---- the rows that were put
+
+-- each column by itself
+put-off : (c : RowPlaces) (i : ℕ) (rs : List Row) → putRows c i rs .off ≡ sets (c .off) i (map (λ r. r .off) rs)
+unfolding putRows putRow
+put-off c i [] = refl
+put-off c i (r ∷ rs) = put-off (putRow c i r) (suc i) rs
+
+put-len : (c : RowPlaces) (i : ℕ) (rs : List Row) → putRows c i rs .len ≡ sets (c .len) i (map (λ r. r .len) rs)
+unfolding putRows putRow
+put-len c i [] = refl
+put-len c i (r ∷ rs) = put-len (putRow c i r) (suc i) rs
+
+put-score : (c : RowPlaces) (i : ℕ) (rs : List Row) → putRows c i rs .score ≡ sets (c .score) i (map (λ r. scoreOf (r .worth)) rs)
+unfolding putRows putRow
+put-score c i [] = refl
+put-score c i (r ∷ rs) = put-score (putRow c i r) (suc i) rs
+
+-- lists that are put stand in front
+in-front : {A : Type 0} (l vs : List A) → length vs ≤ length l → take (length vs) (sets l 0 vs) ≡ vs
+in-front l vs h = ap (take (length vs)) (sets-eq vs l 0 (omega arith)) ∙ take-append-seam vs _
+
+column-front : {A : Type 0} (f : Row → A) (l : List A) (rs : List Row) → length rs ≤ length l → take (length rs) (sets l 0 (map f rs)) ≡ map f rs
+column-front f l rs h =
+    ap (λ (k : ℕ). take k (sets l 0 (map f rs))) (sym (length-map rs f)) ∙ in-front l (map f rs) (omega (arith, length-map rs f))
+
+take-all : {A : Type 0} (l : List A) → take (length l) l ≡ l
+take-all [] = refl
+take-all {A = A} (x ∷ xs) = ap (λ (r : List A). x ∷ r) (take-all xs)
+
+map-take : {A B : Type 0} (f : A → B) (n : ℕ) (l : List A) → map f (take n l) ≡ take n (map f l)
+map-take f zero l = refl
+map-take f (suc n) [] = refl
+map-take {B = B} f (suc n) (x ∷ xs) = ap (λ (r : List B). f x ∷ r) (map-take f n xs)
+
+-- the rows, as columns
+unfoldable columnsFor : List Row → Columns
+columnsFor rs =
+    record {
+      off = map (λ r. r .off) rs;
+      len = map (λ r. r .len) rs;
+      scored = replicate (length rs) true;
+      score = map (λ r. scoreOf (r .worth)) rs;
+      id = map (λ r. r .off) rs;
+    }
+
+module _ (rs : List Row) (off len : List ℕ) (scores : List Float) (start : RowPlaces) (e : rowPlaces off len scores ≡ putRows start 0 rs)
+    (room₁ : length rs ≤ length (start .off)) (room₂ : length rs ≤ length (start .len)) (room₃ : length rs ≤ length (start .score))
+  where
+    abbrev n : ℕ
+    n = length rs
+
+    first-places : firstPlaces n off len scores ≡ columnsFor rs
+    unfolding columnsFor
+    first-places =
+        let a : take n off ≡ map (λ (r : Row). r .off) rs =
+        ap (λ (c : RowPlaces). take n (c .off)) e ∙ ap (take n) (put-off start 0 rs) ∙ column-front (λ r. r .off) (start .off) rs room₁ in
+        let b : take n len ≡ map (λ (r : Row). r .len) rs =
+        ap (λ (c : RowPlaces). take n (c .len)) e ∙ ap (take n) (put-len start 0 rs) ∙ column-front (λ r. r .len) (start .len) rs room₂ in
+        let c : map units (take n scores) ≡ map (λ (r : Row). scoreOf (r .worth)) rs =
+        map-take units n scores ∙ ap (λ (x : RowPlaces). take n (x .score)) e ∙ ap (take n) (put-score start 0 rs)
+        ∙ column-front (λ r. scoreOf (r .worth)) (start .score) rs room₃ in
+        λ i. record { off = a i; len = b i; scored = replicate n true; score = c i; id = a i }
+
+    same-off : length off ≡ length (start .off)
+    same-off = ap (λ (c : RowPlaces). length (c .off)) e ∙ ap length (put-off start 0 rs) ∙ length-sets (start .off) 0 (map (λ r. r .off) rs)
+
+    same-len : length len ≡ length (start .len)
+    same-len = ap (λ (c : RowPlaces). length (c .len)) e ∙ ap length (put-len start 0 rs) ∙ length-sets (start .len) 0 (map (λ r. r .len) rs)
+
+    same-score : length (map units scores) ≡ length (start .score)
+    same-score = ap (λ (c : RowPlaces). length (c .score)) e ∙ ap length (put-score start 0 rs) ∙ length-sets (start .score) 0 (map (λ r. scoreOf (r .worth)) rs)
+
+    -- the columns are as long as they were
+    same-zeros : zeroRows (rowPlaces off len scores) ≡ zeroRows start
+    unfolding zeroRows
+    same-zeros = λ i. record { off = replicate (same-off i) 0; len = replicate (same-len i) 0; score = replicate (same-score i) plusZero }
+
+    same-short : (k : ℕ) → shortOf k (rowPlaces off len scores) ≡ shortOf k start
+    unfolding shortOf
+    same-short k = λ i. anyBelow k (same-off i ∷ same-len i ∷ same-score i ∷ [])
+
+-- ---- rows without a fault
+
+worth-scored : (w : Worth) → worthFault Unigram w ≡ none → score (scoreOf w) ≡ w
+unfolding worthFault scoreOf
+worth-scored (score x) e = refl
+worth-scored (id i) e = absurd (let z : _≡_ {A = ℕ} 0 1 = cc in omega arith)
+
+noRow : Row
+noRow = record { off = 0; len = 0; worth = id 0 }
+
+module _ (tab : List ℕ) (rs : List Row) (fine : rowsJudged tab rs ≡ none) where
+  sizes : ((above maxRows (length rs) || above maxTable (length tab)) ≡ false) × (firstBad Unigram tab 0 rs ≡ none)
+  unfolding rowsJudged
+  sizes = passed (above maxRows (length rs) || above maxTable (length tab)) (reason.Call fault.Size) (firstBad Unigram tab 0 rs) fine
+
+  scored : (i : ℕ) → i < length rs → score (scoreOf (getD rs i noRow .worth)) ≡ getD rs i noRow .worth
+  unfolding rowFault
+  scored i h =
+      let p = passed _ _ _ (none-bad-says Unigram tab noRow 0 rs (sizes .1) i h) in
+      let q = passed _ _ _ (p .1) in
+      let w = passed _ _ _ (q .1) in
+      worth-scored (getD rs i noRow .worth) (w .1)
+
+  row-is : (i : ℕ) → i < length rs → rowAt (columnsFor rs) i ≡ getD rs i noRow
+  unfolding columnsFor rowAt
+  row-is i h =
+      let a = getD-map-inside (λ (r : Row). r .off) rs i noRow 0 h in
+      let b = getD-map-inside (λ (r : Row). r .len) rs i noRow 0 h in
+      let c = getD-map-inside (λ (r : Row). scoreOf (r .worth)) rs i noRow plusZero h in
+      let d : getD (replicate (length rs) true) i false ≡ true = getD-replicate (length rs) i true false h in
+      let w : cond (getD (replicate (length rs) true) i false) (score (getD (map (λ (r : Row). scoreOf (r .worth)) rs) i plusZero)) (id (getD (map (λ (r : Row). r .off) rs) i 0)) ≡ getD rs i noRow .worth =
+      ap (λ (t : Bool). cond t (score (getD (map (λ (r : Row). scoreOf (r .worth)) rs) i plusZero)) (id (getD (map (λ (r : Row). r .off) rs) i 0))) d
+      ∙ ap (λ (x : Double). score x) c ∙ scored i h in
+      λ k. record { off = a k; len = b k; worth = w k }
+
+  -- the rows of their columns are the rows
+  rows-are : rowsOf (columnsFor rs) ≡ rs
+  unfolding columnsFor
+  rows-are =
+      let long : length (rowsOf (columnsFor rs)) ≡ length rs = rows-length (columnsFor rs) ∙ length-map rs (λ r. r .off) in
+      ext-getD noRow (rowsOf (columnsFor rs)) rs long (λ i h. rows-at (columnsFor rs) noRow i (omega (arith, length-map rs (λ r. r .off), long)) ∙ row-is i (omega (arith, long)))
+
+  flat : level (columnsFor rs) ≡ true
+  unfolding level columnsFor
+  flat =
+      let k = length-map rs (λ (r : Row). r .off) in
+      let l = length-map rs (λ (r : Row). r .len) in
+      let s = length-map rs (λ (r : Row). scoreOf (r .worth)) in
+      let f = length-replicate (length rs) true in
+      rw (eq-eqb _ _ (l ∙ sym k), eq-eqb _ _ (f ∙ sym k), eq-eqb _ _ (s ∙ sym k), eq-eqb (length (map (λ (r : Row). r .off) rs)) (length (map (λ (r : Row). r .off) rs)) refl)
+
+  -- and have no fault
+  columns-fine : columnsFault Unigram tab (columnsFor rs) ≡ none
+  unfolding columnsFor
+  columns-fine =
+      let p = or-false (above maxRows (length rs)) (above maxTable (length tab)) (sizes .0) in
+      let few = ltb-false maxRows (length rs) (p .0) in
+      within-sizes Unigram tab (columnsFor rs) (omega (arith, few, length-map rs (λ (r : Row). r .off))) (ltb-false maxTable (length tab) (p .1)) flat
+      ∙ ap (firstBad Unigram tab 0) rows-are
+      ∙ sizes .1
+
+-- no fault of rows is 7
+judged-number : (tab : List ℕ) (rs : List Row) (r : Reason) → rowsJudged tab rs ≡ some r → eqb (numberOf r) 7 ≡ false
+unfolding rowsJudged
+judged-number tab rs r e = go (above maxRows (length rs) || above maxTable (length tab)) refl
+  where
+    go : (t : Bool) → (above maxRows (length rs) || above maxTable (length tab)) ≡ t → eqb (numberOf r) 7 ≡ false
+    go true p =
+        let s : reason.Call fault.Size ≡ r = cc (found (above maxRows (length rs) || above maxTable (length tab)) (reason.Call fault.Size) (firstBad Unigram tab 0 rs) p) in
+        subst (λ (x : Reason). eqb (numberOf x) 7 ≡ false) s refl
+    go false p =
+        let w = first-bad-says Unigram tab noRow 0 rs r (sym (not-found (above maxRows (length rs) || above maxTable (length tab)) (reason.Call fault.Size) (firstBad Unigram tab 0 rs) p) ∙ e) in
+        subst (λ (x : Reason). eqb (numberOf x) 7 ≡ false) (sym (w .2)) (row-number tab _ (w .3 .bad))
+
+-- after success and after 7 the zeros stand
+zeros : {A : Type 0} (none-left before : A) (t : Bool) → none-left ≡ leaves (refuse t (reason.Call fault.Room) none) none-left none-left before
+unfolding leaves refuse
+zeros none-left before true = refl
+zeros none-left before false = refl
+
+-- ---- the promise over the first places
+
+module _ (n : ℕ) (tab : List ℕ) (c : Columns) (lent : RowPlaces) (m : Memory) (scores : List Double) where
+  -- which fault
+  copied-found : {o : Option Reason} {r : Reason} → o ≡ some r → copiedFault o n tab c lent m scores ≡ some r
+  unfolding copiedFault first
+  copied-found e = ap (λ (o : Option Reason). copiedFault o n tab c lent m scores) e
+
+  copied-full : {o : Option Reason} → o ≡ none → shortOf n lent ≡ true → copiedFault o n tab c lent m scores ≡ some (reason.Call fault.Room)
+  unfolding copiedFault first
+  copied-full e p = ap (λ (o : Option Reason). copiedFault o n tab c lent m scores) e ∙ found (shortOf n lent) (reason.Call fault.Room) (buildFault tab c m scores) p
+
+  copied-left : {o : Option Reason} → o ≡ none → shortOf n lent ≡ false → copiedFault o n tab c lent m scores ≡ buildFault tab c m scores
+  unfolding copiedFault first
+  copied-left e p = ap (λ (o : Option Reason). copiedFault o n tab c lent m scores) e ∙ not-found (shortOf n lent) (reason.Call fault.Room) (buildFault tab c m scores) p
+
+  -- what a buffer holds after a refusal that is not 7, and after 7
+  kept : {A : Type 0} {o : Option Reason} {r : Reason} (done zeros before : A) → o ≡ some r → eqb (numberOf r) 7 ≡ false → before ≡ leaves o done zeros before
+  unfolding leaves
+  kept done zeros before e p = sym (ap (λ (o : Option Reason). leaves o done zeros before) e ∙ ap (λ (b : Bool). cond b zeros before) p)
+
+  emptied : {A : Type 0} {o : Option Reason} (done zeros before : A) → o ≡ some (reason.Call fault.Room) → zeros ≡ leaves o done zeros before
+  unfolding leaves
+  emptied done zeros before e = sym (ap (λ (o : Option Reason). leaves o done zeros before) e)
+
+  pub copied-bad :
+      {o : Option Reason} {r : Reason} → o ≡ some r → eqb (numberOf r) 7 ≡ false
+      → CopiedBuilt o n tab c lent m scores (answer-is.Refused r) lent m scores
+  unfolding told toldFor
+  copied-bad e p =
+      let f = copied-found e in
+      record {
+        answered = sym (ap (λ (o : Option Reason). toldFor o tab (rowsOf c)) f);
+        columns = kept _ _ m f p;
+        scores = kept _ _ scores f p;
+        places = kept _ _ lent f p;
+      }
+
+  pub copied-short :
+      {o : Option Reason} {answer : BuildAnswer} {lentAfter : RowPlaces} {after : Memory} {scoresAfter : List Double}
+      → o ≡ none → shortOf n lent ≡ true → answer ≡ answer-is.Refused (reason.Call fault.Room) → lentAfter ≡ zeroRows lent → after ≡ cleared m → scoresAfter ≡ zeroScores scores
+      → CopiedBuilt o n tab c lent m scores answer lentAfter after scoresAfter
+  unfolding told toldFor
+  copied-short e p a l k s =
+      let f = copied-full e p in
+      record {
+        answered = ap told a ∙ sym (ap (λ (o : Option Reason). toldFor o tab (rowsOf c)) f);
+        columns = k ∙ emptied _ _ _ f;
+        scores = s ∙ emptied _ _ _ f;
+        places = l ∙ emptied _ _ _ f;
+      }
+
+  pub copied-built :
+      {o : Option Reason} {answer : BuildAnswer} {lentAfter : RowPlaces} {after : Memory} {scoresAfter : List Double}
+      → o ≡ none → shortOf n lent ≡ false → columnsFault Unigram tab c ≡ none → Built tab c m scores answer after scoresAfter → lentAfter ≡ zeroRows lent
+      → CopiedBuilt o n tab c lent m scores answer lentAfter after scoresAfter
+  copied-built e p fine b l =
+      let f = sym (copied-left e p) in
+      record {
+        answered = b .answered ∙ ap (λ (o : Option Reason). toldFor o tab (rowsOf c)) f;
+        columns = b .columns ∙ ap (λ (o : Option Reason). leaves o (holding (unigramTrie tab (rowsOf c)) m) (cleared m) m) f;
+        scores = b .scores ∙ ap (λ (o : Option Reason). leaves o (filled plusZero (unigramScores tab (rowsOf c)) scores) (zeroScores scores) scores) f;
+        places = l ∙ zeros (zeroRows lent) lent (noScoredRoom (nodesOf tab (rowsOf c)) m scores) ∙ ap (λ (o : Option Reason). leaves o (zeroRows lent) (zeroRows lent) lent) (sym (fault-fine tab c m scores fine) ∙ f);
+      }
+
+-- ---- the promise over the rows
+
+module _ (tab : List ℕ) (rs : List Row) (lent lent₁ : RowPlaces) (m : Memory) (scores : List Double) (o : Option Reason) (c : Columns)
+    {answer : BuildAnswer} {lentAfter : RowPlaces} {after : Memory} {scoresAfter : List Double}
+    (b : CopiedBuilt o (length rs) tab c lent₁ m scores answer lentAfter after scoresAfter)
+  where
+    abbrev copied : Option Reason
+    copied = copiedFault o (length rs) tab c lent₁ m scores
+
+    abbrev whole : Option Reason
+    whole = rowsFault tab rs lent m scores
+
+    -- a refusal: nothing was put
+    refused : (r : Reason) → copied ≡ some r → whole ≡ some r → lent₁ ≡ lent → RowsBuilt tab rs lent m scores answer lentAfter after scoresAfter
+    unfolding toldFor leaves
+    refused r p q same =
+        record {
+          answered = b .answered ∙ ap (λ (f : Option Reason). toldFor f tab (rowsOf c)) p ∙ sym (ap (λ (f : Option Reason). toldFor f tab rs) q);
+          columns = b .columns ∙ ap (λ (f : Option Reason). leaves f (holding (unigramTrie tab (rowsOf c)) m) (cleared m) m) p ∙ sym (ap (λ (f : Option Reason). leaves f (holding (unigramTrie tab rs) m) (cleared m) m) q);
+          scores = b .scores ∙ ap (λ (f : Option Reason). leaves f (filled plusZero (unigramScores tab (rowsOf c)) scores) (zeroScores scores) scores) p ∙ sym (ap (λ (f : Option Reason). leaves f (filled plusZero (unigramScores tab rs) scores) (zeroScores scores) scores) q);
+          places = b .places ∙ ap (λ (f : Option Reason). leaves f (zeroRows lent₁) (zeroRows lent₁) lent₁) p ∙ ap (λ (l : RowPlaces). leaves (some r) (zeroRows l) (zeroRows l) l) same ∙ sym (ap (λ (f : Option Reason). leaves f (zeroRows lent) (zeroRows lent) lent) q);
+        }
+
+    -- rows without a fault, in the first places: built, or no room
+    accepted : (t : Bool) → copied ≡ refuse t (reason.Call fault.Room) none → whole ≡ refuse t (reason.Call fault.Room) none → rowsOf c ≡ rs → zeroRows lent₁ ≡ zeroRows lent
+        → RowsBuilt tab rs lent m scores answer lentAfter after scoresAfter
+    accepted t p q rows same =
+        let f : copied ≡ whole = p ∙ sym q in
+        record {
+          answered = b .answered ∙ ap (λ (x : Option Reason). toldFor x tab (rowsOf c)) f ∙ ap (toldFor whole tab) rows;
+          columns = b .columns ∙ ap (λ (x : Option Reason). leaves x (holding (unigramTrie tab (rowsOf c)) m) (cleared m) m) f ∙ ap (λ (l : List Row). leaves whole (holding (unigramTrie tab l) m) (cleared m) m) rows;
+          scores = b .scores ∙ ap (λ (x : Option Reason). leaves x (filled plusZero (unigramScores tab (rowsOf c)) scores) (zeroScores scores) scores) f ∙ ap (λ (l : List Row). leaves whole (filled plusZero (unigramScores tab l) scores) (zeroScores scores) scores) rows;
+          places = b .places ∙ ap (λ (x : Option Reason). leaves x (zeroRows lent₁) (zeroRows lent₁) lent₁) p ∙ sym (zeros (zeroRows lent₁) lent₁ t) ∙ same ∙ zeros (zeroRows lent) lent t ∙ sym (ap (λ (x : Option Reason). leaves x (zeroRows lent) (zeroRows lent) lent) q);
+        }
+
+-- ---- the steps together
+
+module _ (tab : List ℕ) (rs : List Row) (off len off₁ len₁ : List ℕ) (scores scores₁ : List Float) (o : Option Reason) (k : ℕ)
+    (judged : o ≡ rowsJudged tab rs) (counted : k ≡ toCopy o (anyBelow (length rs) (length off ∷ length len ∷ length scores ∷ [])) (length rs))
+    (put : rowPlaces off₁ len₁ scores₁ ≡ putRows (rowPlaces off len scores) 0 (take k rs))
+  where
+    abbrev lent : RowPlaces
+    lent = rowPlaces off len scores
+
+    abbrev lent₁ : RowPlaces
+    lent₁ = rowPlaces off₁ len₁ scores₁
+
+    abbrev n′ : ℕ
+    n′ = length rs
+
+    abbrev c : Columns
+    c = firstPlaces n′ off₁ len₁ scores₁
+
+    -- nothing was put
+    none-put : k ≡ 0 → lent₁ ≡ lent
+    unfolding putRows
+    none-put e = put ∙ ap (λ (j : ℕ). putRows lent 0 (take j rs)) e
+
+    found-none : {r : Reason} → o ≡ some r → k ≡ 0
+    unfolding toCopy
+    found-none e = counted ∙ ap (λ (x : Option Reason). toCopy x (anyBelow n′ (length off ∷ length len ∷ length scores ∷ [])) n′) e
+
+    short-none : o ≡ none → shortOf n′ lent ≡ true → k ≡ 0
+    unfolding toCopy
+    short-none e p = counted ∙ ap (λ (x : Option Reason). toCopy x (anyBelow n′ (length off ∷ length len ∷ length scores ∷ [])) n′) e ∙ ap (λ (t : Bool). cond t 0 n′) (short-is n′ off len scores ∙ p)
+
+    -- all were put
+    all-put : o ≡ none → shortOf n′ lent ≡ false → lent₁ ≡ putRows lent 0 rs
+    unfolding toCopy
+    all-put e p =
+        let all : k ≡ n′ = counted ∙ ap (λ (x : Option Reason). toCopy x (anyBelow n′ (length off ∷ length len ∷ length scores
+        ∷ [])) n′) e ∙ ap (λ (t : Bool). cond t 0 n′) (short-is n′ off len scores ∙ p) in
+        put ∙ ap (λ (j : ℕ). putRows lent 0 (take j rs)) all ∙ ap (putRows lent 0) (take-all rs)
+
+    -- what all that were put are
+    record Whole : Type 0 where
+      are : rowsOf c ≡ rs
+      fine : columnsFault Unigram tab c ≡ none
+      zeros : zeroRows lent₁ ≡ zeroRows lent
+      roomy : shortOf n′ lent₁ ≡ false
+
+    all-there : o ≡ none → shortOf n′ lent ≡ false → Whole
+    all-there e p =
+        let h = all-hold n′ off len scores p in
+        let w = all-put e p in
+        let s : n′ ≤ length (map units scores) = omega (arith, h .2, length-map scores units) in
+        let same = first-places rs off₁ len₁ scores₁ lent w (h .0) (h .1) s in
+        let fine = sym judged ∙ e in
+        record {
+          are = ap rowsOf same ∙ rows-are tab rs fine;
+          fine = ap (columnsFault Unigram tab) same ∙ columns-fine tab rs fine;
+          zeros = same-zeros rs off₁ len₁ scores₁ lent w (h .0) (h .1) s;
+          roomy = same-short rs off₁ len₁ scores₁ lent w (h .0) (h .1) s n′ ∙ p;
+        }
+
+    -- where there is room for the rows after the copy there was room before
+    room-before : o ≡ none → (t : Bool) → shortOf n′ lent ≡ t → shortOf n′ lent₁ ≡ false → shortOf n′ lent ≡ false
+    room-before e false p q = p
+    room-before e true p q = sym (ap (shortOf n′) (none-put (short-none e p))) ∙ q
+
+    pub ready : Ready o (length rs) tab off₁ len₁ scores₁
+    ready =
+        record {
+          other = λ r e. judged-number tab rs r (sym judged ∙ e);
+          fine = λ e p. all-there e (room-before e (shortOf n′ lent) refl p) .fine;
+        }
+
+    module _ (m : Memory) (nodeScores : List Double) {answer : BuildAnswer} {lentAfter : RowPlaces} {after : Memory} {scoresAfter : List Double}
+        (b : CopiedBuilt o (length rs) tab (firstPlaces (length rs) off₁ len₁ scores₁) (rowPlaces off₁ len₁ scores₁) m nodeScores answer lentAfter after scoresAfter)
+      where
+        abbrev rest : Bool → Option Reason
+        rest t = refuse (t || noScoredRoom (nodesOf tab rs) m nodeScores) (reason.Call fault.Room) none
+
+        whole-is : {x : Option Reason} → o ≡ x → rowsFault tab rs lent m nodeScores ≡ first x (rest (shortOf n′ lent))
+        unfolding rowsFault
+        whole-is e = ap (λ (x : Option Reason). first x (rest (shortOf n′ lent))) (sym judged ∙ e)
+
+        pub rows-built : RowsBuilt tab rs (rowPlaces off len scores) m nodeScores answer lentAfter after scoresAfter
+        unfolding first refuse
+        rows-built = by-found o refl
+          where
+            by-room : o ≡ none → (t : Bool) → shortOf n′ lent ≡ t → RowsBuilt tab rs (rowPlaces off len scores) m nodeScores answer lentAfter after scoresAfter
+            by-room e true p =
+                let same = none-put (short-none e p) in
+                refused tab rs lent lent₁ m nodeScores o c b (reason.Call fault.Room)
+                (copied-full n′ tab c lent₁ m nodeScores e (ap (shortOf n′) same ∙ p)) (whole-is e ∙ ap rest p) same
+            by-room e false p =
+                let w = all-there e p in
+                accepted tab rs lent lent₁ m nodeScores o c b (noScoredRoom (nodesOf tab rs) m nodeScores)
+                (copied-left n′ tab c lent₁ m nodeScores e (w .roomy) ∙ fault-fine tab c m nodeScores (w .fine) ∙ ap (λ (l : List Row). refuse (noScoredRoom (nodesOf tab l) m nodeScores) (reason.Call fault.Room) none) (w .are))
+                (whole-is e ∙ ap rest p) (w .are) (w .zeros)
+
+            by-found : (x : Option Reason) → o ≡ x → RowsBuilt tab rs (rowPlaces off len scores) m nodeScores answer lentAfter after scoresAfter
+            by-found (some r) e = refused tab rs lent lent₁ m nodeScores o c b r (copied-found n′ tab c lent₁ m nodeScores e) (whole-is e) (none-put (found-none e))
+            by-found none e = by-room e (shortOf n′ lent) refl

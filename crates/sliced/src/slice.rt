@@ -1,0 +1,267 @@
+// A row list that is lent as a slice of rows: judged as a whole, copied into lent columns, and built there. What holds the slice has no branch of
+// its own, and each turn of its loops is a call on one row.
+use refusal::Fault;
+use refusal::Reason;
+use rows::Kind;
+use rows::Row;
+use rows::RowAnswer;
+use rows::Worth;
+use rows::columns::RowsAnswer;
+use scored::BuildAnswer;
+use scored::fine;
+ghost use mathlib.Core.Path.{_≡_};
+ghost use mathlib.Core.Bool.{false, _||_};
+ghost use mathlib.Core.List.{[], _∷_, map};
+ghost use mathlib.Core.Option.{none};
+ghost use Prim.Native.Nat.{_<_};
+ghost use lib.ListN.{length, take};
+ghost use Rattle.doubles.specs.Units.{units};
+ghost use Rattle.refusal.specs.declared.Fault.the-variants as fault;
+ghost use Rattle.refusal.specs.declared.Reason.the-variants as reason;
+ghost use Rattle.refusal.specs.Refusal.{refuse};
+ghost use Rattle.refusal.specs.Sizes.{maxRows, maxTable, above};
+ghost use Rattle.rows.specs.Rows.{worthIs, rowIs};
+ghost use Rattle.rows.specs.declared.Kind.the-variants.{Unigram};
+ghost use Rattle.rows.specs.Columns.{columnsFault};
+ghost use Rattle.rows.specs.Answers.{reasonIn};
+ghost use Rattle.build.specs.Rules.{scoreOf};
+ghost use Rattle.build.specs.Memory.{memory, anyBelow, cleared, zeroScores};
+ghost use Rattle.scored.specs.Build as promise;
+ghost use Rattle.sliced.specs.BuildRows.{rowPlaces, rowsJudged, zeroRows, shortOf};
+ghost use Rattle.sliced.specs.Copied.{foundAfter, putRow, putRows, Places, toCopy, firstPlaces, Ready, CopiedBuilt};
+
+// Too many rows or too large a table, before any row is looked at.
+fn sized(count: usize, table: usize) -> RowsAnswer
+    ensures { λ r. ⌜ reasonIn r ≡ refuse (above maxRows count || above maxTable table) (reason.Call fault.Size) none ⌝ }
+{
+    if rows::columns::MAX_ROWS < count {
+        return RowsAnswer::Refused(Reason::Call(Fault::Size));
+    }
+    if text::MAX_TABLE < table {
+        return RowsAnswer::Refused(Reason::Call(Fault::Size));
+    }
+    RowsAnswer::Fine
+}
+
+// What is found once row i is looked at too: what was found before it stands.
+fn judge_row(found: RowsAnswer, tab: &[u8], row: Row, i: usize) -> RowsAnswer
+    requires { ⌜ (reasonIn found ≡ none → i < 4_294_967_296) ⌝ }
+    ensures { λ r. ⌜ reasonIn r ≡ foundAfter (reasonIn found) (now (tab .entry)) (rowIs row) i ⌝ }
+{
+    match found {
+        RowsAnswer::Refused(r) => RowsAnswer::Refused(r),
+        RowsAnswer::Fine => match rows::row_fault(Kind::Unigram, tab, row) {
+            RowAnswer::Bad(f) => RowsAnswer::Refused(Reason::Row(f, i as u32)),
+            RowAnswer::Fine => RowsAnswer::Fine,
+        },
+    }
+}
+
+// Whether every row is fine. Refused with 1 for too many rows or too large a table; then the first bad row decides.
+pub(crate) fn judge(tab: &[u8], rows: &[Row]) -> RowsAnswer
+    ensures { λ r. ⌜ reasonIn r ≡ rowsJudged (now (tab .entry)) (map rowIs (now (rows .entry))) ⌝ }
+{
+    let mut found = sized(rows.len(), tab.len());
+    let mut i: usize = 0;
+    while i < rows.len() {
+        found = judge_row(found, tab, rows[i], i);
+        i += 1;
+    }
+    found
+}
+
+// The score of a row; 0 where its worth is none.
+fn score_in(worth: Worth) -> f64
+    ensures { λ r. ⌜ units r ≡ scoreOf (worthIs worth) ⌝ }
+{
+    match worth {
+        Worth::Score(x) => x,
+        Worth::Id(_) => 0.0,
+    }
+}
+
+// Row i goes to place i of the columns.
+fn put_row(off: &mut [u32], len: &mut [u32], score: &mut [f64], i: usize, row: Row)
+    requires { ⌜ (i < length (now off)) × (i < length (now len)) × (i < length (now score)) ⌝ }
+    ensures { λ _. ⌜ rowPlaces (now (off .exit)) (now (len .exit)) (now (score .exit)) ≡ putRow (rowPlaces (now (off .entry)) (now (len .entry)) (now (score .entry))) i (rowIs row) ⌝ }
+{
+    off[i] = row.off;
+    len[i] = row.len;
+    let worth = row.worth;
+    score[i] = score_in(worth);
+}
+
+// The first n rows go to the first places of the columns.
+pub(crate) fn copy(rows: &[Row], n: usize, off: &mut [u32], len: &mut [u32], score: &mut [f64])
+    requires { ⌜ Places n (now rows) (now off) (now len) (now score) ⌝ }
+    ensures { λ _. ⌜ rowPlaces (now (off .exit)) (now (len .exit)) (now (score .exit)) ≡ putRows (rowPlaces (now (off .entry)) (now (len .entry)) (now (score .entry))) 0 (take n (map rowIs (now (rows .entry)))) ⌝ }
+{
+    let mut i: usize = 0;
+    while i < n {
+        put_row(off, len, score, i, rows[i]);
+        i += 1;
+    }
+}
+
+// Whether a column has fewer than n places.
+fn is_short(n: usize, off: usize, len: usize, score: usize) -> bool
+    ensures { λ r. ⌜ r ≡ anyBelow n (off ∷ len ∷ score ∷ []) ⌝ }
+{
+    if off < n {
+        return true;
+    }
+    if len < n {
+        return true;
+    }
+    score < n
+}
+
+// How many of n rows to copy: all, where they are fine and the columns have room.
+pub(crate) fn to_copy(found: RowsAnswer, n: usize, off: usize, len: usize, score: usize) -> usize
+    ensures { λ r. ⌜ r ≡ toCopy (reasonIn found) (anyBelow n (off ∷ len ∷ score ∷ [])) n ⌝ }
+{
+    match found {
+        RowsAnswer::Refused(_) => 0,
+        RowsAnswer::Fine => { if is_short(n, off, len, score) { 0 } else { n } }
+    }
+}
+
+// Every place of the three columns zero.
+fn clear_rows(off: &mut [u32], len: &mut [u32], score: &mut [f64])
+    ensures { λ _. ⌜ rowPlaces (now (off .exit)) (now (len .exit)) (now (score .exit)) ≡ zeroRows (rowPlaces (now (off .entry)) (now (len .entry)) (now (score .entry))) ⌝ }
+{
+    build::zero::zero32(off);
+    build::zero::zero32(len);
+    scored::scores::zero(score);
+}
+
+// The build of the rows in the first n places.
+fn build_first(
+    n: usize,
+    tab: &[u8],
+    off: &[u32],
+    len: &[u32],
+    score: &[f64],
+    edge_at: &mut [u32],
+    edge_n: &mut [u16],
+    node_id: &mut [u32],
+    node_score: &mut [f64],
+    byte: &mut [u8],
+    to: &mut [u32],
+    work: &mut [u32],
+) -> BuildAnswer
+    requires { ⌜ shortOf n (rowPlaces (now off) (now len) (now score)) ≡ false ⌝ }
+    requires { ⌜ columnsFault Unigram (now tab) (firstPlaces n (now off) (now len) (now score)) ≡ none ⌝ }
+    ensures { λ r.
+        ⌜ promise.Built (now (tab .entry)) (firstPlaces n (now (off .entry)) (now (len .entry)) (now (score .entry)))
+        (memory (now («edge_at» .entry)) (now («edge_n» .entry)) (now («node_id» .entry)) (now (byte .entry)) (now (to .entry)) (now (work .entry)))
+        (map units (now («node_score» .entry)))
+        r
+        (memory (now («edge_at» .exit)) (now («edge_n» .exit)) (now («node_id» .exit)) (now (byte .exit)) (now (to .exit)) (now (work .exit)))
+        (map units (now («node_score» .exit))) ⌝ }
+{
+    let first = &off[..n];
+    fine::build_rows(
+        tab,
+        first,
+        &len[..n],
+        &score[..n],
+        first,
+        edge_at,
+        edge_n,
+        node_id,
+        node_score,
+        byte,
+        to,
+        work,
+    )
+}
+
+// Too little room for the rows: every lent place zero.
+fn refuse_short(
+    off: &mut [u32],
+    len: &mut [u32],
+    score: &mut [f64],
+    edge_at: &mut [u32],
+    edge_n: &mut [u16],
+    node_id: &mut [u32],
+    node_score: &mut [f64],
+    byte: &mut [u8],
+    to: &mut [u32],
+    work: &mut [u32],
+) -> BuildAnswer
+    ensures { λ r.
+        ⌜ (r ≡ BuildAnswer.Refused (reason.Call fault.Room))
+        × (rowPlaces (now (off .exit)) (now (len .exit)) (now (score .exit)) ≡ zeroRows (rowPlaces (now (off .entry)) (now (len .entry)) (now (score .entry))))
+        × (memory (now («edge_at» .exit)) (now («edge_n» .exit)) (now («node_id» .exit)) (now (byte .exit)) (now (to .exit)) (now (work .exit))
+        ≡ cleared (memory (now («edge_at» .entry)) (now («edge_n» .entry)) (now («node_id» .entry)) (now (byte .entry)) (now (to .entry)) (now (work .entry))))
+        × (map units (now («node_score» .exit)) ≡ zeroScores (map units (now («node_score» .entry)))) ⌝ }
+{
+    clear_rows(off, len, score);
+    build::zero::clear(edge_at, edge_n, node_id, byte, to, work);
+    scored::scores::zero(node_score);
+    BuildAnswer::Refused(Reason::Call(Fault::Room))
+}
+
+// The build of n rows that were found fine and copied, where the columns have room for them; or else what was found, or too little room.
+// Afterwards the columns are zero, but where a fault was found they are as they were.
+pub(crate) fn build_copied(
+    found: RowsAnswer,
+    n: usize,
+    tab: &[u8],
+    off: &mut [u32],
+    len: &mut [u32],
+    score: &mut [f64],
+    edge_at: &mut [u32],
+    edge_n: &mut [u16],
+    node_id: &mut [u32],
+    node_score: &mut [f64],
+    byte: &mut [u8],
+    to: &mut [u32],
+    work: &mut [u32],
+) -> BuildAnswer
+    requires { ⌜ Ready (reasonIn found) n (now tab) (now off) (now len) (now score) ⌝ }
+    ensures { λ r.
+        ⌜ CopiedBuilt (reasonIn found) n (now (tab .entry)) (firstPlaces n (now (off .entry)) (now (len .entry)) (now (score .entry)))
+        (rowPlaces (now (off .entry)) (now (len .entry)) (now (score .entry)))
+        (memory (now («edge_at» .entry)) (now («edge_n» .entry)) (now («node_id» .entry)) (now (byte .entry)) (now (to .entry)) (now (work .entry)))
+        (map units (now («node_score» .entry)))
+        r
+        (rowPlaces (now (off .exit)) (now (len .exit)) (now (score .exit)))
+        (memory (now («edge_at» .exit)) (now («edge_n» .exit)) (now («node_id» .exit)) (now (byte .exit)) (now (to .exit)) (now (work .exit)))
+        (map units (now («node_score» .exit))) ⌝ }
+{
+    if let RowsAnswer::Refused(r) = found {
+        return BuildAnswer::Refused(r);
+    }
+    if is_short(n, off.len(), len.len(), score.len()) {
+        return refuse_short(
+            off,
+            len,
+            score,
+            edge_at,
+            edge_n,
+            node_id,
+            node_score,
+            byte,
+            to,
+            work,
+        );
+    }
+    let answer = build_first(
+        n,
+        tab,
+        off,
+        len,
+        score,
+        edge_at,
+        edge_n,
+        node_id,
+        node_score,
+        byte,
+        to,
+        work,
+    );
+    clear_rows(off, len, score);
+    answer
+}
