@@ -1,6 +1,6 @@
 -- What is printed of a pack that was judged: the refusal of one that has a fault, and else the lines in the trie that its build left in the first places
 -- of the lent columns, which is the pack's. Assumes nothing.
-use mathlib.Core.Path.{_≡_, refl, sym, ap, _∙_, subst}
+use mathlib.Core.Path.{_≡_, refl, sym, ap, ap₂, _∙_, subst}
 use mathlib.Core.Bool.{Bool, true, false, not, _&&_}
 use mathlib.Core.List.{List, [], _∷_, map}
 use mathlib.Core.Option.{Option, none, some}
@@ -40,7 +40,6 @@ use Rattle.pack.proofs.BuiltPacks as packs
 use Rattle.output.specs.Lines.{printedRefusal}
 use Rattle.output.specs.Output.{maxPack, places, lentMemory, scorePlaces, segmentedLine, encodedLine, printedLine, linesPrinted, faultOf, outputOf, output}
 use Rattle.output.specs.Cut.{Cuttable, Judged}
-use Rattle.output.proofs.Printing.{zeros}
 
 -- ---- a pack that is too large
 
@@ -75,6 +74,11 @@ take-map (suc n) [] = refl
 take-map (suc n) (x ∷ xs) = ap (λ (l : List Double). units x ∷ l) (take-map n xs)
 
 -- ---- the columns
+
+-- a column of +0, as the doubles that it holds
+zeros : (n : ℕ) (z : Float) → units z ≡ plusZero → map units (replicate n z) ≡ replicate n plusZero
+zeros zero z e = refl
+zeros (suc n) z e = ap₂ _∷_ e (zeros n z e)
 
 -- the memory that the program lends
 pub lent-built :

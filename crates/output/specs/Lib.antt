@@ -2,4 +2,5 @@
 pub mod Lines
 pub mod Output
 pub mod Put
+pub mod Lent
 pub mod Cut

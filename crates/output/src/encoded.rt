@@ -3,16 +3,20 @@ use crate::lines::line_end;
 use crate::put::put_first;
 use crate::put::put_refusal;
 use wordpiece::EncodeAnswer;
+ghost use mathlib.Core.Path.{_≡_};
 ghost use mathlib.Core.List.{flatMap};
 ghost use Prim.Native.Nat.{_+_, _*_, _≤_};
 ghost use lib.ListN.{length};
 ghost use Rattle.trie.specs.Trie.{partsOf};
+ghost use Rattle.trie.specs.Sound.{sound};
 ghost use Rattle.output.specs.Lines.{lines};
 ghost use Rattle.output.specs.Output.{encodedLine};
 ghost use Rattle.output.specs.Put.{Put};
 
-// One line, a word: its ids, or its refusal. Either takes at most 11 bytes for each byte of the line, and 11.
+// One line, a word: its ids, or its refusal. Either takes at most 11 bytes for each byte of the line, and 11. `tested` is whether the parts are
+// sound. The id places may hold anything.
 pub fn put_encoded(
+    tested: bool,
     edge_at: &[u32],
     edge_n: &[u16],
     id: &[u32],
@@ -22,9 +26,12 @@ pub fn put_encoded(
     max_chars: u32,
     prefix: &[u8],
     line: &[u8],
+    ids: &mut [u32],
     out: &mut [u8],
     at: usize,
 ) -> usize
+    requires { ⌜ tested ≡ sound (partsOf (now «edge_at») (now «edge_n») (now id) (now byte) (now to)) ⌝ }
+    requires { ⌜ length (now ids) ≡ 4_096 ⌝ }
     requires { ⌜ at + 11 * length (now line) + 11 ≤ length (now out) ⌝ }
     ensures { λ r.
         ⌜ Put (now (out .entry)) at
@@ -32,8 +39,8 @@ pub fn put_encoded(
         «max_chars» (now (prefix .entry)) (now (line .entry)))
         r (now (out .exit)) × (r ≤ at + 11 * length (now (line .entry)) + 11) ⌝ }
 {
-    let mut ids = [0u32; 4096];
-    let answer = wordpiece::encode(
+    let answer = wordpiece::checked::encode_tested(
+        tested,
         edge_at,
         edge_n,
         id,
@@ -43,15 +50,15 @@ pub fn put_encoded(
         max_chars,
         prefix,
         line,
-        &mut ids,
+        ids,
     );
     match answer {
         EncodeAnswer::Refused(f) => put_refusal(out, at, b"", f),
-        EncodeAnswer::Ids(n) => put_first(out, at, &ids, n),
+        EncodeAnswer::Ids(n) => put_first(out, at, ids, n),
     }
 }
 
-// All lines of the input.
+// All lines of the input. The parts are tested once, and the lines share the id places.
 pub fn put_encoded_lines(
     edge_at: &[u32],
     edge_n: &[u16],
@@ -71,12 +78,15 @@ pub fn put_encoded_lines(
         «max_chars» (now (prefix .entry))) (lines (now (input .entry))))
         r (now (out .exit)) ⌝ }
 {
+    let tested = trie::soundness::sound(edge_at, edge_n, id, byte, to);
+    let mut ids = [0u32; 4096];
     let mut at: usize = 0;
     let mut from: usize = 0;
     while from < input.len() {
         let end = line_end(input, from);
         let line = &input[from..end];
         at = put_encoded(
+            tested,
             edge_at,
             edge_n,
             id,
@@ -86,6 +96,7 @@ pub fn put_encoded_lines(
             max_chars,
             prefix,
             line,
+            &mut ids,
             out,
             at,
         );

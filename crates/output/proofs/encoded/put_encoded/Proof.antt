@@ -1,4 +1,4 @@
--- `output::encoded::put_encoded` meets its contract: what `encode` promises in zero places is what the line prints. Assumes nothing.
+-- `output::encoded::put_encoded` meets its contract: what `encode_tested` promises of as many places as are lent is what the line prints. Assumes nothing.
 use mathlib.Core.Path.{_≡_, sym, ap}
 use Prim.Native.Nat.{_≤_}
 use native.Mathlib.Omega.{arith}
@@ -13,17 +13,17 @@ use Rattle.output.proofs.encoded.put_encoded.Tie as tie
 
 -- ---- the ways back
 
-abbrev entry : tie.After-encode → tie.Start
-entry c = let k = c .before .before .before .before .before in k .before .before .before .before .before
+abbrev entry : tie.After-encode-tested → tie.Start
+entry c = let k = c .before .before .before .before .before .before in k .before .before .before .before .before
 
-abbrev called : tie.After-answer2 → tie.After-encode
-called c = c .before .before .before
+abbrev called : tie.After-answer2 → tie.After-encode-tested
+called c = c .before .before .before .before
 
-slice-aggregate-encode : tie.Need-slice-aggregate-encode
-slice-aggregate-encode c = search needs
+abbrev refused : tie.After-answer → tie.After-encode-tested
+refused c = c .before .before .before .before
 
-encode-requires : tie.Need-encode-requires
-encode-requires c κs = search needs
+encode-tested-requires : tie.Need-encode-tested-requires
+encode-tested-requires c κs = search needs
 
 enum-known-answer : tie.Need-enum-known-answer
 enum-known-answer c = search needs
@@ -37,49 +37,53 @@ put-refusal-requires c κs = search needs
 enum-known-answer-2 : tie.Need-enum-known-answer-2
 enum-known-answer-2 c = search needs
 
-slice-aggregate-put-first : tie.Need-slice-aggregate-put-first
-slice-aggregate-put-first c = search needs
-
 put-first-requires : tie.Need-put-first-requires
 put-first-requires c κs =
     let b = c .before .before .before in
-    let s = encoded-ids (called b .encode .ensures) (b .answer2 .given .1) in
     let e = entry (called b) in
-    (omega (arith, s .few, e .pre), omega (arith, s .inside), omega (arith, s .inside))
+    let s = encoded-ids (called b .encode-tested .ensures) (e .pre .1 .0) (b .answer2 .given .1) in
+    (omega (arith, s .few, e .pre .1 .1), omega (arith, s .inside, e .pre .1 .0, let k = called b .encode-tested .kept .1 .1 .1 .1 .1 in k .1 .1 .1 .1 .1 .0), omega (arith, s .inside))
 
 same-length : tie.Need-same-length
 same-length c = search needs
+
+same-length-2 : tie.Need-same-length-2
+same-length-2 c = search needs
 
 returns : tie.Need-returns
 returns c =
     let p = c .before .before in
     let b = p .before .before .before .before in
-    let e = b .before .before .before in
-    (put-as (encoded-refused (e .encode .ensures) (b .answer .given .1)) (p .put-refusal .ensures .0), omega (arith, p .put-refusal .ensures .1))
+    let e = entry (refused b) in
+    (put-as (encoded-refused (refused b .encode-tested .ensures) (e .pre .1 .0) (b .answer .given .1)) (p .put-refusal .ensures .0), omega (arith, p .put-refusal .ensures .1))
 
-same-length-2 : tie.Need-same-length-2
-same-length-2 c = search needs
+same-length-3 : tie.Need-same-length-3
+same-length-3 c = search needs
+
+same-length-4 : tie.Need-same-length-4
+same-length-4 c = search needs
 
 returns-2 : tie.Need-returns-2
 returns-2 c =
     let p = c .before .before in
     let b = p .before .before .before .before in
-    let s = encoded-ids (called b .encode .ensures) (b .answer2 .given .1) in
+    let e = entry (called b) in
+    let s = encoded-ids (called b .encode-tested .ensures) (e .pre .1 .0) (b .answer2 .given .1) in
     (put-as (s .text) (p .put-first .ensures .0), omega (arith, p .put-first .ensures .1, s .few))
 
 pub put-encoded-spec : {M : Type 1} → statement M
 put-encoded-spec =
     tie.close
     (tie.spec
-    slice-aggregate-encode
-    encode-requires
+    encode-tested-requires
     enum-known-answer
     slice-aggregate-put-refusal
     put-refusal-requires
     enum-known-answer-2
-    slice-aggregate-put-first
     put-first-requires
     same-length
-    returns
     same-length-2
+    returns
+    same-length-3
+    same-length-4
     returns-2)

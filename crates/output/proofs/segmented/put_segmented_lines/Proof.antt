@@ -1,20 +1,26 @@
--- `output::segmented::put_segmented_lines` meets its contract. The loop's invariant: the lines before `from` are printed. The measure is what is left of
--- the input, and one for an LF that it may lack. Assumes nothing.
+-- `output::segmented::put_segmented_lines` meets its contract. The loop's invariant: the lines before `from` are printed, and the scratch
+-- is as long as it was lent. The measure is what is left of the input, and one for an LF that it may lack. Assumes nothing.
 use mathlib.Core.List.{List}
 use Prim.Native.Nat.{ℕ, _+_, _-_, _≤_}
 use native.Mathlib.Omega.{arith}
-use lib.ListN.{length}
+use lib.Ieee.{ofBits, binary64}
+use lib.ListN.{length, length-replicate}
 use Rattle.unigram.specs.Work.{modelOf, pieceWith}
 use Rattle.output.specs.Output.{segmentedLine}
+use Rattle.output.specs.Lent.{Lent}
+use Rattle.output.proofs.Printing.{lent-again}
 use Rattle.output.proofs.Following.{Printed, printed-start, end-inside, line-room, printed-turn, printed-end}
+use borrow.Author.Needs.{needs}
 use Rattle.output.proofs.segmented.put_segmented_lines.Statement.{statement}
 use Rattle.output.proofs.segmented.put_segmented_lines.Tie as tie
 
 abbrev Inv-loop : tie.InvT-loop
-Inv-loop edge-at edge-n id score byte to unknown unknown-score input out₀ at₀ from₀ out at from = Printed (segmentedLine (modelOf edge-at edge-n id score byte to (pieceWith unknown unknown-score))) input out₀ at from out
+Inv-loop edge-at edge-n id score byte to unknown unknown-score input out₀ tested start₀ slot-id₀ slot-score₀ path₀ ids₀ at₀ from₀ out start slot-id slot-score path ids at from =
+    Printed (segmentedLine (modelOf edge-at edge-n id score byte to (pieceWith unknown unknown-score))) input out₀ at from out
+    × Lent start slot-id slot-score path ids
 
 abbrev μ-loop : tie.MeasureT-loop
-μ-loop edge-at edge-n id score byte to unknown unknown-score input out₀ at₀ from₀ out at from = length input + 1 - from
+μ-loop edge-at edge-n id score byte to unknown unknown-score input out₀ tested start₀ slot-id₀ slot-score₀ path₀ ids₀ at₀ from₀ out start slot-id slot-score path ids at from = length input + 1 - from
 
 -- ---- the ways back: from the call of `line_end` to the loop's head, and from there to the start
 
@@ -25,14 +31,20 @@ abbrev head : tie.After-line-end Inv-loop μ-loop → Head
 head c = c .before .before
 
 abbrev entry : Head → tie.Start Inv-loop μ-loop
-entry c = let k = c .before .before .before .before in k .before .before .before .before .before
+entry c = let k = c .before .before .before .before .before in k .before .before .before .before .before
+
+-- from after a line was put to where it ends
+abbrev after : tie.After-put-segmented Inv-loop μ-loop → tie.After-line-end Inv-loop μ-loop
+after c = c .before .before .before .before .before .before .before .before
 
 -- what a line prints
 abbrev prints : Head → List ℕ → List ℕ
 prints h = let a = entry h .args in segmentedLine (modelOf (a .edge-at .now) (a .edge-n .now) (a .id .now) (a .score .now) (a .byte .now) (a .to .now) (pieceWith (a .unknown) (a .unknown-score)))
 
 loop-holds : tie.Need-loop-holds Inv-loop μ-loop
-loop-holds c = printed-start _ _ _
+loop-holds c =
+    let n = length-replicate {A = ℕ} 4_096 0 in
+    (printed-start _ _ _, record { starts = n; slots = n; scores = length-replicate 4_096 (ofBits binary64 0); ends = n; places = n })
 
 line-end-requires : tie.Need-line-end-requires Inv-loop μ-loop
 line-end-requires c κs = omega (arith, c .loop-test .taken)
@@ -42,8 +54,11 @@ ends : (c : tie.After-line-end Inv-loop μ-loop) → c .line-end .result ≤ len
 ends c =
     let h = head c in
     let a = entry h .args in
-    end-inside (prints h) (a .input .now) (a .out .now) (h .loop .at) (h .loop .from) (c .line-end .result) (h .loop .out) (h .loop .inv)
+    end-inside (prints h) (a .input .now) (a .out .now) (h .loop .at) (h .loop .from) (c .line-end .result) (h .loop .out) (h .loop .inv .0)
     (c .before .loop-test .taken) (c .line-end .ensures)
+
+sound-scored-requires : tie.Need-sound-scored-requires Inv-loop μ-loop
+sound-scored-requires c κs = search needs
 
 sub-line : tie.Need-sub-line Inv-loop μ-loop
 sub-line c = omega (arith, c .line-end .ensures)
@@ -54,38 +69,61 @@ part-line-start c = omega (arith, c .line-end .ensures, ends c)
 part-line-end : tie.Need-part-line-end Inv-loop μ-loop
 part-line-end c = omega (arith, ends c)
 
+slice-aggregate-put-segmented : tie.Need-slice-aggregate-put-segmented Inv-loop μ-loop
+slice-aggregate-put-segmented c = search needs
+
+slice-aggregate-put-segmented-2 : tie.Need-slice-aggregate-put-segmented-2 Inv-loop μ-loop
+slice-aggregate-put-segmented-2 c = search needs
+
+slice-aggregate-put-segmented-3 : tie.Need-slice-aggregate-put-segmented-3 Inv-loop μ-loop
+slice-aggregate-put-segmented-3 c = search needs
+
+slice-aggregate-put-segmented-4 : tie.Need-slice-aggregate-put-segmented-4 Inv-loop μ-loop
+slice-aggregate-put-segmented-4 c = search needs
+
+slice-aggregate-put-segmented-5 : tie.Need-slice-aggregate-put-segmented-5 Inv-loop μ-loop
+slice-aggregate-put-segmented-5 c = search needs
+
 put-segmented-requires : tie.Need-put-segmented-requires Inv-loop μ-loop
 put-segmented-requires c κs =
-    let e = c .before .before in
+    let e = c .before .before .before .before .before .before .before in
     let h = head e in
-    let s = entry h in
-    line-room (prints h) (s .args .input .now) (s .args .out .now) (h .loop .at) (h .loop .from) (e .line-end .result) (h .loop .out) (h .loop .inv)
-    (e .before .loop-test .taken) (e .line-end .ensures) (s .pre)
+    let s = entry h in (
+      h .before .sound-scored .ensures,
+      (
+        h .loop .inv .1,
+        line-room (prints h) (s .args .input .now) (s .args .out .now) (h .loop .at) (h .loop .from) (e .line-end .result) (h .loop .out) (h .loop .inv .0)
+            (e .before .loop-test .taken) (e .line-end .ensures) (s .pre),
+      ),
+    )
 
 add-from : tie.Need-add-from Inv-loop μ-loop
 add-from c =
-    let e = c .before .before .before .before .before in
+    let e = after (c .before .before .before .before .before .before .before) in
     omega (arith, ends e, entry (head e) .good)
 
 loop-less : tie.Need-loop-less Inv-loop μ-loop
 loop-less c =
-    let e = c .before .before .before .before .before in
+    let e = after (c .before .before .before .before .before .before .before) in
     omega (arith, e .line-end .ensures, e .before .loop-test .taken)
 
 loop-again : tie.Need-loop-again Inv-loop μ-loop
 loop-again c =
-    let p = c .before .before in
-    let e = p .before .before .before in
+    let p = c .before .before .before .before .before .before .before in
+    let e = after p in
     let h = head e in
     let a = entry h .args in
-    printed-turn (prints h) (a .input .now) (a .out .now) (h .loop .at) (h .loop .from) (e .line-end .result) (h .loop .out) (h .loop .inv)
-    (e .before .loop-test .taken) (e .line-end .ensures) (p .put-segmented .ensures .0) (p .put-segmented .ensures .1) (let k = p .put-segmented .kept .1 .1 .1 .1 .1 in k .1 .1 .1 .1 .0)
+    let k = p .put-segmented .kept .1 .1 .1 .1 .1 .1 .1 .1 .1 .1 in (
+      printed-turn (prints h) (a .input .now) (a .out .now) (h .loop .at) (h .loop .from) (e .line-end .result) (h .loop .out) (h .loop .inv .0)
+          (e .before .loop-test .taken) (e .line-end .ensures) (p .put-segmented .ensures .0) (p .put-segmented .ensures .1) (k .1 .1 .1 .1 .1 .0),
+      lent-again (h .loop .inv .1) (k .0) (k .1 .0) (k .1 .1 .0) (k .1 .1 .1 .0) (k .1 .1 .1 .1 .0),
+    )
 
 same-length : tie.Need-same-length Inv-loop μ-loop
-same-length c = c .before .loop .inv .kept
+same-length c = c .before .loop .inv .0 .kept
 
 returns : tie.Need-returns Inv-loop μ-loop
-returns c = printed-end _ _ _ (c .before .loop .inv) (c .loop-test .left)
+returns c = printed-end _ _ _ (c .before .loop .inv .0) (c .loop-test .left)
 
 pub put-segmented-lines-spec : {M : Type 1} → statement M
 put-segmented-lines-spec =
@@ -93,11 +131,17 @@ put-segmented-lines-spec =
     (tie.spec
     Inv-loop
     μ-loop
+    sound-scored-requires
     loop-holds
     line-end-requires
     sub-line
     part-line-start
     part-line-end
+    slice-aggregate-put-segmented
+    slice-aggregate-put-segmented-2
+    slice-aggregate-put-segmented-3
+    slice-aggregate-put-segmented-4
+    slice-aggregate-put-segmented-5
     put-segmented-requires
     add-from
     loop-less
