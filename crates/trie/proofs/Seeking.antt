@@ -44,6 +44,19 @@ module _ (bytes tos : List ℕ) (b : ℕ) where
   unfolding seek
   seek-empty at = refl
 
+  -- the first of some edges has the byte, or is passed over
+  pub seek-first : (at n : ℕ) → 1 ≤ n → getD bytes at 0 ≡ b → seek bytes tos b at n ≡ some (getD tos at 0)
+  seek-first at n some-edges same = let e : n ≡ suc (n - 1) = omega arith in ap (seek bytes tos b at) e ∙ seek-here at (n - 1) same
+
+  pub seek-past : (at n : ℕ) → 1 ≤ n → (getD bytes at 0 ≡ b → ⊥) → seek bytes tos b at n ≡ seek bytes tos b (at + 1) (n - 1)
+  seek-past at n some-edges other =
+      let e : n ≡ suc (n - 1) = omega arith in
+      let next : suc at ≡ at + 1 = omega arith in
+      ap (seek bytes tos b at) e ∙ seek-later at (n - 1) other ∙ ap (λ (k : ℕ). seek bytes tos b k (n - 1)) next
+
+  pub seek-over : (at n : ℕ) → n ≡ 0 → seek bytes tos b at n ≡ none
+  seek-over at n e = ap (seek bytes tos b at) e ∙ seek-empty at
+
   pub seek-none : (n at : ℕ) → Clear bytes b at (at + n) → seek bytes tos b at n ≡ none
   seek-none zero at clear = seek-empty at
   seek-none (suc n) at clear =
@@ -101,7 +114,7 @@ module _ (bytes tos : List ℕ) (b : ℕ) where
           (λ m. rest g k m (omega arith) same)
           (eq-or-lt-of-le p)
 
-  -- ---- by halves
+  -- ---- by quarters
 
   -- the bytes from `at` up to `end` rise strictly
   module _ (at n : ℕ) (rising : (i : ℕ) → suc i < n → getD bytes (at + i) 0 < getD bytes (at + suc i) 0) where
@@ -134,49 +147,86 @@ module _ (bytes tos : List ℕ) (b : ℕ) where
         (λ k l m other. omega (arith, later-above k e (omega arith) (omega arith) (omega arith)))
         ∙ rw here (seek-here e (at + n - suc e) same)
 
-    -- The turn of a search that has the `left` edges from `low` on before it, and looks at the one after the first `half` of them: those
-    -- in front of it are left out where its byte is at most b, else as many behind.
-    module _ (low half left : ℕ) (from : at ≤ low) (halved : half + half ≤ left) (some : half < left) (to : low + left ≤ at + n) where
-      halves-right : getD bytes (low + half) 0 ≤ b → seek bytes tos b low left ≡ seek bytes tos b (low + half) (left - half)
-      halves-right l =
-          let whole : left ≡ half + (left - half) = omega arith in
+    -- of the `left` edges from `low` on
+    module _ (low left : ℕ) (from : at ≤ low) (to : low + left ≤ at + n) where
+      -- those in front of one whose byte is at most b can be left out
+      skip-to : (m : ℕ) → m < left → getD bytes (low + m) 0 ≤ b → seek bytes tos b low left ≡ seek bytes tos b (low + m) (left - m)
+      skip-to m s l =
+          let whole : left ≡ m + (left - m) = omega arith in
           ap (seek bytes tos b low) whole
-          ∙ seek-skip half low (left - half)
-          (λ k p q same. omega (arith, later-above k (low + half) (omega arith) (omega arith) (omega arith)))
+          ∙ seek-skip m low (left - m) (λ k p q same. omega (arith, later-above k (low + m) (omega arith) (omega arith) (omega arith)))
 
-      halves-left : b < getD bytes (low + half) 0 → seek bytes tos b low left ≡ seek bytes tos b low (left - half)
-      halves-left l =
-          let whole : left ≡ (left - half) + half = omega arith in
-          ap (seek bytes tos b low) whole ∙ seek-cut (left - half) low half (λ k p q same. above k (omega arith) (omega arith) same)
+      -- and those from any place on that is not in front of one whose byte is above b
+      cut-to : (m rest : ℕ) → m ≤ rest → rest ≤ left → m < left → b < getD bytes (low + m) 0 → seek bytes tos b low left ≡ seek bytes tos b low rest
+      cut-to m rest p s r l =
+          let whole : left ≡ rest + (left - rest) = omega arith in
+          ap (seek bytes tos b low) whole ∙ seek-cut rest low (left - rest) (λ k u v same. above k (omega arith) (omega arith) same)
         where
-          above : (k : ℕ) → low + half ≤ k → k < low + left → getD bytes k 0 ≡ b → ⊥
-          above k p q same =
+          above : (k : ℕ) → low + m ≤ k → k < low + left → getD bytes k 0 ≡ b → ⊥
+          above k u v same =
               ⊎-elim
               (λ e. omega (arith, ap (λ (j : ℕ). getD bytes j 0) e))
-              (λ m. omega (arith, later-above (low + half) k (omega arith) m (omega arith)))
-              (eq-or-lt-of-le p)
+              (λ h. omega (arith, later-above (low + m) k (omega arith) h (omega arith)))
+              (eq-or-lt-of-le u)
 
-      pub halves : seek bytes tos b low left ≡ seek bytes tos b (low + cond (leb (getD bytes (low + half) 0) b) half 0) (left - half)
-      halves = go (leb (getD bytes (low + half) 0) b) refl
+    -- The turn of a search that has the `left` edges from `low` on before it, and looks at three of them, `part` apart: it goes on by `part` for
+    -- each whose byte is at most b, and leaves out three parts in all.
+    module _ (low part left : ℕ) (from : at ≤ low) (some : 3 * part < left) (parted : 4 * part ≤ left) (to : low + left ≤ at + n) where
+      abbrev one : ℕ
+      one = getD bytes (low + part) 0
+
+      abbrev two : ℕ
+      two = getD bytes (low + 2 * part) 0
+
+      abbrev three : ℕ
+      three = getD bytes (low + 3 * part) 0
+
+      moved : (i j k m : ℕ) → i ≡ j → k ≡ m → seek bytes tos b i k ≡ seek bytes tos b j m
+      moved i j k m e f = ap (seek bytes tos b i) f ∙ ap (λ (x : ℕ). seek bytes tos b x m) e
+
+      rises : (1 ≤ part) → (one < two) × (two < three)
+      rises p = (
+        later-above (low + part) (low + 2 * part) (omega arith) (omega arith) (omega arith),
+        later-above (low + 2 * part) (low + 3 * part) (omega arith) (omega arith) (omega arith),
+      )
+
+      pub quarters :
+          1 ≤ part
+          → seek bytes tos b low left ≡ seek bytes tos b (low + (cond (leb one b) part 0 + cond (leb two b) part 0 + cond (leb three b) part 0)) (left - 3 * part)
+      quarters p = go (leb one b) (leb two b) (leb three b) refl refl refl
         where
           go :
-              (t : Bool) → leb (getD bytes (low + half) 0) b ≡ t
-              → seek bytes tos b low left ≡ seek bytes tos b (low + cond t half 0) (left - half)
-          go true e = halves-right (leb-true (getD bytes (low + half) 0) b e)
-          go false e =
-              let here : low + 0 ≡ low = omega arith in
-              rw here (halves-left (leb-false (getD bytes (low + half) 0) b e))
+              (x y z : Bool) → leb one b ≡ x → leb two b ≡ y → leb three b ≡ z
+              → seek bytes tos b low left ≡ seek bytes tos b (low + (cond x part 0 + cond y part 0 + cond z part 0)) (left - 3 * part)
+          go true true true u v w =
+              skip-to low left from to (3 * part) (omega arith) (leb-true three b w) ∙ moved _ _ _ _ (omega arith) refl
+          go true true false u v w =
+              skip-to low left from to (2 * part) (omega arith) (leb-true two b v)
+              ∙ cut-to (low + 2 * part) (left - 2 * part) (omega arith) (omega arith) part (left - 3 * part) (omega arith) (omega arith) (omega arith)
+              (let e : low + 2 * part + part ≡ low + 3 * part = omega arith in rw e (leb-false three b w))
+              ∙ moved _ _ _ _ (omega arith) refl
+          go true false false u v w =
+              skip-to low left from to part (omega arith) (leb-true one b u)
+              ∙ cut-to (low + part) (left - part) (omega arith) (omega arith) part (left - 3 * part) (omega arith) (omega arith) (omega arith)
+              (let e : low + part + part ≡ low + 2 * part = omega arith in rw e (leb-false two b v))
+              ∙ moved _ _ _ _ (omega arith) refl
+          go false false false u v w =
+              cut-to low left from to part (left - 3 * part) (omega arith) (omega arith) (omega arith) (leb-false one b u)
+              ∙ moved _ _ _ _ (omega arith) refl
+          go false true z u v w = absurd (omega (arith, rises p, leb-false one b u, leb-true two b v))
+          go false false true u v w = absurd (omega (arith, rises p, leb-false one b u, leb-true three b w))
+          go true false true u v w = absurd (omega (arith, rises p, leb-false two b v, leb-true three b w))
 
 -- how far a turn goes on
-pub at-most-half : (t : Bool) (half : ℕ) → cond t half 0 ≤ half
-at-most-half true half = omega arith
-at-most-half false half = omega arith
+pub at-most : (t : Bool) (part : ℕ) → cond t part 0 ≤ part
+at-most true part = omega arith
+at-most false part = omega arith
 
--- the number by which a turn tells the halves apart: 256 + b - x is 256 or more exactly where x is at most b
-pub passed-is : (half x b : ℕ) → x < 256 → b < 256 → half * ((256 + b - x) / 256) ≡ cond (leb x b) half 0
-passed-is half x b p q = go (leb x b) refl
+-- the number by which a turn tells the parts apart: 256 + b - x is 256 or more exactly where x is at most b
+pub passed-is : (part x b : ℕ) → x < 256 → b < 256 → part * ((256 + b - x) / 256) ≡ cond (leb x b) part 0
+passed-is part x b p q = go (leb x b) refl
   where
-    go : (t : Bool) → leb x b ≡ t → half * ((256 + b - x) / 256) ≡ cond t half 0
+    go : (t : Bool) → leb x b ≡ t → part * ((256 + b - x) / 256) ≡ cond t part 0
     go true e =
         let l : x ≤ b = leb-true x b e in
         let one : (256 + b - x) / 256 ≡ 1 = omega arith in
