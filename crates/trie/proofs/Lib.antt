@@ -6,6 +6,8 @@ pub mod Every
 pub mod SoundParts
 -- looking a byte up among rising bytes
 pub mod Seeking
+-- a table of where each byte leads
+pub mod Leading
 -- walks compose, and stay in sound parts
 pub mod Walking
 -- which test gives which fault, and what an answer says, both ways

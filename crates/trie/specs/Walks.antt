@@ -1,14 +1,17 @@
 -- What steps and walks in sound parts rest on, and their answers as options. Definitions only; assumes nothing.
 use mathlib.Core.Path.{_≡_}
 use Prim.Native.Nat.{ℕ, suc, _+_, _≤_, _<_}
+use mathlib.Core.Bool.{cond}
 use mathlib.Core.List.{List}
 use mathlib.Core.Option.{Option, none, some}
+use lib.Dec.{eqb}
 use lib.ListN.{length, getD}
+use Rattle.refusal.specs.Sizes.{noId}
 use Rattle.trie.specs.declared.checked.Step.{Step}
 use Rattle.trie.specs.declared.checked.Step.the-variants.{To, Stop}
 use Rattle.trie.specs.declared.checked.NodeId.{NodeId}
 use Rattle.trie.specs.declared.checked.NodeId.the-variants.{Is, Missing}
-use Rattle.trie.specs.Trie.{partsOf}
+use Rattle.trie.specs.Trie.{partsOf, seek}
 use Rattle.trie.specs.Sound.{Sound}
 
 -- the n edges from `at` on lie inside both columns, and their bytes rise strictly
@@ -32,3 +35,12 @@ nextOf Stop = none
 abbrev pub idIn : NodeId → Option ℕ
 idIn (Is i) = some i
 idIn Missing = none
+
+-- a place of a table: a node, or the mark for none
+abbrev pub marked : ℕ → Option ℕ
+marked x = cond (eqb x noId) none (some x)
+
+-- a table of where each byte leads among the n edges from `at` on
+pub record Leads (bytes tos : List ℕ) (at n : ℕ) (first : List ℕ) : Type 0 where
+  pub places : length first ≡ 256
+  pub led : (b : ℕ) → b < 256 → marked (getD first b noId) ≡ seek bytes tos b at n

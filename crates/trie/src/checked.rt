@@ -4,10 +4,11 @@ ghost use mathlib.Core.Bool.{cond};
 ghost use mathlib.Core.List.{List};
 ghost use Prim.Native.Nat.{ℕ, _+_, _≤_, _<_};
 ghost use lib.Dec.{leb};
-ghost use lib.ListN.{length};
+ghost use lib.ListN.{length, getD, replicate};
+ghost use Rattle.refusal.specs.Sizes.{noId};
 ghost use Rattle.trie.specs.Trie.{Trie, partsOf, seek, step, walk, idAt, idOf};
 ghost use Rattle.trie.specs.Sound.{Sound};
-ghost use Rattle.trie.specs.Walks.{Edges, Stands, nextOf, idIn};
+ghost use Rattle.trie.specs.Walks.{Edges, Stands, nextOf, idIn, marked, Leads};
 
 // A position in the trie: the node that the bytes so far lead to.
 pub struct Walk {
@@ -82,6 +83,34 @@ fn seek(byte: &[u8], to: &[u32], at: usize, n: usize, b: u8) -> Step
     seek_few(byte, to, low, left, b)
 }
 
+// Where the byte b leads from the root by the table.
+fn first_step(first: &[u32], b: u8) -> Step
+    requires { ⌜ length (now first) ≡ 256 ⌝ }
+    ensures { λ r. ⌜ nextOf r ≡ marked (getD (now (first .entry)) b noId) ⌝ }
+{
+    let x = first[b as usize];
+    if x == NO_ID {
+        return Step::Stop;
+    }
+    Step::To(Walk { node: x })
+}
+
+// Makes the table of where each byte leads from the root, from marks alone. From the last edge to the first, as a search has it: of two edges with one byte
+// the first would count.
+pub fn fill_first(edge_at: &[u32], edge_n: &[u16], byte: &[u8], to: &[u32], first: &mut [u32])
+    requires { ⌜ Stands (now «edge_at») (now «edge_n») (now byte) (now to) 0 × (now first ≡ replicate 256 noId) ⌝ }
+    ensures { λ _. ⌜ Leads (now (byte .entry)) (now (to .entry)) (getD (now («edge_at» .entry)) 0 0) (getD (now («edge_n» .entry)) 0 0) (now (first .exit)) ⌝ }
+{
+    let at = edge_at[0] as usize;
+    let mut left = edge_n[0] as usize;
+    while 0 < left {
+        left -= 1;
+        let k = at + left;
+        let b = byte[k] as usize;
+        first[b] = to[k];
+    }
+}
+
 impl Walk {
     // "Node 0 is the root."
     pub fn root() -> Walk
@@ -99,6 +128,26 @@ impl Walk {
         let at = edge_at[node] as usize;
         let n = edge_n[node] as usize;
         seek(byte, to, at, n, b)
+    }
+
+    // The same, with a table of where each byte leads from the root, in which no edge is looked for.
+    pub fn step_by(
+        self,
+        edge_at: &[u32],
+        edge_n: &[u16],
+        byte: &[u8],
+        to: &[u32],
+        first: &[u32],
+        b: u8,
+    ) -> Step
+        requires { ⌜ Stands (now «edge_at») (now «edge_n») (now byte) (now to) (self .node) ⌝ }
+        requires { ⌜ Leads (now byte) (now to) (getD (now «edge_at») 0 0) (getD (now «edge_n») 0 0) (now first) ⌝ }
+        ensures { λ r. ⌜ ((ids : List ℕ) → nextOf r ≡ step (partsOf (now («edge_at» .entry)) (now («edge_n» .entry)) ids (now (byte .entry)) (now (to .entry))) (self .node) b) ⌝ }
+    {
+        if self.node == 0 {
+            return first_step(first, b);
+        }
+        self.step(edge_at, edge_n, byte, to, b)
     }
 
     // Where the bytes of s lead from here.
