@@ -1,20 +1,21 @@
 -- The longest piece, as the walk finds it. Each byte more of the word is a step more of the walk; a piece that ends there is longer than those
 -- before it; and where the walk stops, nothing beyond is a piece. Assumes nothing.
 use mathlib.Core.Path.{_≡_, refl, sym, ap, _∙_}
-use mathlib.Core.Bool.{Bool, true, false, _&&_}
+use mathlib.Core.Bool.{Bool, true, false, not, _&&_}
 use mathlib.Core.List.{List, [], _∷_, _++_}
 use mathlib.Core.Option.{Option, none, some, bind}
 use Prim.Native.Nat.{ℕ, zero, suc, _+_, _-_, _≤_, _<_}
 use native.Mathlib.Omega.{arith}
-use borrow.Author.Tests.{lt-ltb, le-ltb}
-use lib.Dec.{ltb}
+use borrow.Author.Tests.{lt-ltb, le-ltb, eqb-true, eqb-false, eq-eqb, ne-eqb}
+use lib.Dec.{ltb, eqb}
 use lib.ListN.{length, getD, take, drop, length-drop}
 use lib.Seq.{take-suc, take-add, drop-drop, getD-drop}
+use Rattle.refusal.specs.Sizes.{noId}
 use Rattle.text.specs.Text.{boundary, part}
 use Rattle.trie.specs.Trie.{Trie, walk, step, idAt, idFrom}
-use Rattle.trie.proofs.Walking.{walk-snoc, walk-append-none, from-none, from-some}
+use Rattle.trie.proofs.Walking.{walk-snoc, walk-append-none, from-none, from-some, id-none, id-some}
 use Rattle.wordpiece.specs.Pieces.{Found, pieceTo, longestTo}
-use Rattle.wordpiece.specs.Checked.{pick, foundAt, endAt}
+use Rattle.wordpiece.specs.Checked.{pick, foundAt, foundIf, foundSince, endAt}
 
 -- ---- parts of a word
 
@@ -36,6 +37,23 @@ part-on w i j m p q =
     ap (λ (k : ℕ). take k (drop i w)) n
     ∙ take-add (j - i) (m - j) (drop i w)
     ∙ ap (λ (l : List ℕ). part w i j ++ take (m - j) l) (drop-drop (j - i) i w ∙ ap (λ (k : ℕ). drop k w) at)
+
+-- ---- the best piece as two numbers
+
+-- a piece that is not empty
+pub since-found : (i end x : ℕ) → i < end → foundSince i end x ≡ some (record { end = end; id = x })
+since-found i end x h = ap (λ (b : Bool). foundIf (not b) end x) (ne-eqb end i (λ e. omega arith))
+
+pub since-none : (i end x : ℕ) → end ≡ i → foundSince i end x ≡ none
+since-none i end x e = ap (λ (b : Bool). foundIf (not b) end x) (eq-eqb end i e)
+
+-- the id of a node that has one is what its place holds
+pub id-held : (t : Trie) (k : ℕ) {x : ℕ} → k < length (t .id) → idAt t k ≡ some x → x ≡ getD (t .id) k 0
+id-held t k {x} h e = go (eqb (getD (t .id) k 0) noId) refl
+  where
+    go : (b : Bool) → eqb (getD (t .id) k 0) noId ≡ b → x ≡ getD (t .id) k 0
+    go true p = let no : _≡_ {A = ℕ} 0 1 = cc (id-none t k h (eqb-true (getD (t .id) k 0) noId p)) in absurd (omega arith)
+    go false p = cc (id-some t k h (eqb-false (getD (t .id) k 0) noId p))
 
 module _ (t : Trie) (k : ℕ) (w : List ℕ) (i : ℕ) where
   -- ---- one piece

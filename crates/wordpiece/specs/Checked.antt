@@ -1,9 +1,10 @@
 -- What the functions behind `encode` promise one another; no public call speaks of it. Definitions only; assumes nothing.
 use mathlib.Core.Path.{_≡_}
 use Prim.Native.Nat.{ℕ, suc, _+_, _-_, _≤_, _<_}
-use mathlib.Core.Bool.{Bool, true, false}
+use mathlib.Core.Bool.{Bool, true, false, not}
 use mathlib.Core.List.{List, [], _∷_}
 use mathlib.Core.Option.{Option, none, some}
+use lib.Dec.{eqb}
 use lib.ListN.{length}
 use Rattle.refusal.specs.declared.Fault.{Fault}
 use Rattle.text.specs.Text.{wellFormed, characters}
@@ -37,6 +38,15 @@ foundAt j (some x) = some (record { end = j; id = x })
 abbrev pub endAt : Bool → ℕ → Option ℕ → Option Found
 endAt false j id = none
 endAt true j id = foundAt j id
+
+-- the piece that ends at j, if one does
+abbrev pub foundIf : Bool → ℕ → ℕ → Option Found
+foundIf false j x = none
+foundIf true j x = some (record { end = j; id = x })
+
+-- the piece from i that ends at `end`: none where that is i, since no piece is empty
+abbrev pub foundSince : ℕ → ℕ → ℕ → Option Found
+foundSince i end x = foundIf (not (eqb end i)) end x
 
 -- the ids of the pieces of w from i on, each going on from node k; none at a miss
 abbrev pub restFrom : Trie → ℕ → List ℕ → ℕ → Option (List ℕ)

@@ -10,7 +10,7 @@ ghost use mathlib.Core.List.{List, [], _∷_};
 ghost use mathlib.Core.Option.{some};
 ghost use Prim.Native.Nat.{ℕ, _+_, _≤_, _<_};
 ghost use lib.Dec.{ltb};
-ghost use lib.ListN.{length};
+ghost use lib.ListN.{length, getD};
 ghost use lib.Seq.{sets};
 ghost use Rattle.refusal.specs.Places.{overlay};
 ghost use Rattle.text.specs.Text.{wellFormed, boundary, characters};
@@ -18,7 +18,7 @@ ghost use Rattle.trie.specs.Trie.{Trie, partsOf, idAt};
 ghost use Rattle.trie.specs.Sound.{sound, Sound};
 ghost use Rattle.wordpiece.specs.Pieces.{longestTo, piecesOf, orUnknown, idsOf};
 ghost use Rattle.wordpiece.specs.Encode.{Encoded};
-ghost use Rattle.wordpiece.specs.Checked.{foundIn, pick, endAt, restFrom, counted, countIn, Fitting, Planned, First, Ready};
+ghost use Rattle.wordpiece.specs.Checked.{foundIn, foundIf, foundSince, endAt, restFrom, counted, countIn, Fitting, Planned, First, Ready};
 
 // A piece that was found: where it ends, and its id.
 pub struct Piece {
@@ -26,7 +26,7 @@ pub struct Piece {
     pub id: u32,
 }
 
-// The longest piece so far.
+// The longest piece, if there is one.
 pub enum Match {
     Is(Piece),
     Missing,
@@ -46,21 +46,32 @@ pub enum Plan {
     Many(Walk, Piece),
 }
 
-// The longest piece once the walk has come to byte j: a boundary at which its node has an id ends a longer piece.
-fn seen(id: &[u32], w: &[u8], at: Walk, j: usize, before: Match) -> Match
+// Whether a piece ends at byte j, where the walk has come to: j is a boundary, and the walk's node has an id.
+fn ends_here(id: &[u32], w: &[u8], at: Walk, j: usize) -> bool
     requires { ⌜ at .node < length (now id) ⌝ }
-    ensures { λ r. ⌜ ((t : Trie) → t .id ≡ now (id .entry) → foundIn r ≡ pick (endAt (boundary (now (w .entry)) j) j (idAt t (at .node))) (foundIn before)) ⌝ }
+    ensures { λ r. ⌜ ((t : Trie) → t .id ≡ now (id .entry) → endAt (boundary (now (w .entry)) j) j (idAt t (at .node)) ≡ foundIf r j (getD (now (id .entry)) (at .node) 0)) ⌝ }
 {
     if !text::utf8::is_boundary(w, j) {
-        return before;
+        return false;
     }
     match trie::checked::id_at(id, at) {
-        NodeId::Is(x) => Match::Is(Piece { end: j, id: x }),
-        NodeId::Missing => before,
+        NodeId::Is(_) => true,
+        NodeId::Missing => false,
     }
 }
 
-// The longest piece of w from i, after what the node of the walk spells.
+// The piece from i to `end`, as an answer: there is none that is empty.
+fn piece_to(i: usize, end: usize, id: u32) -> Match
+    ensures { λ r. ⌜ foundIn r ≡ foundSince i end id ⌝ }
+{
+    if end == i {
+        return Match::Missing;
+    }
+    Match::Is(Piece { end, id })
+}
+
+// The longest piece of w from i, after what the node of the walk spells. The loop keeps the best piece as two numbers, its end (i while there is
+// none) and its id: a `Match` would go through memory in each turn.
 pub fn longest(
     edge_at: &[u32],
     edge_n: &[u16],
@@ -78,17 +89,22 @@ pub fn longest(
 {
     let mut node = from.node;
     let mut j = i;
-    let mut best = Match::Missing;
+    let mut end = i;
+    let mut last: u32 = 0;
     while j < w.len() {
         let here = Walk { node };
         let Step::To(next) = here.step(edge_at, edge_n, byte, to, w[j]) else {
-            return best;
+            return piece_to(i, end, last);
         };
         node = next.node;
         j += 1;
-        best = seen(id, w, next, j, best);
+        if ends_here(id, w, next, j) {
+            let k = node as usize;
+            end = j;
+            last = id[k];
+        }
     }
-    best
+    piece_to(i, end, last)
 }
 
 // How many pieces w has from i on, each going on from the walk's node.
