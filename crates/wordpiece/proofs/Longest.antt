@@ -15,7 +15,7 @@ use Rattle.text.specs.Text.{boundary, part}
 use Rattle.trie.specs.Trie.{Trie, walk, step, idAt, idFrom}
 use Rattle.trie.proofs.Walking.{walk-snoc, walk-append-none, from-none, from-some, id-none, id-some}
 use Rattle.wordpiece.specs.Pieces.{Found, pieceTo, longestTo}
-use Rattle.wordpiece.specs.Checked.{pick, foundAt, foundIf, foundSince, endAt}
+use Rattle.wordpiece.specs.Checked.{pick, foundIf, foundSince, endAt}
 
 -- ---- parts of a word
 

@@ -9,16 +9,26 @@ use native.Mathlib.Omega.{arith}
 use borrow.Author.Tests.{le-ltb}
 use lib.Dec.{ltb}
 use lib.ListN.{length, take, drop}
-use lib.Seq.{sets, sets-eq}
+use lib.Seq.{sets, length-sets, sets-eq, take-at}
 use Rattle.refusal.specs.Places.{overlay}
 use Rattle.text.specs.Text.{wellFormed, characters}
 use Rattle.text.proofs.Boundaries.{characters-le}
 use Rattle.trie.specs.Trie.{Trie, walk}
 use Rattle.trie.specs.Sound.{Sound}
 use Rattle.trie.proofs.Walking.{walk-inside}
+use Rattle.wordpiece.specs.declared.checked.Count.{Count}
 use Rattle.wordpiece.specs.Pieces.{Found, longestTo, before, piecesOf, orUnknown, idsOf}
-use Rattle.wordpiece.specs.Checked.{restFrom, counted, Follows, First}
+use Rattle.wordpiece.specs.Checked.{restFrom, counted, countIn, Walked, Held, First}
 use Rattle.wordpiece.proofs.Rest.{none-some, Ends, longest-ends, pieces-empty, pieces-alone, pieces-absent, pieces-with, rest-few, some-character, piece-character}
+
+-- the ids `all` are x and then the pieces of w from i on, which go on from node k; these are no more than the characters from i on
+pub record Follows (t : Trie) (w : List ℕ) (k i x : ℕ) (all : List ℕ) : Type 0 where
+  pub inside : k < length (t .edgeAt)
+  pub below : i ≤ length w
+  pub ids : List ℕ
+  pub rest : restFrom t k w i ≡ some ids
+  pub whole : all ≡ x ∷ ids
+  pub few : suc (length ids) ≤ characters w
 
 -- ---- max_chars
 
@@ -92,3 +102,26 @@ pub sets-over : (vs l : List ℕ) → length vs ≤ length l → sets l 0 vs ≡
 sets-over vs l h =
     let none-before : 0 + length vs ≡ length vs = omega arith in
     sets-eq vs l 0 (omega arith) ∙ ap (λ (n : ℕ). vs ++ drop n l) none-before
+
+-- what was stored from the first place on stands there
+pub sets-taken : (vs l : List ℕ) → length vs ≤ length l → take (length vs) (sets l 0 vs) ≡ vs
+sets-taken vs l h =
+    ap (take (length vs)) (sets-over vs l h) ∙ take-at vs (drop (length vs) l) (length vs) refl
+
+-- so after a walk over a rest of n ids these are held
+pub walk-holds : {rest : Option (List ℕ)} {before after : List ℕ} {count : Count} {n : ℕ} → Walked rest before count after → countIn count ≡ some n → (xs : List ℕ) → rest ≡ some xs → Held xs after n
+walk-holds {before = before} {after = after} {n = n} walked told xs e =
+    let many : n ≡ length xs = cc (told, walked .answered, ap counted e) in
+    let stored : after ≡ sets before 0 xs = walked .held xs e in
+    record {
+      count = many;
+      same =
+          λ h.
+          ap (λ (m : ℕ). take m after) many
+          ∙ ap (take (length xs)) stored
+          ∙ sets-taken xs before (omega (arith, ap length stored, length-sets before 0 xs));
+    }
+
+-- what was written for the ids xs, where these are all
+pub written : (before : List ℕ) {all xs after : List ℕ} {n : ℕ} → all ≡ xs → (n ≡ length xs) × (after ≡ overlay xs before) → (n ≡ length all) × (after ≡ overlay all before)
+written before e w = (w .0 ∙ sym (ap length e), w .1 ∙ sym (ap (λ (ids : List ℕ). overlay ids before) e))

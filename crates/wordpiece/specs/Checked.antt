@@ -2,10 +2,11 @@
 use mathlib.Core.Path.{_≡_}
 use Prim.Native.Nat.{ℕ, suc, _+_, _-_, _≤_, _<_}
 use mathlib.Core.Bool.{Bool, true, false, not}
-use mathlib.Core.List.{List, [], _∷_}
+use mathlib.Core.List.{List}
 use mathlib.Core.Option.{Option, none, some}
 use lib.Dec.{eqb}
-use lib.ListN.{length}
+use lib.ListN.{length, take}
+use lib.Seq.{sets}
 use Rattle.refusal.specs.declared.Fault.{Fault}
 use Rattle.text.specs.Text.{wellFormed, characters}
 use Rattle.trie.specs.Trie.{Trie}
@@ -16,8 +17,6 @@ use Rattle.wordpiece.specs.declared.checked.Match.{Match}
 use Rattle.wordpiece.specs.declared.checked.Match.the-variants as match-is
 use Rattle.wordpiece.specs.declared.checked.Count.{Count}
 use Rattle.wordpiece.specs.declared.checked.Count.the-variants as count-is
-use Rattle.wordpiece.specs.declared.checked.Plan.{Plan}
-use Rattle.wordpiece.specs.declared.checked.Plan.the-variants as plan-is
 use Rattle.wordpiece.specs.Pieces.{Found, longestTo, piecesFrom}
 
 -- the piece that an answer names
@@ -61,18 +60,20 @@ abbrev pub more : ℕ → Option ℕ → Option ℕ
 more n none = none
 more n (some m) = some (n + m)
 
--- the ids `all` are x and then the pieces of w from i on, which go on from node k; these are no more than the characters from i on
-pub record Follows (t : Trie) (w : List ℕ) (k i x : ℕ) (all : List ℕ) : Type 0 where
-  pub inside : k < length (t .edgeAt)
-  pub below : i ≤ length w
-  pub ids : List ℕ
-  pub rest : restFrom t k w i ≡ some ids
-  pub whole : all ≡ x ∷ ids
-  pub few : suc (length ids) ≤ characters w
-
 abbrev pub countIn : Count → Option ℕ
 countIn (count-is.Pieces n) = some n
 countIn count-is.Miss = none
+
+-- What a walk over the rest leaves: the count of its ids, none at a miss; and where there is none, these in the places that were lent, as many
+-- as there are places.
+pub record Walked (rest : Option (List ℕ)) (before : List ℕ) (count : Count) (after : List ℕ) : Type 0 where
+  pub answered : countIn count ≡ counted rest
+  pub held : (xs : List ℕ) → rest ≡ some xs → after ≡ sets before 0 xs
+
+-- n is how many the ids are; and where `held` has places for them, it begins with them
+pub record Held (ids held : List ℕ) (n : ℕ) : Type 0 where
+  pub count : n ≡ length ids
+  pub same : n ≤ length held → take n held ≡ ids
 
 -- there are pieces from i on, and places for them from the second on
 pub record Fitting (t : Trie) (k : ℕ) (w : List ℕ) (i : ℕ) (places : List ℕ) : Type 0 where
@@ -80,12 +81,6 @@ pub record Fitting (t : Trie) (k : ℕ) (w : List ℕ) (i : ℕ) (places : List 
   pub ids : List ℕ
   pub rest : restFrom t k w i ≡ some ids
   pub room : suc (length ids) ≤ length places
-
--- A plan for the ids `all` of w: none; one, where w has a character; or the first piece's id and then those of the rest.
-abbrev pub Planned : Trie → List ℕ → List ℕ → Plan → Type 0
-Planned t w all plan-is.Nothing = all ≡ []
-Planned t w all (plan-is.One x) = (all ≡ x ∷ []) × (1 ≤ characters w)
-Planned t w all (plan-is.Many at f) = Follows t w (at .node) (f .end) (f .id) all
 
 -- the longest piece at the start of w, which is not all of w
 pub record First (t : Trie) (w : List ℕ) (end id : ℕ) : Type 0 where

@@ -10,7 +10,7 @@ ghost use mathlib.Core.List.{List, [], _∷_};
 ghost use mathlib.Core.Option.{some};
 ghost use Prim.Native.Nat.{ℕ, _+_, _≤_, _<_};
 ghost use lib.Dec.{ltb};
-ghost use lib.ListN.{length, getD};
+ghost use lib.ListN.{length, getD, take, set};
 ghost use lib.Seq.{sets};
 ghost use Rattle.refusal.specs.Places.{overlay};
 ghost use Rattle.text.specs.Text.{wellFormed, boundary, characters};
@@ -18,7 +18,7 @@ ghost use Rattle.trie.specs.Trie.{Trie, partsOf, idAt};
 ghost use Rattle.trie.specs.Sound.{sound, Sound};
 ghost use Rattle.wordpiece.specs.Pieces.{longestTo, piecesOf, orUnknown, idsOf};
 ghost use Rattle.wordpiece.specs.Encode.{Encoded};
-ghost use Rattle.wordpiece.specs.Checked.{foundIn, foundIf, foundSince, endAt, restFrom, counted, countIn, Fitting, Planned, First, Ready};
+ghost use Rattle.wordpiece.specs.Checked.{foundIn, foundIf, foundSince, endAt, restFrom, Walked, Fitting, Held, First, Ready};
 
 // A piece that was found: where it ends, and its id.
 pub struct Piece {
@@ -38,13 +38,8 @@ pub enum Count {
     Miss,
 }
 
-// What is to be written for a word: nothing; one id; or the first piece's id and then those of the rest, which goes on from a node. A late miss is
-// known before anything is written, so that no place past the answer is touched.
-pub enum Plan {
-    Nothing,
-    One(u32),
-    Many(Walk, Piece),
-}
+// How many ids the first walk over a word's later pieces keeps. A word with more of them is walked again.
+const HELD: usize = 32;
 
 // Whether a piece ends at byte j, where the walk has come to: j is a boundary, and the walk's node has an id.
 fn ends_here(id: &[u32], w: &[u8], at: Walk, j: usize) -> bool
@@ -107,7 +102,16 @@ pub fn longest(
     piece_to(i, end, last)
 }
 
-// How many pieces w has from i on, each going on from the walk's node.
+// x in place n, where there is such a place.
+fn hold(held: &mut [u32], n: usize, x: u32)
+    ensures { λ r. ⌜ now (held .exit) ≡ set (now (held .entry)) n x ⌝ }
+{
+    if n < held.len() {
+        held[n] = x;
+    }
+}
+
+// How many pieces w has from i on, each going on from the walk's node. Their ids are held, as many as there are places for.
 fn count_rest(
     edge_at: &[u32],
     edge_n: &[u16],
@@ -117,11 +121,12 @@ fn count_rest(
     rest: Walk,
     w: &[u8],
     i: usize,
+    held: &mut [u32],
 ) -> Count
     requires { ⌜ Sound (partsOf (now «edge_at») (now «edge_n») (now id) (now byte) (now to)) ⌝ }
     requires { ⌜ rest .node < length (now «edge_at») ⌝ }
     requires { ⌜ i ≤ length (now w) ⌝ }
-    ensures { λ r. ⌜ countIn r ≡ counted (restFrom (partsOf (now («edge_at» .entry)) (now («edge_n» .entry)) (now (id .entry)) (now (byte .entry)) (now (to .entry))) (rest .node) (now (w .entry)) i) ⌝ }
+    ensures { λ r. ⌜ Walked (restFrom (partsOf (now («edge_at» .entry)) (now («edge_n» .entry)) (now (id .entry)) (now (byte .entry)) (now (to .entry))) (rest .node) (now (w .entry)) i) (now (held .entry)) r (now (held .exit)) ⌝ }
 {
     let mut at = i;
     let mut n: usize = 0;
@@ -130,6 +135,7 @@ fn count_rest(
             return Count::Miss;
         };
         at = piece.end;
+        hold(held, n, piece.id);
         n += 1;
     }
     Count::Pieces(n)
@@ -177,65 +183,6 @@ fn too_long(w: &[u8], limit: u32) -> bool
     most < text::checked::characters(w)
 }
 
-// The plan for a word after its first piece: an absent prefix or a miss makes it one unknown.
-fn plan_rest(
-    edge_at: &[u32],
-    edge_n: &[u16],
-    id: &[u32],
-    byte: &[u8],
-    to: &[u32],
-    unknown: u32,
-    prefix: &[u8],
-    w: &[u8],
-    first: Piece,
-) -> Plan
-    requires { ⌜ Sound (partsOf (now «edge_at») (now «edge_n») (now id) (now byte) (now to)) ⌝ }
-    requires { ⌜ wellFormed (now w) ≡ true ⌝ }
-    requires { ⌜ First (partsOf (now «edge_at») (now «edge_n») (now id) (now byte) (now to)) (now w) (first .end) (first .id) ⌝ }
-    ensures { λ r. ⌜ (let t = partsOf (now («edge_at» .entry)) (now («edge_n» .entry)) (now (id .entry)) (now (byte .entry)) (now (to .entry)) in Planned t (now (w .entry)) (orUnknown unknown (piecesOf t (now (prefix .entry)) (now (w .entry)))) r) ⌝ }
-{
-    let Step::To(rest) = Walk::root().over(edge_at, edge_n, byte, to, prefix) else {
-        return Plan::One(unknown);
-    };
-    let end = first.end;
-    match count_rest(edge_at, edge_n, id, byte, to, rest, w, end) {
-        Count::Pieces(_) => Plan::Many(rest, first),
-        Count::Miss => Plan::One(unknown),
-    }
-}
-
-// The plan for a word.
-fn plan_word(
-    edge_at: &[u32],
-    edge_n: &[u16],
-    id: &[u32],
-    byte: &[u8],
-    to: &[u32],
-    unknown: u32,
-    max_chars: u32,
-    prefix: &[u8],
-    w: &[u8],
-) -> Plan
-    requires { ⌜ Sound (partsOf (now «edge_at») (now «edge_n») (now id) (now byte) (now to)) ⌝ }
-    requires { ⌜ wellFormed (now w) ≡ true ⌝ }
-    ensures { λ r. ⌜ (let t = partsOf (now («edge_at» .entry)) (now («edge_n» .entry)) (now (id .entry)) (now (byte .entry)) (now (to .entry)) in Planned t (now (w .entry)) (idsOf t unknown «max_chars» (now (prefix .entry)) (now (w .entry))) r) ⌝ }
-{
-    if w.len() == 0 {
-        return Plan::Nothing;
-    }
-    if too_long(w, max_chars) {
-        return Plan::One(unknown);
-    }
-    let Match::Is(first) = longest(edge_at, edge_n, id, byte, to, Walk::root(), w, 0) else {
-        return Plan::One(unknown);
-    };
-    let end = first.end;
-    if end == w.len() {
-        return Plan::One(first.id);
-    }
-    plan_rest(edge_at, edge_n, id, byte, to, unknown, prefix, w, first)
-}
-
 // One id in the first place.
 fn put(ids: &mut [u32], x: u32) -> usize
     requires { ⌜ 1 ≤ length (now ids) ⌝ }
@@ -245,7 +192,22 @@ fn put(ids: &mut [u32], x: u32) -> usize
     1
 }
 
-// The first piece's id, and then those of the rest.
+// The first n held ids, from the second place on; answers how many places are then written.
+fn put_held(held: &[u32], n: usize, ids: &mut [u32]) -> usize
+    requires { ⌜ n ≤ length (now held) ⌝ }
+    requires { ⌜ n < length (now ids) ⌝ }
+    ensures { λ r. ⌜ (r ≡ 1 + n) × (now (ids .exit) ≡ sets (now (ids .entry)) 1 (take n (now (held .entry)))) ⌝ }
+{
+    let mut k: usize = 0;
+    while k < n {
+        let x = held[k];
+        k += 1;
+        ids[k] = x;
+    }
+    k + 1
+}
+
+// The first piece's id, and then those of the n pieces after it: as they are held, or found again where they are too many to be held.
 fn put_all(
     edge_at: &[u32],
     edge_n: &[u16],
@@ -255,16 +217,51 @@ fn put_all(
     rest: Walk,
     w: &[u8],
     first: Piece,
+    held: &[u32],
+    n: usize,
     ids: &mut [u32],
 ) -> usize
     requires { ⌜ Sound (partsOf (now «edge_at») (now «edge_n») (now id) (now byte) (now to)) ⌝ }
     requires { ⌜ rest .node < length (now «edge_at») ⌝ }
     requires { ⌜ Fitting (partsOf (now «edge_at») (now «edge_n») (now id) (now byte) (now to)) (rest .node) (now w) (first .end) (now ids) ⌝ }
+    requires { ⌜ ((xs : List ℕ) → restFrom (partsOf (now «edge_at») (now «edge_n») (now id) (now byte) (now to)) (rest .node) (now w) (first .end) ≡ some xs → Held xs (now held) n) ⌝ }
     ensures { λ r. ⌜ ((xs : List ℕ) → restFrom (partsOf (now («edge_at» .entry)) (now («edge_n» .entry)) (now (id .entry)) (now (byte .entry)) (now (to .entry))) (rest .node) (now (w .entry)) (first .end) ≡ some xs → (r ≡ 1 + length xs) × (now (ids .exit) ≡ overlay (first .id ∷ xs) (now (ids .entry)))) ⌝ }
 {
     let end = first.end;
     ids[0] = first.id;
-    write_rest(edge_at, edge_n, id, byte, to, rest, w, end, ids)
+    if held.len() < n {
+        return write_rest(edge_at, edge_n, id, byte, to, rest, w, end, ids);
+    }
+    put_held(held, n, ids)
+}
+
+// The ids of a word of more than its first piece: an absent prefix or a miss makes it one unknown. A late miss is known before anything is
+// written, so that no place past the answer is touched; the ids that the walk finds are held until then.
+fn encode_rest(
+    edge_at: &[u32],
+    edge_n: &[u16],
+    id: &[u32],
+    byte: &[u8],
+    to: &[u32],
+    unknown: u32,
+    prefix: &[u8],
+    w: &[u8],
+    first: Piece,
+    ids: &mut [u32],
+) -> usize
+    requires { ⌜ Ready (partsOf (now «edge_at») (now «edge_n») (now id) (now byte) (now to)) (now w) (now ids) ⌝ }
+    requires { ⌜ First (partsOf (now «edge_at») (now «edge_n») (now id) (now byte) (now to)) (now w) (first .end) (first .id) ⌝ }
+    ensures { λ r. ⌜ (let all = orUnknown unknown (piecesOf (partsOf (now («edge_at» .entry)) (now («edge_n» .entry)) (now (id .entry)) (now (byte .entry)) (now (to .entry))) (now (prefix .entry)) (now (w .entry))) in (r ≡ length all) × (now (ids .exit) ≡ overlay all (now (ids .entry)))) ⌝ }
+{
+    let Step::To(rest) = Walk::root().over(edge_at, edge_n, byte, to, prefix) else {
+        return put(ids, unknown);
+    };
+    let end = first.end;
+    let mut held = [0u32; HELD];
+    match count_rest(edge_at, edge_n, id, byte, to, rest, w, end, &mut held) {
+        Count::Pieces(n) => put_all(edge_at, edge_n, id, byte, to, rest, w, first, &held, n, ids),
+        Count::Miss => put(ids, unknown),
+    }
 }
 
 // The ids of a word, in the first places; answers how many. Places past them stay as they are, also after a late miss.
@@ -283,11 +280,31 @@ pub fn encode(
     requires { ⌜ Ready (partsOf (now «edge_at») (now «edge_n») (now id) (now byte) (now to)) (now w) (now ids) ⌝ }
     ensures { λ r. ⌜ (let all = idsOf (partsOf (now («edge_at» .entry)) (now («edge_n» .entry)) (now (id .entry)) (now (byte .entry)) (now (to .entry))) unknown «max_chars» (now (prefix .entry)) (now (w .entry)) in (r ≡ length all) × (now (ids .exit) ≡ overlay all (now (ids .entry)))) ⌝ }
 {
-    match plan_word(edge_at, edge_n, id, byte, to, unknown, max_chars, prefix, w) {
-        Plan::Nothing => 0,
-        Plan::One(x) => put(ids, x),
-        Plan::Many(rest, first) => put_all(edge_at, edge_n, id, byte, to, rest, w, first, ids),
+    if w.len() == 0 {
+        return 0;
     }
+    if too_long(w, max_chars) {
+        return put(ids, unknown);
+    }
+    let Match::Is(first) = longest(edge_at, edge_n, id, byte, to, Walk::root(), w, 0) else {
+        return put(ids, unknown);
+    };
+    let end = first.end;
+    if end == w.len() {
+        return put(ids, first.id);
+    }
+    encode_rest(
+        edge_at,
+        edge_n,
+        id,
+        byte,
+        to,
+        unknown,
+        prefix,
+        w,
+        first,
+        ids,
+    )
 }
 
 // As `wordpiece::encode`, where the soundness of the parts has been tested: `tested` is what was found. So that one test serves many words.

@@ -1,65 +1,84 @@
--- `wordpiece::checked::encode` meets its contract: what the plan says is written, and a word has a place for each character. Assumes nothing.
-use mathlib.Core.Path.{_≡_, sym, ap, subst, _∙_}
-use mathlib.Core.List.{List, [], _∷_}
-use Prim.Native.Nat.{ℕ, suc, _+_, _≤_}
+-- `wordpiece::checked::encode` meets its contract: by the word's length, its characters, its first piece, and then by the rest; a word has a place
+-- for each character. Assumes nothing.
+use mathlib.Core.Path.{_≡_, refl, sym, ap, _∙_}
+use mathlib.Core.List.{List}
+use mathlib.Core.Option.{some}
+use Prim.Native.Nat.{ℕ, _≤_, _<_}
 use native.Mathlib.Omega.{arith}
 use borrow.Author.Needs.{needs}
 use lib.ListN.{length}
-use Rattle.refusal.specs.Places.{overlay}
 use Rattle.trie.specs.Trie.{Trie, partsOf}
-use Rattle.wordpiece.specs.declared.checked.Plan.{Plan}
-use Rattle.wordpiece.specs.Pieces.{idsOf}
-use Rattle.wordpiece.specs.Checked.{Planned}
+use Rattle.wordpiece.specs.Pieces.{longestTo, piecesOf, orUnknown, idsOf}
+use Rattle.wordpiece.specs.Checked.{foundIn}
+use Rattle.wordpiece.proofs.Rest.{longest-ends, pieces-miss, some-character}
+use Rattle.wordpiece.proofs.Plans.{ids-long, ids-short, ids-empty, missed, alone, written}
 use Rattle.wordpiece.proofs.checked.encode.Statement.{statement}
 use Rattle.wordpiece.proofs.checked.encode.Tie as tie
 
-abbrev entry : tie.After-plan-word → tie.Start
-entry p = p .before .before .before .before .before .before .before .before .before
+-- ---- the ways back, and what was lent
+
+abbrev entry : tie.Else1 → tie.Start
+entry c = c .before .before .before .before .before .before .before .before .before
+
+abbrev nonempty : tie.After-longest → tie.Else1
+nonempty l = l .before .before .before .before
+
+abbrev begun : tie.After-longest → tie.Start
+begun l = entry (nonempty l)
+
+-- from the first piece to the call that found it
+abbrev sought : tie.After-first → tie.After-longest
+sought f = f .before .before
 
 abbrev parts : tie.Start → Trie
 parts e = partsOf (e .args .edge-at .now) (e .args .edge-n .now) (e .args .id .now) (e .args .byte .now) (e .args .to .now)
 
+abbrev word : tie.Start → List ℕ
+word e = e .args .w .now
+
+abbrev pieces : tie.Start → List ℕ
+pieces e = orUnknown (e .args .unknown) (piecesOf (parts e) (e .args .prefix .now) (word e))
+
 abbrev all : tie.Start → List ℕ
-all e = idsOf (parts e) (e .args .unknown) (e .args .max-chars) (e .args .prefix .now) (e .args .w .now)
+all e = idsOf (parts e) (e .args .unknown) (e .args .max-chars) (e .args .prefix .now) (word e)
 
--- what the plan is, once it is known which
-planned : (p : tie.After-plan-word) {plan : Plan} → p .plan-word .result ≡ plan → Planned (parts (entry p)) (entry p .args .w .now) (all (entry p)) plan
-planned p told = subst (λ (q : Plan). Planned (parts (entry p)) (entry p .args .w .now) (all (entry p)) q) told (p .plan-word .ensures)
+-- ---- what is known of the word
 
-plan-word-requires : tie.Need-plan-word-requires
-plan-word-requires c κs =
-    let e = c .before .before .before .before .before .before .before .before in
-    (e .pre .parts, e .pre .well)
+some-byte : (c : tie.Else1) → 0 < length (word (entry c))
+some-byte c = omega (arith, c .if1 .left)
 
-enum-told : tie.Need-enum-told
-enum-told c = search needs
+-- a place for one id
+place : (c : tie.Else1) → 1 ≤ length (entry c .args .ids .now)
+place c = let e = entry c in omega (arith, some-character (word e) (e .pre .well) (some-byte c), e .pre .room)
 
-enum-known-x : tie.Need-enum-known-x
-enum-known-x c = search needs
+-- the word is not too long, so its ids are those of its pieces
+short : (l : tie.After-longest) → all (begun l) ≡ pieces (begun l)
+short l =
+    let e = begun l in
+    ids-short (parts e) (e .args .unknown) (e .args .max-chars) (e .args .prefix .now) (word e)
+    (sym (l .before .before .before .too-long .ensures) ∙ l .before .before .if2 .left)
 
-put-requires : tie.Need-put-requires
-put-requires c κs =
-    let x = c .before .before in
-    let p = x .before .before in
-    omega (arith, planned p (x .x .given .1) .1, entry p .pre .room)
+-- the longest piece at the start, as the definition has it
+found : (l : tie.After-longest) → longestTo (parts (begun l)) 0 (word (begun l)) 0 (length (word (begun l))) ≡ foundIn (l .longest .result)
+found l =
+    let e = begun l in
+    sym (l .longest .ensures ∙ ap (λ (k : ℕ). longestTo (parts e) k (word e) 0 (length (word e))) (l .before .root .ensures))
 
-enum-known-rest : tie.Need-enum-known-rest
-enum-known-rest c = search needs
+first : (f : tie.After-first) → longestTo (parts (begun (sought f))) 0 (word (begun (sought f))) 0 (length (word (begun (sought f)))) ≡ some (record { end = f .first .given .0 .0 .end; id = f .first .given .0 .0 .id })
+first f = found (sought f) ∙ ap foundIn (f .first .given .1)
 
-put-all-requires : tie.Need-put-all-requires
-put-all-requires c κs =
-    let r = c .before .before in
-    let p = r .before .before in
-    let f = planned p (r .rest .given .1) in (
-      entry p .pre .parts,
-      (f .inside, record { below = f .below; ids = f .ids; rest = f .rest; room = omega (arith, f .few, entry p .pre .room) }),
-    )
+-- ---- the needs
 
 returns : tie.Need-returns
 returns c =
-    let p = c .before .before in
-    let e = planned p (c .enum-told .given .1) in
-    (sym (ap length e), sym (ap (λ (ids : List ℕ). overlay ids (entry p .args .ids .now)) e))
+    let e = c .before .before .before .before .before .before .before .before .before in
+    written (e .args .ids .now) (ids-empty (parts e) (e .args .unknown) (e .args .max-chars) (e .args .prefix .now) (word e) (c .if1 .taken)) (refl, refl)
+
+too-long-requires : tie.Need-too-long-requires
+too-long-requires c κs = search needs
+
+put-requires : tie.Need-put-requires
+put-requires c κs = place (c .before .before .before)
 
 same-length : tie.Need-same-length
 same-length c = search needs
@@ -67,10 +86,28 @@ same-length c = search needs
 returns-2 : tie.Need-returns-2
 returns-2 c =
     let called = c .before .before in
-    let x = called .before .before .before in
-    let p = x .before .before in
-    let e = planned p (x .x .given .1) .0 in
-    (called .put .ensures .0 ∙ sym (ap length e), called .put .ensures .1 ∙ sym (ap (λ (ids : List ℕ). overlay ids (entry p .args .ids .now)) e))
+    let arm = called .before .before in
+    let e = entry (arm .before .before) in
+    written (e .args .ids .now)
+    (ids-long (parts e) (e .args .unknown) (e .args .max-chars) (e .args .prefix .now) (word e) (sym (arm .before .too-long .ensures) ∙ arm .if2 .taken))
+    (called .put .ensures)
+
+root-requires : tie.Need-root-requires
+root-requires c κs = search needs
+
+longest-requires : tie.Need-longest-requires
+longest-requires c κs =
+    let e = entry (c .before .before .before) in
+    (e .pre .parts, (omega (arith, c .root .ensures, e .pre .parts .some-node), omega arith))
+
+enum-known-first : tie.Need-enum-known-first
+enum-known-first c = search needs
+
+enum-told : tie.Need-enum-told
+enum-told c = search needs
+
+put-requires-2 : tie.Need-put-requires-2
+put-requires-2 c κs = place (nonempty (c .before .before .before))
 
 same-length-2 : tie.Need-same-length-2
 same-length-2 c = search needs
@@ -78,24 +115,67 @@ same-length-2 c = search needs
 returns-3 : tie.Need-returns-3
 returns-3 c =
     let called = c .before .before in
-    let r = called .before .before .before in
-    let p = r .before .before in
-    let f = planned p (r .rest .given .1) in
-    let done = called .put-all .ensures (f .ids) (f .rest) in
-    (omega (arith, done .0, ap length (f .whole)), done .1 ∙ sym (ap (λ (ids : List ℕ). overlay ids (entry p .args .ids .now)) (f .whole)))
+    let told = called .before .before in
+    let l = told .before .before in
+    let n = nonempty l in
+    let e = entry n in
+    let m =
+    missed (parts e) (e .args .unknown) (e .args .prefix .now) (word e) (e .pre .well) (some-byte n)
+    (pieces-miss (parts e) (e .args .prefix .now) (word e) (some-byte n) (found l ∙ ap foundIn (told .enum-told .given .1))) in
+    written (e .args .ids .now) (short l ∙ m .0) (called .put2 .ensures)
+
+put-requires-3 : tie.Need-put-requires-3
+put-requires-3 c κs = let f = c .before .before .before in place (nonempty (sought f))
+
+same-length-3 : tie.Need-same-length-3
+same-length-3 c = search needs
+
+returns-4 : tie.Need-returns-4
+returns-4 c =
+    let called = c .before .before in
+    let arm = called .before .before in
+    let f = arm .before .before in
+    let n = nonempty (sought f) in
+    let e = entry n in
+    let m = alone (parts e) (e .args .unknown) (e .args .prefix .now) (word e) (e .pre .well) (some-byte n) (first f) (arm .if3 .taken) in
+    written (e .args .ids .now) (short (sought f) ∙ m .0) (called .put3 .ensures)
+
+encode-rest-requires : tie.Need-encode-rest-requires
+encode-rest-requires c κs =
+    let arm = c .before in
+    let f = arm .before .before in
+    let e = begun (sought f) in
+    let s = longest-ends (parts e) 0 (word e) 0 (length (word e)) (first f) in
+    (e .pre, record { longest = first f; below = omega (arith, s .below, arm .if3 .left) })
+
+same-length-4 : tie.Need-same-length-4
+same-length-4 c = search needs
+
+returns-5 : tie.Need-returns-5
+returns-5 c =
+    let called = c .before .before in
+    let f = called .before .before .before .before in
+    written (begun (sought f) .args .ids .now) (short (sought f)) (called .encode-rest .ensures)
 
 pub encode-spec : {M : Type 1} → statement M
 encode-spec =
     tie.close
     (tie.spec
-    plan-word-requires
-    enum-told
-    enum-known-x
-    put-requires
-    enum-known-rest
-    put-all-requires
     returns
+    too-long-requires
+    put-requires
     same-length
     returns-2
+    root-requires
+    longest-requires
+    enum-known-first
+    enum-told
+    put-requires-2
     same-length-2
-    returns-3)
+    returns-3
+    put-requires-3
+    same-length-3
+    returns-4
+    encode-rest-requires
+    same-length-4
+    returns-5)

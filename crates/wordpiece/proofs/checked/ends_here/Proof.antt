@@ -1,9 +1,9 @@
 -- `wordpiece::checked::ends_here` meets its contract: by the boundary, and then by the node's id. Assumes nothing.
 use mathlib.Core.Path.{_≡_, sym, ap, _∙_}
-use mathlib.Core.Bool.{Bool, true, false}
-use mathlib.Core.Option.{Option, none, some}
+use mathlib.Core.Bool.{Bool, true}
+use mathlib.Core.Option.{Option}
 use mathlib.Core.List.{List}
-use Prim.Native.Nat.{ℕ, _<_}
+use Prim.Native.Nat.{ℕ}
 use native.Mathlib.Omega.{arith}
 use borrow.Author.Needs.{needs}
 use borrow.Author.Tests.{not-true, not-false}
@@ -11,7 +11,6 @@ use lib.ListN.{length, getD}
 use Rattle.text.specs.Text.{boundary}
 use Rattle.trie.specs.Trie.{Trie, idAt}
 use Rattle.trie.specs.Walks.{idIn}
-use Rattle.wordpiece.specs.Pieces.{Found}
 use Rattle.wordpiece.specs.Checked.{foundAt, foundIf, endAt}
 use Rattle.wordpiece.proofs.Longest.{id-held}
 use Rattle.wordpiece.proofs.checked.ends_here.Statement.{statement}

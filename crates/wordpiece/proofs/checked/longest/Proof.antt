@@ -1,22 +1,21 @@
 -- `wordpiece::checked::longest` meets its contract. The loop's invariant: the walk over the bytes from i to j ends in the node, and the best piece,
 -- which the end and the id say, is the longest that ends at j or before. A turn is `longest-step`; where there is no step, `longest-stops`. The
 -- measure is what is left of the word. Assumes nothing.
-use mathlib.Core.Path.{_≡_, refl, sym, ap, subst, _∙_}
+use mathlib.Core.Path.{_≡_, refl, sym, ap, _∙_}
 use mathlib.Core.Bool.{Bool}
 use mathlib.Core.List.{List}
-use mathlib.Core.Option.{Option, none, some}
+use mathlib.Core.Option.{Option, some}
 use Prim.Native.Nat.{ℕ, suc, _+_, _-_, _≤_, _<_}
 use native.Mathlib.Numerals.{add-one}
 use native.Mathlib.Omega.{arith}
 use borrow.Author.Needs.{needs}
 use lib.ListN.{length, getD, take, drop}
-use Rattle.text.specs.Text.{boundary, part}
-use Rattle.trie.specs.Trie.{Trie, partsOf, walk, step, idAt}
-use Rattle.trie.specs.Sound.{Sound}
+use Rattle.text.specs.Text.{part}
+use Rattle.trie.specs.Trie.{Trie, partsOf, walk, step}
 use Rattle.trie.specs.Walks.{nextOf}
 use Rattle.trie.proofs.Walking.{walk-nil, step-inside}
 use Rattle.wordpiece.specs.Pieces.{Found, longestTo}
-use Rattle.wordpiece.specs.Checked.{pick, foundIf, foundSince, endAt}
+use Rattle.wordpiece.specs.Checked.{pick, foundIf, foundSince}
 use Rattle.wordpiece.proofs.Longest.{since-found, since-none, longest-start, longest-step, longest-stops}
 use Rattle.wordpiece.proofs.checked.longest.Statement.{statement}
 use Rattle.wordpiece.proofs.checked.longest.Tie as tie
