@@ -6,14 +6,17 @@ use trie::checked::Walk;
 ghost use mathlib.Core.Path.{_≡_};
 ghost use mathlib.Core.List.{map};
 ghost use Prim.Native.Nat.{_≤_, _<_};
-ghost use lib.ListN.{length};
+ghost use lib.ListN.{length, getD};
 ghost use Rattle.doubles.specs.Units.{units};
 ghost use Rattle.trie.specs.Trie.{partsOf};
-ghost use Rattle.trie.specs.Sound.{Sound};
+ghost use Rattle.trie.specs.Walks.{Leads};
 ghost use Rattle.unigram.specs.Cuttings.{Piece};
 ghost use Rattle.unigram.specs.Pieces.{Model};
 ghost use Rattle.unigram.specs.Slots.{slotsOf, Inside};
 ghost use Rattle.unigram.specs.Work.{modelOf, pieceWith, Ended, Walkable, KnownOffered, Ready, Come, Worked, Recorded};
+
+// A byte that leads nowhere from the root.
+const NO_NODE: u32 = 4_294_967_295;
 
 // A walk from `at` has come to `node` at i. If i is a boundary and the node has an id, the piece is offered to the slot at i. Answers `single`, or
 // true where that piece ends at `one`.
@@ -56,7 +59,7 @@ fn end_at(
 }
 
 // Offers each string with an id that starts at `at`, longer by a byte at each turn. Answers whether one of them ends at `one`. `till` is the
-// score that stands before them.
+// score that stands before them, `first` the table of the root's edges.
 fn offer_known(
     edge_at: &[u32],
     edge_n: &[u16],
@@ -71,8 +74,9 @@ fn offer_known(
     start: &mut [u32],
     slot_id: &mut [u32],
     slot_score: &mut [f64],
+    first: &[u32],
 ) -> bool
-    requires { ⌜ Walkable (now «edge_at») (now «edge_n») (now id) (now score) (now byte) (now to) (now text) at one × Inside (now start) (now «slot_id») (now «slot_score») (length (now text)) ⌝ }
+    requires { ⌜ Walkable (now «edge_at») (now «edge_n») (now id) (now score) (now byte) (now to) (now text) at one × Inside (now start) (now «slot_id») (now «slot_score») (length (now text)) × Leads (now byte) (now to) (getD (now «edge_at») 0 0) (getD (now «edge_n») 0 0) (now first) ⌝ }
     ensures { λ r. ⌜ ((u : Piece) → KnownOffered (modelOf (now («edge_at» .entry)) (now («edge_n» .entry)) (now (id .entry)) (now (score .entry)) (now (byte .entry)) (now (to .entry)) u) (now (text .entry)) at one (units till) (slotsOf (now (start .entry)) (now («slot_id» .entry)) (now («slot_score» .entry))) (slotsOf (now (start .exit)) (now («slot_id» .exit)) (now («slot_score» .exit))) r) ⌝ }
 {
     let mut node: u32 = 0;
@@ -80,7 +84,7 @@ fn offer_known(
     let mut i = at;
     while i < text.len() {
         let here = Walk { node };
-        match here.step(edge_at, edge_n, byte, to, text[i]) {
+        match here.step_by(edge_at, edge_n, byte, to, first, text[i]) {
             Step::To(next) => {
                 node = next.node;
             }
@@ -123,8 +127,9 @@ pub(crate) fn work_at(
     start: &mut [u32],
     slot_id: &mut [u32],
     slot_score: &mut [f64],
+    first: &[u32],
 ) -> usize
-    requires { ⌜ Come (modelOf (now «edge_at») (now «edge_n») (now id) (now score) (now byte) (now to) (pieceWith unknown «unknown_score»)) (now text) at (now start) (now «slot_id») (now «slot_score») (slotsOf (now start) (now «slot_id») (now «slot_score»)) ⌝ }
+    requires { ⌜ Come (modelOf (now «edge_at») (now «edge_n») (now id) (now score) (now byte) (now to) (pieceWith unknown «unknown_score»)) (now text) at (now start) (now «slot_id») (now «slot_score») (slotsOf (now start) (now «slot_id») (now «slot_score»)) × Leads (now byte) (now to) (getD (now «edge_at») 0 0) (getD (now «edge_n») 0 0) (now first) ⌝ }
     ensures { λ r. ⌜ Worked (modelOf (now («edge_at» .entry)) (now («edge_n» .entry)) (now (id .entry)) (now (score .entry)) (now (byte .entry)) (now (to .entry)) (pieceWith unknown «unknown_score»)) (now (text .entry)) at (slotsOf (now (start .entry)) (now («slot_id» .entry)) (now («slot_score» .entry))) (slotsOf (now (start .exit)) (now («slot_id» .exit)) (now («slot_score» .exit))) r ⌝ }
 {
     let till = slot_score[at];
@@ -143,6 +148,7 @@ pub(crate) fn work_at(
         start,
         slot_id,
         slot_score,
+        first,
     ) {
         return one;
     }
@@ -155,7 +161,7 @@ pub(crate) fn work_at(
     one
 }
 
-// Fills the slots up to the text's length with the records, boundary by boundary.
+// Fills the slots up to the text's length with the records, boundary by boundary. Each start steps from the root, so its edges are laid out once.
 pub(crate) fn fill(
     edge_at: &[u32],
     edge_n: &[u16],
@@ -174,6 +180,8 @@ pub(crate) fn fill(
     ensures { λ _. ⌜ Recorded (modelOf (now («edge_at» .entry)) (now («edge_n» .entry)) (now (id .entry)) (now (score .entry)) (now (byte .entry)) (now (to .entry)) (pieceWith unknown «unknown_score»)) (now (text .entry)) (slotsOf (now (start .entry)) (now («slot_id» .entry)) (now («slot_score» .entry))) (slotsOf (now (start .exit)) (now («slot_id» .exit)) (now («slot_score» .exit))) ⌝ }
 {
     crate::slots::clear(start, slot_id, slot_score, text.len());
+    let mut first = [NO_NODE; 256];
+    trie::checked::fill_first(edge_at, edge_n, byte, to, &mut first);
     let mut at: usize = 0;
     while at < text.len() {
         at = work_at(
@@ -190,6 +198,7 @@ pub(crate) fn fill(
             start,
             slot_id,
             slot_score,
+            &first,
         );
     }
 }

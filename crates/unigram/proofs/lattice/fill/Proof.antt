@@ -5,6 +5,7 @@ use mathlib.Core.Bool.{true}
 use mathlib.Core.List.{List}
 use Prim.Native.Nat.{ℕ, _-_, _≤_, _<_}
 use native.Mathlib.Omega.{arith}
+use borrow.Author.Needs.{needs}
 use lib.ListN.{length}
 use Rattle.text.specs.Text.{boundary, next}
 use Rattle.text.proofs.Boundaries.{boundary-zero, next-above, next-inside, next-boundary}
@@ -16,7 +17,7 @@ use Rattle.unigram.proofs.lattice.fill.Statement.{statement}
 use Rattle.unigram.proofs.lattice.fill.Tie as tie
 
 abbrev Inv-loop : tie.InvT-loop
-Inv-loop edge-at edge-n id score byte to unknown unknown-score text start₀ slot-id₀ slot-score₀ at₀ start slot-id slot-score at =
+Inv-loop edge-at edge-n id score byte to unknown unknown-score text start₀ slot-id₀ slot-score₀ first at₀ start slot-id slot-score at =
     (at ≤ length text)
     × (boundary text at ≡ true)
     × (length start ≡ length start₀)
@@ -26,7 +27,7 @@ Inv-loop edge-at edge-n id score byte to unknown unknown-score text start₀ slo
     × ((k : ℕ) → length text < k → slotAt (slotsOf start slot-id slot-score) k ≡ slotAt (slotsOf start₀ slot-id₀ slot-score₀) k)
 
 abbrev μ-loop : tie.MeasureT-loop
-μ-loop edge-at edge-n id score byte to unknown unknown-score text start₀ slot-id₀ slot-score₀ at₀ start slot-id slot-score at = length text - at
+μ-loop edge-at edge-n id score byte to unknown unknown-score text start₀ slot-id₀ slot-score₀ first at₀ start slot-id slot-score at = length text - at
 
 -- the function's start, from before and after the slots are emptied
 abbrev entry : tie.After-slice-known3 Inv-loop μ-loop → tie.Start Inv-loop μ-loop
@@ -38,9 +39,15 @@ asked c = entry (c .before .before .before)
 abbrev begun : tie.After-clear Inv-loop μ-loop → tie.Start Inv-loop μ-loop
 begun c = asked (c .before)
 
--- back from where the loop begins, and from after a turn's work
-abbrev emptied : tie.After-slice-known6 Inv-loop μ-loop → tie.After-clear Inv-loop μ-loop
-emptied c = c .before .before .before .before .before .before
+-- back from before the table of the root's edges is made, from where the loop begins, and from after a turn's work
+abbrev unmade : tie.After-first Inv-loop μ-loop → tie.After-clear Inv-loop μ-loop
+unmade c = c .before .before .before .before .before .before .before
+
+abbrev made : tie.After-first2 Inv-loop μ-loop → tie.After-fill-first Inv-loop μ-loop
+made c = c .before
+
+abbrev emptied : tie.After-first2 Inv-loop μ-loop → tie.After-clear Inv-loop μ-loop
+emptied c = unmade (made c .before)
 
 abbrev worked : tie.After-slice-known9 Inv-loop μ-loop → tie.After-work-at Inv-loop μ-loop
 worked c = c .before .before .before .before .before .before
@@ -49,7 +56,7 @@ abbrev come : tie.After-work-at-arg3 Inv-loop μ-loop → tie.In-loop Inv-loop �
 come c = c .before .before .before
 
 abbrev turn : tie.After-work-at Inv-loop μ-loop → tie.In-loop Inv-loop μ-loop
-turn c = come (c .before)
+turn c = come (c .before .before)
 
 abbrev text : tie.Start Inv-loop μ-loop → List ℕ
 text c = c .args .text .now
@@ -67,32 +74,46 @@ goes-on c =
 clear-requires : tie.Need-clear-requires Inv-loop μ-loop
 clear-requires c κs = asked c .pre .1
 
+slice-aggregate-fill-first : tie.Need-slice-aggregate-fill-first Inv-loop μ-loop
+slice-aggregate-fill-first c = search needs
+
+fill-first-requires : tie.Need-fill-first-requires Inv-loop μ-loop
+fill-first-requires c κs =
+    let e = begun (unmade c) in
+    let p = e .pre .0 .sound .parts in
+    (record { ids = e .args .id .now; parts = p; inside = p .some-node }, refl)
+
 loop-holds : tie.Need-loop-holds Inv-loop μ-loop
 loop-holds c =
     let d = emptied c in
     let e = begun d in
     (omega arith, boundary-zero (text e) (e .pre .0 .well), refl, refl, refl, holds-none refl (d .clear .ensures), λ k l. refl)
 
+slice-aggregate-work-at : tie.Need-slice-aggregate-work-at Inv-loop μ-loop
+slice-aggregate-work-at c = search needs
+
 work-at-requires : tie.Need-work-at-requires Inv-loop μ-loop
 work-at-requires c κs =
-    let t = come c in
+    let t = come (c .before) in
     let h = t .before in
     let d = emptied (h .before) in
     let e = begun d in
     let s = e .pre .1 in
-    let kept = d .clear .kept in
-    record {
-      ready = e .pre .0;
-      below = t .loop-test .taken;
-      boundary = h .loop .inv .1;
-      inside =
-          record {
-            start = omega (arith, s .start, h .loop .inv .2, kept .0);
-            id = omega (arith, s .id, h .loop .inv .3, kept .1 .0);
-            score = omega (arith, s .score, h .loop .inv .4, kept .1 .1 .0);
-          };
-      holds = h .loop .inv .5;
-    }
+    let kept = d .clear .kept in (
+      record {
+        ready = e .pre .0;
+        below = t .loop-test .taken;
+        boundary = h .loop .inv .1;
+        inside =
+            record {
+              start = omega (arith, s .start, h .loop .inv .2, kept .0);
+              id = omega (arith, s .id, h .loop .inv .3, kept .1 .0);
+              score = omega (arith, s .score, h .loop .inv .4, kept .1 .1 .0);
+            };
+        holds = h .loop .inv .5;
+      },
+      made (h .before) .fill-first .ensures,
+    )
 
 loop-less : tie.Need-loop-less Inv-loop μ-loop
 loop-less c =
@@ -143,7 +164,10 @@ fill-spec =
     Inv-loop
     μ-loop
     clear-requires
+    slice-aggregate-fill-first
+    fill-first-requires
     loop-holds
+    slice-aggregate-work-at
     work-at-requires
     loop-less
     loop-again

@@ -21,7 +21,7 @@ use Rattle.unigram.proofs.lattice.offer_known.Statement.{statement}
 use Rattle.unigram.proofs.lattice.offer_known.Tie as tie
 
 abbrev Inv-loop : tie.InvT-loop
-Inv-loop edge-at edge-n id score byte to text at one till start₀ slot-id₀ slot-score₀ node₀ single₀ i₀ start slot-id slot-score node single i =
+Inv-loop edge-at edge-n id score byte to text at one till start₀ slot-id₀ slot-score₀ first node₀ single₀ i₀ start slot-id slot-score node single i =
     (at ≤ i)
     × (i ≤ length text)
     × (node < length edge-at)
@@ -33,17 +33,17 @@ Inv-loop edge-at edge-n id score byte to text at one till start₀ slot-id₀ sl
     → Offered (modelOf edge-at edge-n id score byte to u) text at one (units till) (slotsOf start₀ slot-id₀ slot-score₀) i (slotsOf start slot-id slot-score) single)
 
 abbrev μ-loop : tie.MeasureT-loop
-μ-loop edge-at edge-n id score byte to text at one till start₀ slot-id₀ slot-score₀ node₀ single₀ i₀ start slot-id slot-score node single i = length text - i
+μ-loop edge-at edge-n id score byte to text at one till start₀ slot-id₀ slot-score₀ first node₀ single₀ i₀ start slot-id slot-score node single i = length text - i
 
 -- the function's start, from where the loop begins, and the loop's head, from after the step
-abbrev entry : tie.After-slice-known3 Inv-loop μ-loop → tie.Start Inv-loop μ-loop
-entry c = c .before .before .before .before .before .before .before .before .before .before
+abbrev entry : tie.After-shared-slice-known8 Inv-loop μ-loop → tie.Start Inv-loop μ-loop
+entry c = let k = c .before .before .before .before .before in k .before .before .before .before .before .before
 
-abbrev head : tie.After-step Inv-loop μ-loop → tie.At-loop Inv-loop μ-loop
+abbrev head : tie.After-step-by Inv-loop μ-loop → tie.At-loop Inv-loop μ-loop
 head c = c .before .before .before
 
 -- the text goes on
-more : (c : tie.After-step Inv-loop μ-loop) → let h = head c in h .loop .i < length (entry (h .before) .args .text .now)
+more : (c : tie.After-step-by Inv-loop μ-loop) → let h = head c in h .loop .i < length (entry (h .before) .args .text .now)
 more c = c .before .before .loop-test .taken
 
 abbrev model : tie.Start Inv-loop μ-loop → Piece → Model
@@ -71,10 +71,10 @@ next c = asked (c .before)
 
 -- where the step from the node come to leads
 stepped :
-    (c : tie.After-step Inv-loop μ-loop) → let h = head c in
+    (c : tie.After-step-by Inv-loop μ-loop) → let h = head c in
     let e = entry (h .before) in
-    step (parts e) (h .loop .node) (getD (text e) (h .loop .i) 0) ≡ nextOf (c .step .result)
-stepped c = sym (c .step .ensures (entry (head c .before) .args .id .now))
+    step (parts e) (h .loop .node) (getD (text e) (h .loop .i) 0) ≡ nextOf (c .step-by .result)
+stepped c = sym (c .step-by .ensures (entry (head c .before) .args .id .now))
 
 -- it leads to a node
 led :
@@ -96,14 +96,14 @@ loop-holds c =
     let e = entry c in
     (omega arith, e .pre .0 .inside, e .pre .0 .parts .some-node, refl, refl, refl, λ u. walk-none-yet (model e u) (text e) (e .args .at), λ u. offered-none (model e u) (text e) (e .args .at) (e .args .one) (units (e .args .till)) (columns e) (e .pre .0 .ahead))
 
-shared-slice-read-step : tie.Need-shared-slice-read-step Inv-loop μ-loop
-shared-slice-read-step c = omega arith
+shared-slice-read-step-by : tie.Need-shared-slice-read-step-by Inv-loop μ-loop
+shared-slice-read-step-by c = omega arith
 
-step-requires : tie.Need-step-requires Inv-loop μ-loop
-step-requires c κs =
+step-by-requires : tie.Need-step-by-requires Inv-loop μ-loop
+step-by-requires c κs =
     let h = c .before .before in
     let e = entry (h .before) in
-    record { ids = e .args .id .now; parts = e .pre .0 .parts; inside = h .loop .inv .2 }
+    (record { ids = e .args .id .now; parts = e .pre .0 .parts; inside = h .loop .inv .2 }, e .pre .2)
 
 enum-known-next : tie.Need-enum-known-next Inv-loop μ-loop
 enum-known-next c = search needs
@@ -197,8 +197,8 @@ offer-known-spec =
     Inv-loop
     μ-loop
     loop-holds
-    shared-slice-read-step
-    step-requires
+    shared-slice-read-step-by
+    step-by-requires
     enum-known-next
     enum-told
     same-length

@@ -25,7 +25,7 @@ use Rattle.unigram.proofs.lattice.work_at.Tie as tie
 
 -- the function's start, from after the character's length is known
 abbrev entry : tie.After-char-len → tie.Start
-entry c = c .before .before .before .before .before .before .before .before .before .before .before .before .before
+entry c = let k = c .before .before .before .before .before .before .before in k .before .before .before .before .before .before .before
 
 abbrev model : tie.Start → Model
 model c =
@@ -57,14 +57,14 @@ one-is : (c : tie.After-char-len) → let e = entry c in e .args .at + c .char-l
 one-is c = ap (λ (n : ℕ). entry c .args .at + n) (c .char-len .ensures)
 
 within : (c : tie.After-char-len) → let e = entry c in e .args .at + c .char-len .result ≤ length (text e)
-within c = let e = entry c in omega (arith, one-is c, next-inside (text e) (e .pre .ready .well) (e .args .at) (e .pre .boundary) (e .pre .below))
+within c = let e = entry c in omega (arith, one-is c, next-inside (text e) (e .pre .0 .ready .well) (e .args .at) (e .pre .0 .boundary) (e .pre .0 .below))
 
 -- the score that stands at `at`
 stands : (c : tie.After-char-len) (d : Float) → let e = entry c in units (getD (e .args .slot-score .now) (e .args .at) d) ≡ slotAt (columns e) (e .args .at) .score
 stands c d =
     let e = entry c in
     let a = e .args in
-    score-read (a .start .now) (a .slot-id .now) (a .slot-score .now) (a .at) d (omega (arith, e .pre .inside .score, e .pre .below))
+    score-read (a .start .now) (a .slot-id .now) (a .slot-score .now) (a .at) d (omega (arith, e .pre .0 .inside .score, e .pre .0 .below))
 
 -- the walk has offered the strings with an id
 abbrev after-walk : tie.After-offer-known → Slots
@@ -95,12 +95,12 @@ known c = let a = entry (measured c) .args in of-slot c _ (c .offer-known .ensur
 -- every piece has been offered
 done :
     (c : tie.After-char-len) {after : Slots} → let e = entry c in
-    AllOffered (model e) (text e) (e .args .at) (e .pre .boundary) (e .pre .ready .well) (e .pre .below) (slotAt (columns e) (e .args .at) .score) (columns e) after
+    AllOffered (model e) (text e) (e .args .at) (e .pre .0 .boundary) (e .pre .0 .ready .well) (e .pre .0 .below) (slotAt (columns e) (e .args .at) .score) (columns e) after
     → Worked (model e) (text e) (e .args .at) (columns e) after (e .args .at + c .char-len .result)
 done c {after} o =
     let e = entry c in
     subst (Worked (model e) (text e) (e .args .at) (columns e) after) (sym (one-is c))
-    (worked-all (e .pre .ready) (e .args .at) (e .pre .boundary) (e .pre .below) (e .pre .holds) refl o)
+    (worked-all (e .pre .0 .ready) (e .args .at) (e .pre .0 .boundary) (e .pre .0 .below) (e .pre .0 .holds) refl o)
 
 -- the unknown piece's score, and its offer, as it is said of the next boundary
 sum-is :
@@ -142,15 +142,16 @@ offer-known-requires : tie.Need-offer-known-requires
 offer-known-requires c κs =
     let d = asked c in
     let e = entry d in
-    let w = e .pre .ready in (
+    let w = e .pre .0 .ready in (
       record {
         parts = w .sound .parts;
         level-score = sym (length-map (e .args .score .now) units) ∙ w .sound .level-score;
-        inside = omega (arith, e .pre .below);
-        ahead = omega (arith, next-above (text e) (w .well) (e .args .at) (e .pre .boundary) (e .pre .below), one-is d);
+        inside = omega (arith, e .pre .0 .below);
+        ahead = omega (arith, next-above (text e) (w .well) (e .args .at) (e .pre .0 .boundary) (e .pre .0 .below), one-is d);
         size = w .size;
       },
-      e .pre .inside,
+      e .pre .0 .inside,
+      e .pre .1,
     )
 
 same-length : tie.Need-same-length
@@ -167,10 +168,10 @@ returns c =
     let k = offered (c .before) in
     let d = measured k in
     let e = entry d in
-    done d (all-known (model e) (text e) (e .args .at) (e .pre .boundary) (e .pre .ready .well) (e .pre .below) (known k) (c .if1 .taken))
+    done d (all-known (model e) (text e) (e .args .at) (e .pre .0 .boundary) (e .pre .0 .ready .well) (e .pre .0 .below) (known k) (c .if1 .taken))
 
-cast-t29 : tie.Need-cast-t29
-cast-t29 c = search needs
+cast-t30 : tie.Need-cast-t30
+cast-t30 c = let e = entry (measured (offered (c .before))) in omega (arith, e .pre .0 .below, e .pre .0 .ready .size)
 
 added-requires : tie.Need-added-requires
 added-requires c κs = search needs
@@ -181,7 +182,7 @@ offer-requires c κs =
     let k = offered (t .before) in
     let d = measured k in
     let l = within d in
-    let s = entry d .pre .inside in
+    let s = entry d .pre .0 .inside in
     let kept = k .offer-known .kept .1 .1 .1 .1 .1 .1 .1 .1 .1 .1 in
     record { start = omega (arith, s .start, kept .0); id = omega (arith, s .id, kept .1 .0); score = omega (arith, s .score, kept .1 .1 .0) }
 
@@ -202,7 +203,7 @@ returns-2 c =
     let d = measured k in
     let e = entry d in
     done d
-    (all-unknown (model e) (text e) (e .args .at) (e .pre .boundary) (e .pre .ready .well) (e .pre .below) (known k) (t .if1 .left)
+    (all-unknown (model e) (text e) (e .args .at) (e .pre .0 .boundary) (e .pre .0 .ready .well) (e .pre .0 .below) (known k) (t .if1 .left)
     (at-next d (o .offer .ensures) (unknown-is _ _ _ _ _ refl refl (sum-is d _ (summed o .added .ensures)))))
 
 pub work-at-spec : {M : Type 1} → statement M
@@ -219,7 +220,7 @@ work-at-spec =
     same-length-2
     same-length-3
     returns
-    cast-t29
+    cast-t30
     added-requires
     offer-requires
     same-length-4
