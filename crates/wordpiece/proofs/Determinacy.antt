@@ -7,12 +7,16 @@ use mathlib.Core.List.{List}
 use mathlib.Core.Option.{Option, none, some}
 use lib.ListN.{length}
 use Rattle.refusal.specs.declared.Fault.{Fault}
+use Rattle.refusal.specs.declared.Reason.{Reason}
 use Rattle.trie.specs.Trie.{Trie}
-use Rattle.rows.specs.Columns.{Columns}
+use Rattle.rows.specs.Columns.{Columns, rowsOf}
+use Rattle.build.specs.Names.{names}
+use Rattle.build.specs.Rules.{tokensOf}
 use Rattle.build.specs.Memory.{Memory}
 use Rattle.wordpiece.specs.declared.BuildAnswer.{BuildAnswer}
+use Rattle.wordpiece.specs.declared.BuildAnswer.the-variants as build-is
 use Rattle.wordpiece.specs.declared.EncodeAnswer.{EncodeAnswer}
-use Rattle.wordpiece.specs.Build.{Built}
+use Rattle.wordpiece.specs.Build.{buildFault, buildAnswer, Built}
 use Rattle.wordpiece.specs.declared.EncodeAnswer.the-variants.{Ids, Refused}
 use Rattle.wordpiece.specs.Pieces.{idsOf}
 use Rattle.wordpiece.specs.Encode.{encodeFault, encodeAnswer, Encoded}
@@ -53,3 +57,27 @@ module _ {t : Trie} {unknown maxChars : ℕ} {prefix w ids after : List ℕ} {an
       says q (some g) e =
           let told : Refused g ≡ Ids count = sym (p .answered ∙ ap (λ (o : Option Fault). encodeAnswer o count) e) ∙ q in
           absurd (let z : _≡_ {A = ℕ} 0 1 = cc in omega arith)
+
+-- the same of `from_rows`: a build is refused with r exactly when r is its fault, and says N exactly when there is none
+module _ {tab : List ℕ} {c : Columns} {m : Memory} {answer : BuildAnswer} {after : Memory} (p : Built tab c m answer after) where
+  abbrev found : Option Reason
+  found = buildFault tab c m
+
+  abbrev nodes : ℕ
+  nodes = length (names (tokensOf tab (rowsOf c)))
+
+  pub build-refused-exactly : (r : Reason) → (answer ≡ build-is.Refused r) ↔ (buildFault tab c m ≡ some r)
+  unfolding buildAnswer
+  build-refused-exactly r = (λ q. says found (sym (p .answered) ∙ q), λ e. p .answered ∙ ap (λ (o : Option Reason). buildAnswer o nodes) e)
+    where
+      says : (o : Option Reason) → buildAnswer o nodes ≡ build-is.Refused r → o ≡ some r
+      says none e = absurd (let z : _≡_ {A = ℕ} 0 1 = cc in omega arith)
+      says (some g) e = let same : g ≡ r = cc in ap (λ (x : Reason). some x) same
+
+  pub build-accepted-exactly : (answer ≡ build-is.Built (length (names (tokensOf tab (rowsOf c))))) ↔ (buildFault tab c m ≡ none)
+  unfolding buildAnswer
+  build-accepted-exactly = (λ q. says found (sym (p .answered) ∙ q), λ e. p .answered ∙ ap (λ (o : Option Reason). buildAnswer o nodes) e)
+    where
+      says : (o : Option Reason) → buildAnswer o nodes ≡ build-is.Built nodes → o ≡ none
+      says none e = refl
+      says (some g) e = absurd (let z : _≡_ {A = ℕ} 0 1 = cc in omega arith)
