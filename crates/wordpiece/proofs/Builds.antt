@@ -9,7 +9,6 @@ use native.Mathlib.Omega.{arith}
 use borrow.Author.Tests.{ltb-false}
 use lib.Dec.{ltb, eqb}
 use lib.Ieee.{Float}
-use lib.ListN.{length}
 use Rattle.refusal.specs.declared.Fault.{Fault}
 use Rattle.refusal.specs.declared.Fault.the-variants as fault
 use Rattle.refusal.specs.declared.Reason.{Reason}
@@ -21,21 +20,18 @@ use Rattle.rows.specs.Rows.{Row, Worth, score, id, worthFault, rowFault}
 use Rattle.rows.specs.Columns.{Columns, rowAt, rowsOf, columnsFault}
 use Rattle.rows.specs.Answers.{columns}
 use Rattle.rows.proofs.FirstBad.{first-bad-says}
-use Rattle.rows.proofs.ListFaults.{size, rows-left, sizes-first}
+use Rattle.rows.proofs.ListFaults.{size, rows-left, sizes-first, rows-few}
 use Rattle.build.specs.declared.Built as core
 use Rattle.build.specs.declared.Built.the-variants.{Nodes, NoRoom}
-use Rattle.build.specs.Names.{names}
-use Rattle.build.specs.Rules.{tokensOf, wordpieceTrie}
+use Rattle.build.specs.Rules.{wordpieceTrie}
 use Rattle.build.specs.Given.{given, trieGiven}
 use Rattle.build.specs.Memory.{Memory, noRoom, cleared, holding, leaves}
 use Rattle.build.specs.Core.{roomOf, nodesOf, BuiltOf}
+use Rattle.build.proofs.Rooms.{room-is, no-room, nodes-some, nodes-few}
+use Rattle.build.proofs.Judging.{given-rows, length-rows, short-tokens, none-scored}
+use Rattle.build.proofs.Outcomes.{core-full, core-fits}
 use Rattle.wordpiece.specs.declared.BuildAnswer.the-variants as answer-is
 use Rattle.wordpiece.specs.Build.{buildFault, buildAnswer, Built}
-use Rattle.wordpiece.proofs.Rooms.{room-for, room-is}
-use Rattle.wordpiece.proofs.FineRows.{given-rows, nodes-few}
-
-below : {n a b c : ℕ} → n ≤ a → a ≡ b → b ≤ c → n ≤ c
-below p e q = omega (arith, p, e, q)
 
 -- ---- no fault of the rows has the number 7
 
@@ -80,7 +76,7 @@ rows-number tab c r e = go (size WordPiece tab c) refl
 
 module _ (tab : List ℕ) (c : Columns) (m : Memory) where
   abbrev nodes : ℕ
-  nodes = length (names (tokensOf tab (rowsOf c)))
+  nodes = nodesOf tab (rowsOf c)
 
   abbrev room-left : Option Reason
   room-left = refuse (noRoom nodes m) (reason.Call fault.Room) none
@@ -121,73 +117,32 @@ module _ (tab : List ℕ) (c : Columns) (m : Memory) where
         columns = a ∙ sym (ap (λ (o : Option Reason). leaves o held (cleared m) m) e);
       }
 
-  built-held : {after : Memory} → buildFault tab c m ≡ none → after ≡ held → Built tab c m (answer-is.Built nodes) after
+  built-held : {after : Memory} {n : ℕ} → buildFault tab c m ≡ none → n ≡ nodes → after ≡ held → Built tab c m (answer-is.Built n) after
   unfolding buildAnswer leaves
-  built-held e a =
+  built-held e s a =
       record {
-        answered = sym (ap (λ (o : Option Reason). buildAnswer o nodes) e);
+        answered = ap answer-is.Built s ∙ sym (ap (λ (o : Option Reason). buildAnswer o nodes) e);
         columns = a ∙ sym (ap (λ (o : Option Reason). leaves o held (cleared m) m) e);
       }
 
-  -- ---- from what the core says of the rows
+-- ---- the nodes of fine rows
 
-  module _ (fine : columnsFault WordPiece tab c ≡ none) (few : nodes ≤ 4_294_967_295) where
-    fault-is : {b : Bool} → ltb (roomOf m) nodes ≡ b → buildFault tab c m ≡ refuse b (reason.Call fault.Room) none
-    fault-is e =
-        fault-fine fine ∙ ap (λ (b : Bool). refuse b (reason.Call fault.Room) none) (sym (room-is nodes m few) ∙ e)
-
-    core-full : {after : Memory} → BuiltOf false tab (rowsOf c) (roomOf m) m after NoRoom → Built tab c m (answer-is.Refused (reason.Call fault.Room)) after
-    unfolding refuse
-    core-full {after = after} d = go (ltb (roomOf m) nodes) refl
-      where
-        go : (b : Bool) → ltb (roomOf m) nodes ≡ b → Built tab c m (answer-is.Refused (reason.Call fault.Room)) after
-        go true e = built-short (fault-is e) (d .left ∙ ap (λ (b : Bool). cond b (cleared m) (holding (trieGiven false tab (rowsOf c)) m)) e)
-        go false e =
-            let z : NoRoom ≡ Nodes nodes = d .answered ∙ ap (λ (b : Bool). cond b NoRoom (Nodes nodes)) e in
-            let y : _≡_ {A = ℕ} 0 1 = cc in
-            absurd (omega arith)
-
-    core-built : {after : Memory} {n : ℕ} → BuiltOf false tab (rowsOf c) (roomOf m) m after (Nodes n) → Built tab c m (answer-is.Built n) after
-    unfolding refuse trieGiven
-    core-built {after = after} {n = n} d = go (ltb (roomOf m) nodes) refl
-      where
-        go : (b : Bool) → ltb (roomOf m) nodes ≡ b → Built tab c m (answer-is.Built n) after
-        go true e =
-            let z : Nodes n ≡ NoRoom = d .answered ∙ ap (λ (b : Bool). cond b NoRoom (Nodes nodes)) e in
-            let y : _≡_ {A = ℕ} 0 1 = cc in
-            absurd (omega arith)
-        go false e =
-            let z : Nodes n ≡ Nodes nodes = d .answered ∙ ap (λ (b : Bool). cond b NoRoom (Nodes nodes)) e in
-            let s : n ≡ nodes = cc in
-            subst (λ (k : ℕ). Built tab c m (answer-is.Built k) after) (sym s)
-            (built-held (fault-is e) (d .left ∙ ap (λ (b : Bool). cond b (cleared m) (holding (trieGiven false tab (rowsOf c)) m)) e))
+pub nodes-small : (tab : List ℕ) (c : Columns) → columnsFault WordPiece tab c ≡ none → nodesOf tab (rowsOf c) ≤ 1_073_741_825
+nodes-small tab c fine =
+    nodes-few tab (rowsOf c) (omega (arith, length-rows c, rows-few WordPiece tab c fine)) (short-tokens WordPiece tab c fine)
 
 -- ---- from what the core says of the lent lists
 
-module _
+-- a number of nodes that was built is no more than the room, so it fits a u32
+pub nodes-fit :
     {b : Bool} {tab : List ℕ} {rows : List Row} {room : ℕ} {before after : Memory} {answer : core.Built} {n : ℕ}
-    (d : BuiltOf b tab rows room before after answer) (e : answer ≡ Nodes n)
+    → BuiltOf b tab rows room before after answer → answer ≡ Nodes n → room ≡ roomOf before → n ≤ 4_294_967_295
+nodes-fit {tab = tab} {rows = rows} {room = room} {before = before} d e r =
+    let w = core-fits d e in
+    fits (w .1) (ltb-false room (nodesOf tab rows) (w .0)) r (room-is before .small)
   where
-    -- a built number of nodes is no more than the room
-    core-fits : n ≤ room
-    core-fits = go (ltb room (nodesOf tab rows)) refl
-      where
-        go : (t : Bool) → ltb room (nodesOf tab rows) ≡ t → n ≤ room
-        go true p =
-            let z : Nodes n ≡ NoRoom = sym e ∙ d .answered ∙ ap (λ (t : Bool). cond t NoRoom (Nodes (nodesOf tab rows))) p in
-            let y : _≡_ {A = ℕ} 0 1 = cc in
-            absurd (omega arith)
-        go false p =
-            let z : Nodes n ≡ Nodes (nodesOf tab rows) =
-            sym e ∙ d .answered ∙ ap (λ (t : Bool). cond t NoRoom (Nodes (nodesOf tab rows))) p in
-            let s : n ≡ nodesOf tab rows = cc in
-            omega (arith, s, ltb-false room (nodesOf tab rows) p)
-
-    -- so it fits a u32
-    pub nodes-fit : room ≡ roomOf before → n ≤ 4_294_967_295
-    nodes-fit r =
-        let small = room-for before .small in
-        below core-fits r small
+    fits : {n a b c k : ℕ} → n ≡ a → a ≤ b → b ≡ c → c ≤ k → n ≤ k
+    fits p q s t = omega (arith, p, q, s, t)
 
 module _ (tab off len : List ℕ) (ids : List ℕ) (m after : Memory) {room : ℕ} {answer : core.Built}
     (r : room ≡ roomOf m) (d : BuiltOf false tab (given off len ids) room m after answer)
@@ -196,14 +151,26 @@ module _ (tab off len : List ℕ) (ids : List ℕ) (m after : Memory) {room : �
     abbrev c : Columns
     c = columns off len scored scores ids
 
-    said : {a : core.Built} → answer ≡ a → BuiltOf false tab (rowsOf c) (roomOf m) m after a
-    said e =
-        subst (λ (a : core.Built). BuiltOf false tab (rowsOf c) (roomOf m) m after a) e
-        (subst (λ (k : ℕ). BuiltOf false tab (rowsOf c) k m after answer) r
-        (subst (λ (rows : List Row). BuiltOf false tab rows room m after answer) (given-rows tab off len scored scores ids fine) d))
+    -- the core's rows are the rows of the columns, and its room is theirs
+    said : BuiltOf false tab (rowsOf c) (roomOf m) m after answer
+    said =
+        subst (λ (k : ℕ). BuiltOf false tab (rowsOf c) k m after answer) r
+        (subst (λ (rows : List Row). BuiltOf false tab rows room m after answer) (given-rows c (none-scored tab c fine)) d)
+
+    -- the room decides
+    fault-is : {b : Bool} → ltb (roomOf m) (nodesOf tab (rowsOf c)) ≡ b → buildFault tab c m ≡ refuse b (reason.Call fault.Room) none
+    fault-is e =
+        fault-fine tab c m fine
+        ∙ ap (λ (b : Bool). refuse b (reason.Call fault.Room) none)
+        (no-room m (nodesOf tab (rowsOf c)) (nodes-some tab (rowsOf c)) (omega (arith, nodes-small tab c fine)) ∙ e)
+
+    left-is : {b : Bool} → ltb (roomOf m) (nodesOf tab (rowsOf c)) ≡ b → after ≡ cond b (cleared m) (holding (trieGiven false tab (rowsOf c)) m)
+    left-is e = said .left ∙ ap (λ (b : Bool). cond b (cleared m) (holding (trieGiven false tab (rowsOf c)) m)) e
 
     pub lists-full : answer ≡ NoRoom → Built tab c m (answer-is.Refused (reason.Call fault.Room)) after
-    lists-full e = core-full tab c m fine (nodes-few tab c fine) (said e)
+    unfolding refuse
+    lists-full e = let full = core-full said e in built-short tab c m (fault-is full) (left-is full)
 
     pub lists-built : {n : ℕ} → answer ≡ Nodes n → Built tab c m (answer-is.Built n) after
-    lists-built e = core-built tab c m fine (nodes-few tab c fine) (said e)
+    unfolding refuse trieGiven
+    lists-built e = let w = core-fits said e in built-held tab c m (fault-is (w .0)) (w .1) (left-is (w .0))

@@ -5,10 +5,10 @@ use mathlib.Core.Path.{_≡_, refl, sym, ap, _∙_, subst}
 use mathlib.Core.Bool.{Bool, true, false, not}
 use mathlib.Core.List.{List, [], _∷_, _++_, map, flatten}
 use mathlib.Core.Option.{Option, none, some, Option·getD}
-use Prim.Native.Nat.{ℕ, _-_, _≤_, _<_}
+use Prim.Native.Nat.{ℕ, _-_}
 use native.Mathlib.Omega.{arith}
 use lib.Dec.{eqb}
-use lib.ListN.{length, getD, take, length-map}
+use lib.ListN.{length, take, length-map}
 use Rattle.refusal.specs.declared.Fault.{Fault}
 use Rattle.refusal.specs.declared.Fault.the-variants as fault
 use Rattle.refusal.specs.declared.Reason.{Reason}
@@ -34,7 +34,7 @@ use Rattle.build.proofs.Judging.{ids-marked}
 use Rattle.wordpiece.specs.declared.BuildAnswer.the-variants as answer-is
 use Rattle.wordpiece.specs.Build.{buildFault, buildAnswer, Built}
 use Rattle.wordpiece.specs.Encode.{encodeFault}
-use Rattle.wordpiece.proofs.FineRows.{nodes-few}
+use Rattle.wordpiece.proofs.Builds.{nodes-small}
 
 -- the parts with n nodes that lent columns hold in front
 abbrev pub trieIn : ℕ → Memory → Trie
@@ -70,7 +70,7 @@ cut-laid rule ns g m =
 module _ (tab : List ℕ) (c : Columns) (bytes : Bytes tab) (fine : columnsFault WordPiece tab c ≡ none) where
   pub rows-sound : sound (wordpieceTrie tab (rowsOf c)) ≡ true
   unfolding wordpieceTrie
-  rows-sound = sound-built (lastId tab (rowsOf c)) (tokensOf tab (rowsOf c)) (tokens-bytes tab (rowsOf c) bytes) (nodes-few tab c fine)
+  rows-sound = sound-built (lastId tab (rowsOf c)) (tokensOf tab (rowsOf c)) (tokens-bytes tab (rowsOf c) bytes) (omega (arith, nodes-small tab c fine))
 
   pub rows-cut : (m : Memory) → trieIn (length (names (tokensOf tab (rowsOf c)))) (holding (wordpieceTrie tab (rowsOf c)) m) ≡ wordpieceTrie tab (rowsOf c)
   unfolding wordpieceTrie trieOf

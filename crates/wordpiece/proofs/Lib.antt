@@ -6,7 +6,5 @@ pub mod Few
 pub mod Faults
 pub mod Readers
 pub mod Determinacy
-pub mod Rooms
-pub mod FineRows
 pub mod Builds
 pub mod BuiltTries

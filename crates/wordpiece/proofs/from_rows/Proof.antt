@@ -1,13 +1,14 @@
 -- `wordpiece::from_rows` meets its contract: what `judge` finds is refused, and rows without a fault are what the build asks for.
 -- Assumes nothing.
 use mathlib.Core.Path.{_≡_, sym, ap, _∙_}
+use mathlib.Core.Bool.{false}
 use mathlib.Core.Option.{none}
 use borrow.Author.Needs.{needs}
 use Rattle.rows.specs.declared.Kind.the-variants.{WordPiece}
 use Rattle.rows.specs.Columns.{Columns, columnsFault}
 use Rattle.rows.specs.Answers.{columns, reasonIn}
 use Rattle.build.specs.Memory.{Memory, memory}
-use Rattle.wordpiece.proofs.FineRows.{judged}
+use Rattle.build.proofs.Judging.{judged}
 use Rattle.wordpiece.proofs.Builds.{built-bad}
 use Rattle.wordpiece.proofs.from_rows.Statement.{statement}
 use Rattle.wordpiece.proofs.from_rows.Tie as tie
@@ -54,8 +55,8 @@ enum-told c = search needs
 build-rows-requires : tie.Need-build-rows-requires
 build-rows-requires c κs =
     let t = c .before .before .before .before .before .before in
-    let a = entry (t .before .before) .args in
-    judged (a .tab .now) (a .off .now) (a .len .now) (a .scored .now) (a .score .now) (a .id .now) (fine t)
+    let e = entry (t .before .before) in
+    judged WordPiece (e .args .tab .now) (lists e) (fine t) false
 
 returns : tie.Need-returns
 returns c =

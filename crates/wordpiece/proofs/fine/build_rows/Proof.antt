@@ -6,7 +6,7 @@ use native.Mathlib.Omega.{arith}
 use borrow.Author.Needs.{needs}
 use Rattle.build.specs.Memory.{Memory, memory}
 use Rattle.build.specs.Core.{RoomFor}
-use Rattle.wordpiece.proofs.Rooms.{room-for}
+use Rattle.build.proofs.Rooms.{room-is}
 use Rattle.wordpiece.proofs.Builds.{nodes-fit, lists-full, lists-built}
 use Rattle.wordpiece.proofs.fine.build_rows.Statement.{statement}
 use Rattle.wordpiece.proofs.fine.build_rows.Tie as tie
@@ -47,7 +47,7 @@ room-requires c κs = search needs
 build-requires : tie.Need-build-requires
 build-requires c κs =
     let r = c .before .before .before .before .before .before in
-    (entry r .pre, subst (λ (n : ℕ). RoomFor n (lent (entry r))) (sym (r .room .ensures)) (room-for (lent (entry r))))
+    (entry r .pre, subst (λ (n : ℕ). RoomFor n (lent (entry r))) (sym (r .room .ensures)) (room-is (lent (entry r))))
 
 enum-told : tie.Need-enum-told
 enum-told c = search needs
