@@ -37,6 +37,7 @@ use Rattle.build.proofs.Outcomes.{core-full, core-fits}
 use Rattle.build.proofs.Lookups.{noRow}
 use Rattle.build.proofs.Sounds.{length-id}
 use Rattle.scored.specs.NodeScores.{rowScore, filledScores}
+use Rattle.scored.proofs.Builds.{ids-scores, ids-held}
 use Rattle.pack.specs.declared.header.Header as code-header
 use Rattle.pack.specs.declared.PackAnswer.{PackAnswer}
 use Rattle.pack.specs.declared.PackAnswer.the-variants as answer-is
@@ -48,29 +49,6 @@ use Rattle.pack.proofs.Faults.{pack-room}
 use Rattle.pack.proofs.FinePacks.{lent-strings, fine-rows, rows-read}
 
 -- ---- the scores of the nodes
-
--- a node's score by its id: past all scores stands the mark for none
-node-score : (scores : List Double) → length scores ≤ noId → (o : Option ℕ) → rowScore scores (Option·getD o noId) ≡ nodeScore scores o
-unfolding nodeScore
-node-score scores h none = List·getD-eq-default scores plusZero h
-node-score scores h (some i) = refl
-
-map-both : {A : Type 0} (f : ℕ → Double) (g : A → ℕ) (h : A → Double) → ((a : A) → f (g a) ≡ h a) → (xs : List A) → map f (map g xs) ≡ map h xs
-map-both f g h e [] = refl
-map-both f g h e (x ∷ xs) = λ i. e x i ∷ map-both f g h e xs i
-
--- the scores of the id column are the nodes' scores
-ids-scores : (tab : List ℕ) (rows : List Row) → length (scoresOf rows) ≤ noId → map (rowScore (scoresOf rows)) (unigramTrie tab rows .id) ≡ unigramScores tab rows
-unfolding unigramTrie unigramScores trieOf lay
-ids-scores tab rows h =
-    let tokens = tokensOf tab rows in
-    map-both (rowScore (scoresOf rows)) (λ s. Option·getD (firstRow tokens s) noId) (λ s. nodeScore (scoresOf rows) (firstRow tokens s))
-    (λ s. node-score (scoresOf rows) h (firstRow tokens s)) (names tokens)
-
--- the first ids of a memory that holds the trie are the trie's
-ids-held : (tab : List ℕ) (rows : List Row) (m : Memory) {n : ℕ} → n ≡ builds.nodesOf tab rows → take n (holding (unigramTrie tab rows) m .id) ≡ unigramTrie tab rows .id
-unfolding holding unigramTrie
-ids-held tab rows m {n = n} e = take-at _ _ n (length-id (firstRow (tokensOf tab rows)) (tokensOf tab rows) ∙ sym e)
 
 scores-count : (rows : List Row) → length (scoresOf rows) ≡ length rows
 unfolding scoresOf

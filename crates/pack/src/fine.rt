@@ -8,34 +8,12 @@ use rows::Kind;
 ghost use mathlib.Core.Path.{_≡_};
 ghost use mathlib.Core.List.{map};
 ghost use mathlib.Core.Option.{none};
-ghost use Prim.Native.Nat.{_≤_, min};
+ghost use Prim.Native.Nat.{_≤_};
 ghost use lib.ListN.{length};
 ghost use Rattle.doubles.specs.Units.{units};
 ghost use Rattle.build.specs.Memory.{memory};
-ghost use Rattle.build.specs.Core.{roomOf};
 ghost use Rattle.pack.specs.Build.{told, toldOf, nodesOf, PackBuilt};
 ghost use Rattle.pack.specs.Reading.{PackFine, ScoresLeft};
-
-// How many nodes the lent columns have room for, the score column too.
-fn room(
-    edge_at: &[u32],
-    edge_n: &[u16],
-    node_id: &[u32],
-    node_score: &[f64],
-    byte: &[u8],
-    to: &[u32],
-    work: &[u32],
-) -> usize
-    ensures { λ r.
-        ⌜ r ≡ min (roomOf (memory (now («edge_at» .entry)) (now («edge_n» .entry)) (now («node_id» .entry)) (now (byte .entry)) (now (to .entry))
-        (now (work .entry)))) (length (now («node_score» .entry))) ⌝ }
-{
-    let room = build::core::room(edge_at, edge_n, node_id, byte, to, work);
-    if node_score.len() < room {
-        return node_score.len();
-    }
-    room
-}
 
 // The score column of a trie of n nodes: a Unigram trie's scores in front, and zeros behind them; a WordPiece trie has none.
 fn fill_scores(
@@ -51,7 +29,7 @@ fn fill_scores(
 {
     match kind {
         Kind::Unigram => crate::scores::fill(bytes, h.rows as usize, node_id, n, node_score),
-        Kind::WordPiece => crate::scores::zero(node_score),
+        Kind::WordPiece => scored::scores::zero(node_score),
     }
 }
 
@@ -98,7 +76,7 @@ pub fn build_fine(
         (memory (now («edge_at» .exit)) (now («edge_n» .exit)) (now («node_id» .exit)) (now (byte .exit)) (now (to .exit)) (now (work .exit)))
         (map units (now («node_score» .exit))) ⌝ }
 {
-    let room = room(edge_at, edge_n, node_id, node_score, byte, to, work);
+    let room = scored::fine::room(edge_at, edge_n, node_id, node_score, byte, to, work);
     let start = h.strings_off as usize;
     let built = crate::enter::build_rows(
         kind,
@@ -115,7 +93,7 @@ pub fn build_fine(
     );
     match built {
         Built::NoRoom => {
-            crate::scores::zero(node_score);
+            scored::scores::zero(node_score);
             PackAnswer::Refused(Reason::Call(Fault::Room))
         }
         Built::Nodes(n) => {

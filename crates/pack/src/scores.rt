@@ -8,7 +8,6 @@ ghost use Prim.Native.Nat.{_-_, _≤_, _<_};
 ghost use lib.ListN.{length, getD, take};
 ghost use Rattle.doubles.specs.Double.{plusZero};
 ghost use Rattle.doubles.specs.Units.{units};
-ghost use Rattle.refusal.specs.Places.{zeroed};
 ghost use Rattle.rows.specs.declared.Kind.the-variants.{Unigram};
 ghost use Rattle.rows.specs.Scores.{lowest, unknownScore};
 ghost use Rattle.build.specs.Rules.{scoresOf};
@@ -60,23 +59,12 @@ fn score_of(bytes: &[u8], rows: usize, row: u32) -> f64
     0.0
 }
 
-// Every place zero.
-pub fn zero(s: &mut [f64])
-    ensures { λ _. ⌜ map units (now (s .exit)) ≡ zeroed plusZero (map units (now (s .entry))) ⌝ }
-{
-    let mut i: usize = 0;
-    while i < s.len() {
-        s[i] = 0.0;
-        i += 1;
-    }
-}
-
 // The first n places are given the scores of the first n nodes, whose rows are given; the others are zero.
 pub fn fill(bytes: &[u8], rows: usize, node_id: &[u32], n: usize, node_score: &mut [f64])
     requires { ⌜ FiniteRows (now bytes) rows × ((n ≤ length (now «node_id»)) × (n ≤ length (now «node_score»))) ⌝ }
     ensures { λ _. ⌜ map units (now («node_score» .exit)) ≡ filledScores (scoresOf (rowsFrom Unigram (now (bytes .entry)) 36 rows)) (take n (now («node_id» .entry))) (map units (now («node_score» .entry))) ⌝ }
 {
-    zero(node_score);
+    scored::scores::zero(node_score);
     let mut k: usize = 0;
     while k < n {
         node_score[k] = score_of(bytes, rows, node_id[k]);

@@ -150,7 +150,7 @@ map-both f g h e [] = refl
 map-both f g h e (x ∷ xs) = λ i. e x i ∷ map-both f g h e xs i
 
 -- the scores of the id column are the nodes' scores
-ids-scores : (tab : List ℕ) (rows : List Row) → length (scoresOf rows) ≤ noId → map (rowScore (scoresOf rows)) (unigramTrie tab rows .id) ≡ unigramScores tab rows
+pub ids-scores : (tab : List ℕ) (rows : List Row) → length (scoresOf rows) ≤ noId → map (rowScore (scoresOf rows)) (unigramTrie tab rows .id) ≡ unigramScores tab rows
 unfolding unigramTrie unigramScores trieOf lay
 ids-scores tab rows h =
     let tokens = tokensOf tab rows in
@@ -158,7 +158,7 @@ ids-scores tab rows h =
     (λ s. node-score (scoresOf rows) h (firstRow tokens s)) (names tokens)
 
 -- the first ids of a memory that holds the trie are the trie's
-ids-held : (tab : List ℕ) (rows : List Row) (m : Memory) {n : ℕ} → n ≡ nodesOf tab rows → take n (holding (unigramTrie tab rows) m .id) ≡ unigramTrie tab rows .id
+pub ids-held : (tab : List ℕ) (rows : List Row) (m : Memory) {n : ℕ} → n ≡ nodesOf tab rows → take n (holding (unigramTrie tab rows) m .id) ≡ unigramTrie tab rows .id
 unfolding holding unigramTrie
 ids-held tab rows m {n = n} e = take-at _ _ n (length-id (firstRow (tokensOf tab rows)) (tokensOf tab rows) ∙ sym e)
 

@@ -20,7 +20,7 @@ ghost use Rattle.build.specs.Core.{roomOf};
 ghost use Rattle.scored.specs.Build as promise;
 
 // How many nodes the lent columns have room for, the score column too.
-fn room(
+pub fn room(
     edge_at: &[u32],
     edge_n: &[u16],
     node_id: &[u32],
