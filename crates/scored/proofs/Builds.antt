@@ -40,7 +40,8 @@ use Rattle.build.specs.Rules.{tokensOf, firstRow, scoreOf, scoresOf, nodeScore,
 use Rattle.build.specs.Given.{given, trieGiven}
 use Rattle.build.specs.Memory.{Memory, noScoredRoom, cleared, holding, zeroScores, leaves}
 use Rattle.build.specs.Core.{roomOf, RoomFor, nodesOf, BuiltOf}
-use Rattle.build.proofs.Rooms.{no-room, room-for, nodes-some, nodes-few}
+use Rattle.build.proofs.Rooms.{room-for, no-scored-room, nodes-some, nodes-few}
+use Rattle.build.proofs.Outcomes.{core-full, core-fits}
 use Rattle.build.proofs.Judging.{given-tokens, unigram-given, short-tokens}
 use Rattle.build.proofs.Sounds.{length-id}
 use Rattle.scored.specs.declared.BuildAnswer.{BuildAnswer}
@@ -88,22 +89,6 @@ rows-number tab c r e = go (size Unigram tab c) refl
         subst (λ (x : Reason). eqb (numberOf x) 7 ≡ false) (sym (w .2)) (row-number tab _ (w .3 .bad))
 
 -- ---- the room, with a score column
-
-lesser-below : (a b n : ℕ) → (ltb a n || ltb b n) ≡ ltb (min a b) n
-lesser-below a b n = go (decLt a n) (decLt b n)
-  where
-    go : Dec (a < n) → Dec (b < n) → (ltb a n || ltb b n) ≡ ltb (min a b) n
-    go (yes h) d = rw (lt-ltb a n h, lt-ltb (min a b) n (omega arith))
-    go (no h) (yes k) = rw (le-ltb a n (omega arith), lt-ltb b n k, lt-ltb (min a b) n (omega arith))
-    go (no h) (no k) = rw (le-ltb a n (omega arith), le-ltb b n (omega arith), le-ltb (min a b) n (omega arith))
-
--- 7 is decided by the lesser
-no-scored-room :
-    (n : ℕ) (m : Memory) (scores : List Double) → 1 ≤ n → n ≤ 4_294_967_295
-    → noScoredRoom n m scores ≡ ltb (min (roomOf m) (length scores)) n
-unfolding noScoredRoom
-no-scored-room n m scores some-node small =
-    ap (λ (t : Bool). t || ltb (length scores) n) (no-room m n some-node small) ∙ lesser-below (roomOf m) (length scores) n
 
 lesser-left : (a b : ℕ) {r : ℕ} → r ≡ min a b → r ≤ a
 lesser-left a b e = omega (arith, e)
@@ -267,34 +252,7 @@ module _ (tab : List ℕ) (c : Columns) (m : Memory) (scores : List Double) wher
 
 -- ---- from what the core says of the lent lists
 
--- a number of nodes that was built is no more than the room
-core-fits :
-    {b : Bool} {tab : List ℕ} {rows : List Row} {room : ℕ} {before after : Memory} {answer : core.Built} {n : ℕ}
-    → BuiltOf b tab rows room before after answer → answer ≡ Nodes n → (ltb room (nodesOf tab rows) ≡ false) × (n ≡ nodesOf tab rows)
-core-fits {tab = tab} {rows = rows} {room = room} {n = n} d e = go (ltb room (nodesOf tab rows)) refl
-  where
-    go : (t : Bool) → ltb room (nodesOf tab rows) ≡ t → (ltb room (nodesOf tab rows) ≡ false) × (n ≡ nodesOf tab rows)
-    go true p =
-        let z : Nodes n ≡ NoRoom = sym e ∙ d .answered ∙ ap (λ (t : Bool). cond t NoRoom (Nodes (nodesOf tab rows))) p in
-        let y : _≡_ {A = ℕ} 0 1 = cc in
-        absurd (omega arith)
-    go false p =
-        let z : Nodes n ≡ Nodes (nodesOf tab rows) = sym e ∙ d .answered ∙ ap (λ (t : Bool). cond t NoRoom (Nodes (nodesOf tab rows))) p in
-        (p, cc)
-
-core-full :
-    {b : Bool} {tab : List ℕ} {rows : List Row} {room : ℕ} {before after : Memory} {answer : core.Built}
-    → BuiltOf b tab rows room before after answer → answer ≡ NoRoom → ltb room (nodesOf tab rows) ≡ true
-core-full {tab = tab} {rows = rows} {room = room} d e = go (ltb room (nodesOf tab rows)) refl
-  where
-    go : (t : Bool) → ltb room (nodesOf tab rows) ≡ t → ltb room (nodesOf tab rows) ≡ true
-    go true p = p
-    go false p =
-        let z : NoRoom ≡ Nodes (nodesOf tab rows) = sym e ∙ d .answered ∙ ap (λ (t : Bool). cond t NoRoom (Nodes (nodesOf tab rows))) p in
-        let y : _≡_ {A = ℕ} 0 1 = cc in
-        absurd (omega arith)
-
--- so its nodes stand in every column, and it fits a u32
+-- the nodes that were built stand in every column, and their number fits a u32
 pub record Placed (n k : ℕ) (m : Memory) : Type 0 where
   pub ids : n ≤ length (m .id)
   pub scores : n ≤ k
@@ -331,7 +289,7 @@ module _ (tab off len : List ℕ) (score : List Float) (ids : List ℕ) (m after
         let least : room ≡ min (roomOf m) (length was) = r ∙ ap (min (roomOf m)) (sym (length-map before units)) in
         fault-fine tab c m was fine
         ∙ ap (λ (b : Bool). refuse b (reason.Call fault.Room) none)
-        (no-scored-room n m was (nodes-some tab (rowsOf c)) (omega (arith, nodes-small tab c fine))
+        (no-scored-room m was n (nodes-some tab (rowsOf c)) (omega (arith, nodes-small tab c fine))
         ∙ ap (λ (k : ℕ). ltb k n) (sym least)
         ∙ ap (ltb room) (sym same-nodes)
         ∙ e)
