@@ -5,5 +5,6 @@ pub mod Characters
 pub mod Valid
 pub mod Boundaries
 pub mod Reading
+pub mod Plain
 pub mod Passing
 pub mod Spans

@@ -39,11 +39,6 @@ passed-on s i j k p q = record { above = omega arith; inside = q .inside; same =
 pub passed-character : (s : List ℕ) (i n : ℕ) → character (drop i s) ≡ n → 0 < n → Passed s i (i + n)
 passed-character s i n e p = record { above = omega arith; inside = turn-inside s i n e p; same = valid-turn s i n e p }
 
--- also where there is none
-pub passed-found : (s : List ℕ) (i n : ℕ) → i ≤ length s → character (drop i s) ≡ n → Passed s i (i + n)
-passed-found s i zero h e = let still : i + 0 ≡ i = omega arith in rw still (passed-none s i h)
-passed-found s i (suc n) h e = passed-character s i (suc n) e (omega arith)
-
 pub passed-byte : (s : List ℕ) (i : ℕ) → i < length s → getD s i 0 < 0x80 → Passed s i (i + 1)
 passed-byte s i h b =
     let one : lengthOf (getD s i 0) ≡ 1 = length-ascii (getD s i 0) b in

@@ -65,39 +65,49 @@ fn character_at(table: &[u32; 256], s: &[u8], i: usize) -> usize
     n
 }
 
-// How many bytes are looked at together, without a branch between them, which compiles to sixteen at a time. A u8 counts them: at most 255.
-const BLOCK: usize = 64;
+// How many bytes are looked at together, without a branch between them: a long block compiles to sixteen at a time, a short one to eight at once.
+const LONG: usize = 64;
 
-// The BLOCK bytes at i are all ASCII: those that are add up to BLOCK.
-fn is_ascii_block(s: &[u8], i: usize) -> bool
-    requires { ⌜ i + 64 ≤ length (now s) ⌝ }
-    ensures { λ r. ⌜ (r ≡ true → Ascii (now (s .entry)) i (i + 64)) ⌝ }
+const SHORT: usize = 8;
+
+// The n bytes at i are all ASCII: those that are add up to n. A u8 counts them.
+fn is_ascii(s: &[u8], i: usize, n: usize) -> bool
+    requires { ⌜ (n ≤ 255) × (i + n ≤ length (now s)) ⌝ }
+    ensures { λ r. ⌜ (r ≡ true → Ascii (now (s .entry)) i (i + n)) ⌝ }
 {
-    let mut n: u8 = 0;
+    let mut count: u8 = 0;
     let mut k: usize = 0;
-    while k < BLOCK {
-        n += 1 - s[i + k] / 128;
+    while k < n {
+        count += 1 - s[i + k] / 128;
         k += 1;
     }
-    n as usize == BLOCK
+    count as usize == n
 }
 
-// The end of the whole blocks of ASCII at i.
-fn past_blocks(s: &[u8], i: usize) -> usize
-    requires { ⌜ i ≤ length (now s) ⌝ }
+// The end of the whole blocks of n bytes of ASCII at i.
+fn past_blocks(s: &[u8], i: usize, n: usize) -> usize
+    requires { ⌜ (0 < n) × (n ≤ 255) × (i ≤ length (now s)) ⌝ }
     ensures { λ r. ⌜ Passed (now (s .entry)) i r ⌝ }
 {
     let mut at = i;
-    while BLOCK <= s.len() - at {
-        if !is_ascii_block(s, at) {
+    while n <= s.len() - at {
+        if !is_ascii(s, at, n) {
             return at;
         }
-        at += BLOCK;
+        at += n;
     }
     at
 }
 
-// The end of the run of ASCII at i: byte by byte, and by blocks from a sixteenth place on, so that a short run costs no block.
+// The same of long blocks and then of short ones.
+fn past_all_blocks(s: &[u8], i: usize) -> usize
+    requires { ⌜ i ≤ length (now s) ⌝ }
+    ensures { λ r. ⌜ Passed (now (s .entry)) i r ⌝ }
+{
+    past_blocks(s, past_blocks(s, i, LONG), SHORT)
+}
+
+// The end of the run of ASCII at i: byte by byte, and by blocks from an eighth place on, so that a short run costs no block.
 fn past_ascii(s: &[u8], i: usize) -> usize
     requires { ⌜ i ≤ length (now s) ⌝ }
     ensures { λ r. ⌜ Passed (now (s .entry)) i r ⌝ }
@@ -108,22 +118,147 @@ fn past_ascii(s: &[u8], i: usize) -> usize
             return at;
         }
         at += 1;
-        if at % 16 == 0 {
-            at = past_blocks(s, at);
+        if at % SHORT == 0 {
+            at = past_all_blocks(s, at);
         }
     }
     at
 }
 
-// The end of the run of ASCII or of the one longer character at i; i itself where none begins there.
+// The two bytes at i are a character: C2-DF and a tail.
+fn is_two(s: &[u8], i: usize) -> bool
+    requires { ⌜ i + 2 ≤ length (now s) ⌝ }
+    ensures { λ r. ⌜ (r ≡ true → character (drop i (now (s .entry))) ≡ 2) ⌝ }
+{
+    let b = s[i];
+    if b < 0xC2 {
+        return false;
+    }
+    if 0xDF < b {
+        return false;
+    }
+    is_tail(s[i + 1])
+}
+
+// The three bytes at i are a character: E0-EF and two tails, the first of them from A0 on after E0 and up to 9F after ED.
+fn is_three(s: &[u8], i: usize) -> bool
+    requires { ⌜ i + 3 ≤ length (now s) ⌝ }
+    ensures { λ r. ⌜ (r ≡ true → character (drop i (now (s .entry))) ≡ 3) ⌝ }
+{
+    let b = s[i];
+    if b / 16 != 14 {
+        return false;
+    }
+    let x = s[i + 1];
+    if !is_tail(x) {
+        return false;
+    }
+    if !is_tail(s[i + 2]) {
+        return false;
+    }
+    if b == 0xE0 {
+        return 0xA0 <= x;
+    }
+    if b == 0xED {
+        return x <= 0x9F;
+    }
+    true
+}
+
+// The four bytes at i are a character that F0 begins: 90-BF and two tails after it.
+fn is_four(s: &[u8], i: usize) -> bool
+    requires { ⌜ i + 4 ≤ length (now s) ⌝ }
+    ensures { λ r. ⌜ (r ≡ true → character (drop i (now (s .entry))) ≡ 4) ⌝ }
+{
+    if s[i] != 0xF0 {
+        return false;
+    }
+    let x = s[i + 1];
+    if x < 0x90 {
+        return false;
+    }
+    if 0xBF < x {
+        return false;
+    }
+    if !is_tail(s[i + 2]) {
+        return false;
+    }
+    is_tail(s[i + 3])
+}
+
+// The n bytes at i are a character, as tests of its bytes tell. The rare ones, which F1-F4 begin, are left to the table.
+fn is_plain(s: &[u8], i: usize, n: usize) -> bool
+    requires { ⌜ (2 ≤ n) × (n ≤ 4) × (i + n ≤ length (now s)) ⌝ }
+    ensures { λ r. ⌜ (r ≡ true → character (drop i (now (s .entry))) ≡ n) ⌝ }
+{
+    if n == 2 {
+        return is_two(s, i);
+    }
+    if n == 3 {
+        return is_three(s, i);
+    }
+    is_four(s, i)
+}
+
+// The end of the run of such characters of n bytes at i. A call gives n as a number, for which the loop is compiled.
+fn past_same(s: &[u8], i: usize, n: usize) -> usize
+    requires { ⌜ (2 ≤ n) × (n ≤ 4) × (i ≤ length (now s)) ⌝ }
+    ensures { λ r. ⌜ Passed (now (s .entry)) i r ⌝ }
+{
+    let mut at = i;
+    while n <= s.len() - at {
+        if !is_plain(s, at, n) {
+            return at;
+        }
+        at += n;
+    }
+    at
+}
+
+// The end of the run at i of characters as long as the first of them.
+fn past_run(s: &[u8], i: usize) -> usize
+    requires { ⌜ i < length (now s) ⌝ }
+    ensures { λ r. ⌜ Passed (now (s .entry)) i r ⌝ }
+{
+    let b = s[i];
+    if b < 0x80 {
+        return past_ascii(s, i + 1);
+    }
+    if b < 0xE0 {
+        return past_same(s, i, 2);
+    }
+    if b < 0xF0 {
+        return past_same(s, i, 3);
+    }
+    past_same(s, i, 4)
+}
+
+// The end of the runs at i, one after the other. What stands there is for the table to decide.
+fn past_runs(s: &[u8], i: usize) -> usize
+    requires { ⌜ i ≤ length (now s) ⌝ }
+    ensures { λ r. ⌜ Passed (now (s .entry)) i r ⌝ }
+{
+    let mut at = i;
+    while at < s.len() {
+        let next = past_run(s, at);
+        if next == at {
+            return at;
+        }
+        at = next;
+    }
+    at
+}
+
+// The end of the character at i, which the table finds, and of the runs after it; i itself where no character begins there.
 fn step(table: &[u32; 256], s: &[u8], i: usize) -> usize
     requires { ⌜ IsLead (now table) × (i < length (now s)) ⌝ }
     ensures { λ r. ⌜ Stepped (now (s .entry)) i r ⌝ }
 {
-    if s[i] < 128 {
-        return past_ascii(s, i + 1);
+    let n = character_at(table, s, i);
+    if n == 0 {
+        return i;
     }
-    i + character_at(table, s, i)
+    past_runs(s, i + n)
 }
 
 // Where the whole well-formed characters from i on end.
@@ -150,11 +285,11 @@ fn valid_from(s: &[u8], i: usize) -> usize
     valid_by(&lead::LEAD, s, i)
 }
 
-// The length of the longest prefix made of whole well-formed characters. A text of ASCII alone needs no table.
+// The length of the longest prefix made of whole well-formed characters. A text of plain characters needs no table.
 pub fn valid_up_to(s: &[u8]) -> usize
     ensures { λ r. ⌜ r ≡ validUpTo (now (s .entry)) ⌝ }
 {
-    let i = past_ascii(s, past_blocks(s, 0));
+    let i = past_runs(s, past_all_blocks(s, 0));
     if i == s.len() {
         return i;
     }

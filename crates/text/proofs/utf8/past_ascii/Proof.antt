@@ -37,8 +37,8 @@ byte c =
     let at = head c .loop .at in
     passed-on (a .s .now) (a .i) at (at + 1) (head c .loop .inv) (passed-byte (a .s .now) at (omega arith) (omega arith))
 
-past-blocks-requires : tie.Need-past-blocks-requires Inv-loop μ-loop
-past-blocks-requires c κs = omega arith
+past-all-blocks-requires : tie.Need-past-all-blocks-requires Inv-loop μ-loop
+past-all-blocks-requires c κs = omega arith
 
 loop-less : tie.Need-loop-less Inv-loop μ-loop
 loop-less c = omega arith
@@ -47,7 +47,7 @@ loop-again : tie.Need-loop-again Inv-loop μ-loop
 loop-again c =
     let e = c .before .before in
     let a = head e .before .before .args in
-    passed-on (a .s .now) (a .i) (head e .loop .at + 1) (c .past-blocks .result) (byte e) (c .past-blocks .ensures)
+    passed-on (a .s .now) (a .i) (head e .loop .at + 1) (c .past-all-blocks .result) (byte e) (c .past-all-blocks .ensures)
 
 loop-less-2 : tie.Need-loop-less-2 Inv-loop μ-loop
 loop-less-2 c = omega arith
@@ -68,7 +68,7 @@ past-ascii-spec =
     shared-slice-read-if1
     returns
     add-at
-    past-blocks-requires
+    past-all-blocks-requires
     loop-less
     loop-again
     loop-less-2

@@ -9,13 +9,13 @@ use Rattle.text.proofs.utf8.past_blocks.Statement.{statement}
 use Rattle.text.proofs.utf8.past_blocks.Tie as tie
 
 abbrev Inv-loop : tie.InvT-loop
-Inv-loop s i at₀ at = Passed s i at
+Inv-loop s i n at₀ at = Passed s i at
 
 abbrev μ-loop : tie.MeasureT-loop
-μ-loop s i at₀ at = length s - at
+μ-loop s i n at₀ at = length s - at
 
 -- the way back to the loop's head from after the call
-abbrev head : tie.After-is-ascii-block Inv-loop μ-loop → tie.At-loop Inv-loop μ-loop
+abbrev head : tie.After-is-ascii Inv-loop μ-loop → tie.At-loop Inv-loop μ-loop
 head c = c .before .before
 
 loop-holds : tie.Need-loop-holds Inv-loop μ-loop
@@ -24,8 +24,8 @@ loop-holds c = passed-none (c .before .args .s .now) (c .before .args .i) (omega
 sub-loop : tie.Need-sub-loop Inv-loop μ-loop
 sub-loop c = omega arith
 
-is-ascii-block-requires : tie.Need-is-ascii-block-requires Inv-loop μ-loop
-is-ascii-block-requires c κs = omega arith
+is-ascii-requires : tie.Need-is-ascii-requires Inv-loop μ-loop
+is-ascii-requires c κs = omega arith
 
 returns : tie.Need-returns Inv-loop μ-loop
 returns c = head (c .before) .loop .inv
@@ -41,8 +41,8 @@ loop-again c =
     let h = head (c .before) in
     let a = h .before .before .args in
     let at = h .loop .at in
-    passed-on (a .s .now) (a .i) at (at + 64) (h .loop .inv)
-    (passed-ascii 64 (a .s .now) at (omega arith) (c .before .is-ascii-block .ensures (not-false _ (c .if1 .left))))
+    passed-on (a .s .now) (a .i) at (at + a .n) (h .loop .inv)
+    (passed-ascii (a .n) (a .s .now) at (omega arith) (c .before .is-ascii .ensures (not-false _ (c .if1 .left))))
 
 returns-2 : tie.Need-returns-2 Inv-loop μ-loop
 returns-2 c = c .before .loop .inv
@@ -55,7 +55,7 @@ past-blocks-spec =
     μ-loop
     loop-holds
     sub-loop
-    is-ascii-block-requires
+    is-ascii-requires
     returns
     add-at
     loop-less

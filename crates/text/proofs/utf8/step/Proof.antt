@@ -1,73 +1,56 @@
--- `text::utf8::step` meets its contract: an ASCII byte begins a run, and any other the character that `character_at` finds. Assumes nothing.
-use mathlib.Core.Path.{_≡_, sym, _∙_}
+-- `text::utf8::step` meets its contract: where `character_at` finds a character it is passed, and the runs after it; where it finds none,
+-- nothing from there on is valid. Assumes nothing.
+use mathlib.Core.Path.{sym, _∙_}
 use Prim.Native.Nat.{_+_}
 use native.Mathlib.Omega.{arith}
 use borrow.Author.Needs.{needs}
 use lib.ListN.{drop}
 use Rattle.text.specs.Passing.{Passed}
-use Rattle.text.proofs.Passing.{passed-on, passed-byte, passed-found}
+use Rattle.text.proofs.Passing.{passed-none, passed-on, passed-character}
 use Rattle.text.proofs.Valid.{valid-stop}
 use Rattle.text.proofs.utf8.step.Statement.{statement}
 use Rattle.text.proofs.utf8.step.Tie as tie
 
--- the way back to the function's start from after either call
-abbrev before-run : tie.After-past-ascii → tie.Start
-before-run c = c .before .before .before .before
+-- the way back to the function's start from after the call
+abbrev start : tie.After-character-at → tie.Start
+start c = c .before .before
 
-abbrev before-character : tie.After-character-at → tie.Start
-before-character c = c .before .before .before .before
-
+-- the character that was found is passed
 found :
-    (c : tie.After-character-at)
-    → let a = before-character c .args in Passed (a .s .now) (a .i) (a .i + c .character-at .result)
+    (c : tie.Else1)
+    → let a = start (c .before) .args in Passed (a .s .now) (a .i) (a .i + c .before .character-at .result)
 found c =
-    let a = before-character c .args in
-    passed-found (a .s .now) (a .i) (c .character-at .result) (omega arith) (sym (c .character-at .ensures))
-
-shared-slice-read-if1 : tie.Need-shared-slice-read-if1
-shared-slice-read-if1 c = search needs
-
-add-past-ascii : tie.Need-add-past-ascii
-add-past-ascii c = search needs
-
-past-ascii-requires : tie.Need-past-ascii-requires
-past-ascii-requires c κs = search needs
-
-returns : tie.Need-returns
-returns c =
-    let a = before-run c .args in
-    let run = c .past-ascii .ensures in
-    record {
-      passed =
-          passed-on (a .s .now) (a .i) (a .i + 1) (c .past-ascii .result) (passed-byte (a .s .now) (a .i) (omega arith) (omega arith)) run;
-      stuck = λ e. absurd (omega (arith, run .above));
-    }
+    let a = start (c .before) .args in
+    passed-character (a .s .now) (a .i) (c .before .character-at .result) (sym (c .before .character-at .ensures)) (omega arith)
 
 character-at-requires : tie.Need-character-at-requires
 character-at-requires c κs = search needs
 
-add-result : tie.Need-add-result
-add-result c = omega (arith, found c .inside)
+returns : tie.Need-returns
+returns c =
+    let a = start (c .before) .args in
+    record {
+      passed = passed-none (a .s .now) (a .i) (omega arith);
+      stuck = λ e. valid-stop (drop (a .i) (a .s .now)) (sym (c .before .character-at .ensures) ∙ c .if1 .taken);
+    }
+
+add-past-runs : tie.Need-add-past-runs
+add-past-runs c = omega (arith, found c .inside)
+
+past-runs-requires : tie.Need-past-runs-requires
+past-runs-requires c κs = found c .inside
 
 returns-2 : tie.Need-returns-2
 returns-2 c =
-    let a = before-character c .args in
+    let e = c .before in
+    let a = start (e .before) .args in
+    let n = e .before .character-at .result in
+    let runs = c .past-runs .ensures in
     record {
-      passed = found c;
-      stuck =
-          λ e.
-          let none : c .character-at .result ≡ 0 = omega arith in
-          valid-stop (drop (a .i) (a .s .now)) (sym (c .character-at .ensures) ∙ none);
+      passed = passed-on (a .s .now) (a .i) (a .i + n) (c .past-runs .result) (found e) runs;
+      stuck = λ q. absurd (omega (arith, runs .above));
     }
 
 pub step-spec : {M : Type 1} → statement M
 step-spec =
-    tie.close
-    (tie.spec
-    shared-slice-read-if1
-    add-past-ascii
-    past-ascii-requires
-    returns
-    character-at-requires
-    add-result
-    returns-2)
+    tie.close (tie.spec character-at-requires returns add-past-runs past-runs-requires returns-2)

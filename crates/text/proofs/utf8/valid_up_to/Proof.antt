@@ -1,25 +1,26 @@
--- `text::utf8::valid_up_to` meets its contract: what is valid is the run of ASCII in front and what is valid after it. Assumes nothing.
+-- `text::utf8::valid_up_to` meets its contract: what is valid is the blocks of ASCII in front, the runs after them, and what is valid after
+-- those. Assumes nothing.
 use native.Mathlib.Omega.{arith}
 use borrow.Author.Needs.{needs}
 use Rattle.text.proofs.Valid.{valid-past}
 use Rattle.text.proofs.utf8.valid_up_to.Statement.{statement}
 use Rattle.text.proofs.utf8.valid_up_to.Tie as tie
 
-past-blocks-requires : tie.Need-past-blocks-requires
-past-blocks-requires c κs = search needs
+past-all-blocks-requires : tie.Need-past-all-blocks-requires
+past-all-blocks-requires c κs = search needs
 
-past-ascii-requires : tie.Need-past-ascii-requires
-past-ascii-requires c κs = search needs
+past-runs-requires : tie.Need-past-runs-requires
+past-runs-requires c κs = search needs
 
 returns : tie.Need-returns
 returns c =
-    let run = c .before in
-    let blocks = run .before in
+    let runs = c .before in
+    let blocks = runs .before in
     omega (
       arith,
-      blocks .past-blocks .ensures .same,
-      run .past-ascii .ensures .same,
-      valid-past (blocks .before .before .args .s .now) (run .past-ascii .result) (omega arith),
+      blocks .past-all-blocks .ensures .same,
+      runs .past-runs .ensures .same,
+      valid-past (blocks .before .before .args .s .now) (runs .past-runs .result) (omega arith),
     )
 
 valid-from-requires : tie.Need-valid-from-requires
@@ -30,4 +31,5 @@ returns-2 c = search needs
 
 pub valid-up-to-spec : {M : Type 1} → statement M
 valid-up-to-spec =
-    tie.close (tie.spec past-blocks-requires past-ascii-requires returns valid-from-requires returns-2)
+    tie.close
+    (tie.spec past-all-blocks-requires past-runs-requires returns valid-from-requires returns-2)

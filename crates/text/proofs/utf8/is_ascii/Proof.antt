@@ -1,4 +1,4 @@
--- `text::utf8::is_ascii_block` meets its contract. The loop's invariant: where every byte so far was counted, all are ASCII; a byte is counted
+-- `text::utf8::is_ascii` meets its contract. The loop's invariant: where every byte so far was counted, all are ASCII; a byte is counted
 -- exactly where it is below 128. Assumes nothing.
 use mathlib.Core.Path.{_≡_}
 use Prim.Native.Nat.{_+_, _-_, _≤_}
@@ -7,14 +7,14 @@ use borrow.Author.Tests.{eqb-true}
 use lib.ListN.{getD}
 use Rattle.text.specs.Passing.{Ascii}
 use Rattle.text.proofs.Passing.{ascii-none, ascii-more}
-use Rattle.text.proofs.utf8.is_ascii_block.Statement.{statement}
-use Rattle.text.proofs.utf8.is_ascii_block.Tie as tie
+use Rattle.text.proofs.utf8.is_ascii.Statement.{statement}
+use Rattle.text.proofs.utf8.is_ascii.Tie as tie
 
 abbrev Inv-loop : tie.InvT-loop
-Inv-loop s i n₀ k₀ n k = (k ≤ 64) × (n ≤ k) × (n ≡ k → Ascii s i (i + k))
+Inv-loop s i n count₀ k₀ count k = (k ≤ n) × (count ≤ k) × (count ≡ k → Ascii s i (i + k))
 
 abbrev μ-loop : tie.MeasureT-loop
-μ-loop s i n₀ k₀ n k = 64 - k
+μ-loop s i n count₀ k₀ count k = n - k
 
 -- the way back to the loop's head from where the byte is read
 abbrev head : tie.After-shared-slice-known Inv-loop μ-loop → tie.At-loop Inv-loop μ-loop
@@ -23,11 +23,11 @@ head c = c .before .before
 loop-holds : tie.Need-loop-holds Inv-loop μ-loop
 loop-holds c = (omega arith, omega arith, λ e. ascii-none (c .args .s .now) (c .args .i))
 
-add-n : tie.Need-add-n Inv-loop μ-loop
-add-n c = omega arith
+add-count : tie.Need-add-count Inv-loop μ-loop
+add-count c = omega arith
 
-shared-slice-read-n : tie.Need-shared-slice-read-n Inv-loop μ-loop
-shared-slice-read-n c = omega arith
+shared-slice-read-count : tie.Need-shared-slice-read-count Inv-loop μ-loop
+shared-slice-read-count c = omega arith
 
 -- the byte that was read is one
 byte :
@@ -35,11 +35,11 @@ byte :
     → let a = head c .before .args in getD (a .s .now) (a .i + head c .loop .k) 0 ≤ 255
 byte c = omega (arith, c .shared-slice-known .given (head c .before .args .i + head c .loop .k))
 
-sub-n : tie.Need-sub-n Inv-loop μ-loop
-sub-n c = omega (arith, byte c)
+sub-count : tie.Need-sub-count Inv-loop μ-loop
+sub-count c = omega (arith, byte c)
 
-add-n-2 : tie.Need-add-n-2 Inv-loop μ-loop
-add-n-2 c = omega (arith, byte c)
+add-count-2 : tie.Need-add-count-2 Inv-loop μ-loop
+add-count-2 c = omega (arith, byte c)
 
 add-k : tie.Need-add-k Inv-loop μ-loop
 add-k c = omega arith
@@ -59,19 +59,19 @@ cast-result c = omega arith
 returns : tie.Need-returns Inv-loop μ-loop
 returns c e k p q =
     let h = c .before .loop in
-    h .inv .2 (omega (arith, eqb-true (h .n) 64 e)) k p (omega arith)
+    h .inv .2 (omega (arith, eqb-true (h .count) _ e)) k p (omega arith)
 
-pub is-ascii-block-spec : {M : Type 1} → statement M
-is-ascii-block-spec =
+pub is-ascii-spec : {M : Type 1} → statement M
+is-ascii-spec =
     tie.close
     (tie.spec
     Inv-loop
     μ-loop
     loop-holds
-    add-n
-    shared-slice-read-n
-    sub-n
-    add-n-2
+    add-count
+    shared-slice-read-count
+    sub-count
+    add-count-2
     add-k
     loop-less
     loop-again
