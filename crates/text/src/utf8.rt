@@ -140,7 +140,8 @@ fn is_two(s: &[u8], i: usize) -> bool
     is_tail(s[i + 1])
 }
 
-// The three bytes at i are a character: E0-EF and two tails, the first of them from A0 on after E0 and up to 9F after ED.
+// The three bytes at i are a character: E0-EF and two tails. Its value over 2048 is not 0, which has shorter forms (E0 before 80-9F), and not
+// 27, the surrogates from 27 * 2048 = D800 on (ED before A0-BF). One number for both, since a branch on ED is often guessed wrong.
 fn is_three(s: &[u8], i: usize) -> bool
     requires { ⌜ i + 3 ≤ length (now s) ⌝ }
     ensures { λ r. ⌜ (r ≡ true → character (drop i (now (s .entry))) ≡ 3) ⌝ }
@@ -156,13 +157,8 @@ fn is_three(s: &[u8], i: usize) -> bool
     if !is_tail(s[i + 2]) {
         return false;
     }
-    if b == 0xE0 {
-        return 0xA0 <= x;
-    }
-    if b == 0xED {
-        return x <= 0x9F;
-    }
-    true
+    let part = (b - 0xE0) * 2 + (x - 0x80) / 32;
+    part != 0 && part != 27
 }
 
 // The four bytes at i are a character that F0 begins: 90-BF and two tails after it.
