@@ -95,7 +95,7 @@ returns-4 : tie.Need-returns-4
 returns-4 c e =
     let low = second-low (c .before) in
     let high = second-high (c .before) in
-    let other = eqb-false (part (c .before)) 27 (not-true _ e) in
+    let other = eqb-false (part (c .before)) _ (not-true _ e) in
     whole (c .before) (λ q. omega (arith, c .if4 .taken)) (λ q. omega (arith, other))
 
 returns-5 : tie.Need-returns-5
