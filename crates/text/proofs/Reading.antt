@@ -14,17 +14,24 @@ use Rattle.text.specs.Text.{tail, tails, lengthOf, rest, character, boun
 use Rattle.text.proofs.Characters.{second, within-low, within-high, within-of, Found, none, here, found, front-lead, front-inside}
 
 -- the byte is a tail exactly where its upper two bits are 10
+pub quarter-tail : (b : ℕ) → b / 64 ≡ 2 → tail b ≡ true
+quarter-tail b e = within-of 0x80 0xBF b (omega arith) (omega arith)
+
+pub tail-quarter : (b : ℕ) → tail b ≡ true → b / 64 ≡ 2
+tail-quarter b e = omega (arith, within-low 0x80 0xBF b e, within-high 0x80 0xBF b e)
+
+pub no-tail-quarter : (b : ℕ) → tail b ≡ false → b / 64 ≡ 2 → ⊥
+no-tail-quarter b e q =
+    let inside : tail b ≡ true = quarter-tail b q in
+    let z : _≡_ {A = ℕ} 0 1 = cc in
+    omega arith
+
 pub tail-by-quarter : (b : ℕ) → eqb (b / 64) 2 ≡ tail b
 tail-by-quarter b = go (tail b) refl
   where
     go : (t : Bool) → tail b ≡ t → eqb (b / 64) 2 ≡ t
-    go true e = eq-eqb (b / 64) 2 (omega (arith, within-low 0x80 0xBF b e, within-high 0x80 0xBF b e))
-    go false e =
-        ne-eqb (b / 64) 2
-        (λ q.
-        let inside : tail b ≡ true = within-of 0x80 0xBF b (omega arith) (omega arith) in
-        let z : _≡_ {A = ℕ} 0 1 = cc in
-        omega arith)
+    go true e = eq-eqb (b / 64) 2 (tail-quarter b e)
+    go false e = ne-eqb (b / 64) 2 (no-tail-quarter b e)
 
 -- a lead byte of a length below 2 decides by itself
 lead-short : (b : ℕ) (t : List ℕ) (n : ℕ) → lengthOf b ≡ n → n < 2 → character (b ∷ t) ≡ n

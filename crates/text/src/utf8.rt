@@ -5,7 +5,7 @@ ghost use mathlib.Core.Bool.{true, cond};
 ghost use Prim.Native.Nat.{_+_, _/_, _%_, _≤_, _<_};
 ghost use lib.ListN.{length, drop};
 ghost use Rattle.text.specs.Lead.{IsLead};
-ghost use Rattle.text.specs.Passing.{Ascii, Passed, Stepped};
+ghost use Rattle.text.specs.Passing.{Ascii, Follows, Paired, Passed, Stepped};
 ghost use Rattle.text.specs.Text.{within, tail, tails, character, validUpTo, boundary};
 
 // 80-BF: the byte continues a character.
@@ -140,6 +140,79 @@ fn is_two(s: &[u8], i: usize) -> bool
     is_tail(s[i + 1])
 }
 
+// 1 where b may stand before c in a text of ASCII and characters of two bytes, else 0.
+fn follows(b: u8, c: u8) -> u8
+    ensures { λ r. ⌜ (r ≤ 1) × (r ≡ 1 → Follows b c) ⌝ }
+{
+    if b < 0xC0 {
+        if c / 64 == 2 {
+            return 0;
+        }
+        return 1;
+    }
+    if b < 0xC2 {
+        return 0;
+    }
+    if 0xDF < b {
+        return 0;
+    }
+    if c / 64 == 2 {
+        return 1;
+    }
+    0
+}
+
+// How many bytes of such a text are looked at together, which compiles to sixteen at a time.
+const PAIRED: usize = 32;
+
+// Each of the PAIRED bytes at i may stand before the next.
+fn is_paired(s: &[u8], i: usize) -> bool
+    requires { ⌜ i + 32 < length (now s) ⌝ }
+    ensures { λ r. ⌜ (r ≡ true → Paired (now (s .entry)) i (i + 32)) ⌝ }
+{
+    let mut count: u8 = 0;
+    let mut k: usize = 0;
+    while k < PAIRED {
+        count += follows(s[i + k], s[i + k + 1]);
+        k += 1;
+    }
+    count as usize == PAIRED
+}
+
+// The end of the block of such text at i, one further where its last byte begins a character; i where there is none.
+fn past_pair_block(s: &[u8], i: usize) -> usize
+    requires { ⌜ i + 32 < length (now s) ⌝ }
+    ensures { λ r. ⌜ Passed (now (s .entry)) i r ⌝ }
+{
+    if is_tail(s[i]) {
+        return i;
+    }
+    if !is_paired(s, i) {
+        return i;
+    }
+    let end = i + PAIRED;
+    if is_tail(s[end]) {
+        return end + 1;
+    }
+    end
+}
+
+// The end of the blocks of such text at i.
+fn past_pairs(s: &[u8], i: usize) -> usize
+    requires { ⌜ i ≤ length (now s) ⌝ }
+    ensures { λ r. ⌜ Passed (now (s .entry)) i r ⌝ }
+{
+    let mut at = i;
+    while PAIRED < s.len() - at {
+        let next = past_pair_block(s, at);
+        if next == at {
+            return at;
+        }
+        at = next;
+    }
+    at
+}
+
 // The three bytes at i are a character: E0-EF and two tails. Its value over 2048 is not 0, which has shorter forms (E0 before 80-9F), and not
 // 27, the surrogates from 27 * 2048 = D800 on (ED before A0-BF). One number for both, since a branch on ED is often guessed wrong.
 fn is_three(s: &[u8], i: usize) -> bool
@@ -221,7 +294,7 @@ fn past_run(s: &[u8], i: usize) -> usize
         return past_ascii(s, i + 1);
     }
     if b < 0xE0 {
-        return past_same(s, i, 2);
+        return past_same(s, past_pairs(s, i), 2);
     }
     if b < 0xF0 {
         return past_same(s, i, 3);

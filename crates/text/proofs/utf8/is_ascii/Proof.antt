@@ -1,12 +1,12 @@
 -- `text::utf8::is_ascii` meets its contract. The loop's invariant: where every byte so far was counted, all are ASCII; a byte is counted
 -- exactly where it is below 128. Assumes nothing.
 use mathlib.Core.Path.{_≡_}
-use Prim.Native.Nat.{_+_, _-_, _≤_}
+use Prim.Native.Nat.{_+_, _-_, _≤_, _<_}
 use native.Mathlib.Omega.{arith}
 use borrow.Author.Tests.{eqb-true}
 use lib.ListN.{getD}
 use Rattle.text.specs.Passing.{Ascii}
-use Rattle.text.proofs.Passing.{ascii-none, ascii-more}
+use Rattle.text.proofs.Passing.{run-none, run-more}
 use Rattle.text.proofs.utf8.is_ascii.Statement.{statement}
 use Rattle.text.proofs.utf8.is_ascii.Tie as tie
 
@@ -21,7 +21,7 @@ abbrev head : tie.After-shared-slice-known Inv-loop μ-loop → tie.At-loop Inv-
 head c = c .before .before
 
 loop-holds : tie.Need-loop-holds Inv-loop μ-loop
-loop-holds c = (omega arith, omega arith, λ e. ascii-none (c .args .s .now) (c .args .i))
+loop-holds c = (omega arith, omega arith, λ e. run-none (λ k. getD (c .args .s .now) k 0 < 0x80) (c .args .i))
 
 add-count : tie.Need-add-count Inv-loop μ-loop
 add-count c = omega arith
@@ -51,7 +51,7 @@ loop-again : tie.Need-loop-again Inv-loop μ-loop
 loop-again c =
     let h = c .before .before in
     let a = h .before .args in
-    (omega arith, omega (arith, byte c), λ e. ascii-more (a .s .now) (a .i) (h .loop .k) (h .loop .inv .2 (omega arith)) (omega arith))
+    (omega arith, omega (arith, byte c), λ e. run-more (λ k. getD (a .s .now) k 0 < 0x80) (a .i) (h .loop .k) (h .loop .inv .2 (omega arith)) (omega arith))
 
 cast-result : tie.Need-cast-result Inv-loop μ-loop
 cast-result c = omega arith

@@ -1,4 +1,4 @@
--- `text::utf8::past_run` meets its contract: an ASCII byte is passed before its run, and `past_same` passes the others. Assumes nothing.
+-- `text::utf8::past_run` meets its contract: an ASCII byte is passed before its run, and the calls pass the others. Assumes nothing.
 use Prim.Native.Nat.{_+_}
 use native.Mathlib.Omega.{arith}
 use borrow.Author.Needs.{needs}
@@ -24,6 +24,9 @@ returns c =
     let a = start c .args in
     passed-on (a .s .now) (a .i) (a .i + 1) (c .past-ascii .result) (passed-byte (a .s .now) (a .i) (omega arith) (omega arith))
     (c .past-ascii .ensures)
+
+past-pairs-requires : tie.Need-past-pairs-requires
+past-pairs-requires c κs = search needs
 
 past-same-requires : tie.Need-past-same-requires
 past-same-requires c κs = search needs
@@ -51,6 +54,7 @@ past-run-spec =
     add-past-ascii
     past-ascii-requires
     returns
+    past-pairs-requires
     past-same-requires
     returns-2
     past-same-requires-2
