@@ -1,5 +1,6 @@
--- The turns of `valid_up_to`: whole characters are passed one by one, and a run of ASCII is passed at once, each of its bytes a character.
--- `Passed` composes, so that each function only says what it passes itself. Assumes nothing.
+-- The turns of `valid_up_to`: whole characters are passed one by one; a run of ASCII is passed at once, each of its bytes a character; and so
+-- is a block of ASCII and characters of two bytes, from what is known of each byte and the next. `Passed` composes, so that each function only
+-- says what it passes itself. Assumes nothing.
 use mathlib.Core.Path.{_≡_, refl, _∙_}
 use mathlib.Core.Bool.{Bool, true, false}
 use mathlib.Core.List.{List}
@@ -15,7 +16,7 @@ use Rattle.text.proofs.Plain.{two-at}
 use Rattle.text.proofs.Reading.{character-short, quarter-tail}
 use Rattle.text.proofs.Valid.{valid-turn, turn-inside}
 
--- ---- what holds from i on
+-- ---- what holds of each place from i on
 
 module _ (P : ℕ → Type 0) (i : ℕ) where
   pub run-none : (k : ℕ) → i ≤ k → k < i + 0 → P k

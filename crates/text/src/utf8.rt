@@ -65,9 +65,10 @@ fn character_at(table: &[u32; 256], s: &[u8], i: usize) -> usize
     n
 }
 
-// How many bytes are looked at together, without a branch between them: a long block compiles to sixteen at a time, a short one to eight at once.
+// How many bytes are looked at together, without a branch between them. A long block compiles to sixteen at a time.
 const LONG: usize = 64;
 
+// A short one compiles to all eight at once.
 const SHORT: usize = 8;
 
 // The n bytes at i are all ASCII: those that are add up to n. A u8 counts them.
@@ -125,22 +126,7 @@ fn past_ascii(s: &[u8], i: usize) -> usize
     at
 }
 
-// The two bytes at i are a character: C2-DF and a tail.
-fn is_two(s: &[u8], i: usize) -> bool
-    requires { ⌜ i + 2 ≤ length (now s) ⌝ }
-    ensures { λ r. ⌜ (r ≡ true → character (drop i (now (s .entry))) ≡ 2) ⌝ }
-{
-    let b = s[i];
-    if b < 0xC2 {
-        return false;
-    }
-    if 0xDF < b {
-        return false;
-    }
-    is_tail(s[i + 1])
-}
-
-// 1 where b may stand before c in a text of ASCII and characters of two bytes, else 0.
+// 1 where b may stand before c in a text of ASCII and characters of two bytes, else 0: a number, for a block adds them up.
 fn follows(b: u8, c: u8) -> u8
     ensures { λ r. ⌜ (r ≤ 1) × (r ≡ 1 → Follows b c) ⌝ }
 {
@@ -162,7 +148,8 @@ fn follows(b: u8, c: u8) -> u8
     0
 }
 
-// How many bytes of such a text are looked at together, which compiles to sixteen at a time.
+// How many bytes of such a text are looked at together. It compiles to sixteen at a time, where a turn for each character would often be
+// guessed wrong.
 const PAIRED: usize = 32;
 
 // Each of the PAIRED bytes at i may stand before the next.
@@ -179,7 +166,7 @@ fn is_paired(s: &[u8], i: usize) -> bool
     count as usize == PAIRED
 }
 
-// The end of the block of such text at i, one further where its last byte begins a character; i where there is none.
+// The end of the block of such text at i, one further where the block's last byte begins a character; i itself where there is no such block.
 fn past_pair_block(s: &[u8], i: usize) -> usize
     requires { ⌜ i + 32 < length (now s) ⌝ }
     ensures { λ r. ⌜ Passed (now (s .entry)) i r ⌝ }
@@ -211,6 +198,21 @@ fn past_pairs(s: &[u8], i: usize) -> usize
         at = next;
     }
     at
+}
+
+// The two bytes at i are a character: C2-DF and a tail.
+fn is_two(s: &[u8], i: usize) -> bool
+    requires { ⌜ i + 2 ≤ length (now s) ⌝ }
+    ensures { λ r. ⌜ (r ≡ true → character (drop i (now (s .entry))) ≡ 2) ⌝ }
+{
+    let b = s[i];
+    if b < 0xC2 {
+        return false;
+    }
+    if 0xDF < b {
+        return false;
+    }
+    is_tail(s[i + 1])
 }
 
 // The three bytes at i are a character: E0-EF and two tails. Its value over 2048 is not 0, which has shorter forms (E0 before 80-9F), and not
@@ -284,7 +286,7 @@ fn past_same(s: &[u8], i: usize, n: usize) -> usize
     at
 }
 
-// The end of the run at i of characters as long as the first of them.
+// The end of the run at i: of ASCII, of characters as long as the first, and from a character of two bytes on also of both mixed.
 fn past_run(s: &[u8], i: usize) -> usize
     requires { ⌜ i < length (now s) ⌝ }
     ensures { λ r. ⌜ Passed (now (s .entry)) i r ⌝ }
@@ -354,7 +356,7 @@ fn valid_from(s: &[u8], i: usize) -> usize
     valid_by(&lead::LEAD, s, i)
 }
 
-// The length of the longest prefix made of whole well-formed characters. A text of plain characters needs no table.
+// The length of the longest prefix made of whole well-formed characters. A text whose every character the runs pass needs no table.
 pub fn valid_up_to(s: &[u8]) -> usize
     ensures { λ r. ⌜ r ≡ validUpTo (now (s .entry)) ⌝ }
 {
