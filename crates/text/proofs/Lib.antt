@@ -7,4 +7,5 @@ pub mod Boundaries
 pub mod Reading
 pub mod Plain
 pub mod Passing
+pub mod Fitting
 pub mod Spans

@@ -19,6 +19,27 @@ pub record Follows (b c : ℕ) : Type 0 where
 abbrev pub Paired : List ℕ → ℕ → ℕ → Type 0
 Paired s i j = (k : ℕ) → i ≤ k → k < j → Follows (getD s k 0) (getD s (k + 1) 0)
 
+-- In a text of characters of up to three bytes a may stand before b and c: c is a tail exactly where b begins a character of more than one
+-- byte, or a one of three.
+pub record Fits (a b c : ℕ) : Type 0 where
+  pub below : a < 0xF0
+  pub lead : 0xC0 ≤ a → 0xC2 ≤ a
+  pub after-e0 : a ≡ 0xE0 → 0xA0 ≤ b
+  pub after-ed : a ≡ 0xED → b ≤ 0x9F
+  pub third : 0xE0 ≤ a → c / 64 ≡ 2
+  pub second : 0xC0 ≤ b → c / 64 ≡ 2
+  pub none : a < 0xE0 → b < 0xC0 → c / 64 ≡ 2 → ⊥
+
+-- each byte from i up to j may stand before the next two
+abbrev pub Fit : List ℕ → ℕ → ℕ → Type 0
+Fit s i j = (k : ℕ) → i ≤ k → k < j → Fits (getD s k 0) (getD s (k + 1) 0) (getD s (k + 2) 0)
+
+-- a is no tail, and b after it is one exactly where a begins a character of more than one byte
+pub record Begins (a b : ℕ) : Type 0 where
+  pub first : a / 64 ≡ 2 → ⊥
+  pub more : 0xC0 ≤ a → b / 64 ≡ 2
+  pub alone : a < 0xC0 → b / 64 ≡ 2 → ⊥
+
 -- j is reached from i over whole characters: what is valid from i on ends where what is valid from j on does
 pub record Passed (s : List ℕ) (i j : ℕ) : Type 0 where
   pub above : i ≤ j

@@ -5,7 +5,7 @@ ghost use mathlib.Core.Bool.{true, cond};
 ghost use Prim.Native.Nat.{_+_, _/_, _%_, _≤_, _<_};
 ghost use lib.ListN.{length, drop};
 ghost use Rattle.text.specs.Lead.{IsLead};
-ghost use Rattle.text.specs.Passing.{Ascii, Follows, Paired, Passed, Stepped};
+ghost use Rattle.text.specs.Passing.{Ascii, Follows, Paired, Fits, Fit, Begins, Passed, Stepped};
 ghost use Rattle.text.specs.Text.{within, tail, tails, character, validUpTo, boundary};
 
 // 80-BF: the byte continues a character.
@@ -148,22 +148,22 @@ fn follows(b: u8, c: u8) -> u8
     0
 }
 
-// How many bytes of such a text are looked at together. It compiles to sixteen at a time, where a turn for each character would often be
-// guessed wrong.
-const PAIRED: usize = 32;
+// How many bytes outside ASCII are looked at together. It compiles to sixteen at a time, and to no branch for each character, which would
+// often be guessed wrong.
+const BLOCK: usize = 32;
 
-// Each of the PAIRED bytes at i may stand before the next.
+// Each of the BLOCK bytes at i may stand before the next.
 fn is_paired(s: &[u8], i: usize) -> bool
     requires { ⌜ i + 32 < length (now s) ⌝ }
     ensures { λ r. ⌜ (r ≡ true → Paired (now (s .entry)) i (i + 32)) ⌝ }
 {
     let mut count: u8 = 0;
     let mut k: usize = 0;
-    while k < PAIRED {
+    while k < BLOCK {
         count += follows(s[i + k], s[i + k + 1]);
         k += 1;
     }
-    count as usize == PAIRED
+    count as usize == BLOCK
 }
 
 // The end of the block of such text at i, one further where the block's last byte begins a character; i itself where there is no such block.
@@ -177,7 +177,7 @@ fn past_pair_block(s: &[u8], i: usize) -> usize
     if !is_paired(s, i) {
         return i;
     }
-    let end = i + PAIRED;
+    let end = i + BLOCK;
     if is_tail(s[end]) {
         return end + 1;
     }
@@ -190,8 +190,104 @@ fn past_pairs(s: &[u8], i: usize) -> usize
     ensures { λ r. ⌜ Passed (now (s .entry)) i r ⌝ }
 {
     let mut at = i;
-    while PAIRED < s.len() - at {
+    while BLOCK < s.len() - at {
         let next = past_pair_block(s, at);
+        if next == at {
+            return at;
+        }
+        at = next;
+    }
+    at
+}
+
+// The same for a text of characters of up to three bytes: 1 where a may stand before b and c, else 0. C0 and C1 are those with a / 2 = 60.
+fn fits(a: u8, b: u8, c: u8) -> u8
+    ensures { λ r. ⌜ (r ≤ 1) × (r ≡ 1 → Fits a b c) ⌝ }
+{
+    if 0xF0 <= a {
+        return 0;
+    }
+    if a / 2 == 0x60 {
+        return 0;
+    }
+    if a == 0xE0 {
+        if b < 0xA0 {
+            return 0;
+        }
+    }
+    if a == 0xED {
+        if 0x9F < b {
+            return 0;
+        }
+    }
+    if c / 64 == 2 {
+        if 0xE0 <= a {
+            return 1;
+        }
+        return b / 0xC0;
+    }
+    if 0xE0 <= a {
+        return 0;
+    }
+    1 - b / 0xC0
+}
+
+// Each of the BLOCK bytes at i may stand before the next two.
+fn is_fit(s: &[u8], i: usize) -> bool
+    requires { ⌜ i + 33 < length (now s) ⌝ }
+    ensures { λ r. ⌜ (r ≡ true → Fit (now (s .entry)) i (i + 32)) ⌝ }
+{
+    let mut count: u8 = 0;
+    let mut k: usize = 0;
+    while k < BLOCK {
+        count += fits(s[i + k], s[i + k + 1], s[i + k + 2]);
+        k += 1;
+    }
+    count as usize == BLOCK
+}
+
+// A character begins with a, and goes on with b where it has more than one byte.
+fn begins(a: u8, b: u8) -> bool
+    ensures { λ r. ⌜ (r ≡ true → Begins a b) ⌝ }
+{
+    if a / 64 == 2 {
+        return false;
+    }
+    if a < 0xC0 {
+        return b / 64 != 2;
+    }
+    b / 64 == 2
+}
+
+// The end of the block of such text at i, up to two further where the block's last character goes on; i itself where there is no such block.
+fn past_fit_block(s: &[u8], i: usize) -> usize
+    requires { ⌜ i + 33 < length (now s) ⌝ }
+    ensures { λ r. ⌜ Passed (now (s .entry)) i r ⌝ }
+{
+    if !begins(s[i], s[i + 1]) {
+        return i;
+    }
+    if !is_fit(s, i) {
+        return i;
+    }
+    let end = i + BLOCK;
+    if !is_tail(s[end]) {
+        return end;
+    }
+    if is_tail(s[end + 1]) {
+        return end + 2;
+    }
+    end + 1
+}
+
+// The end of the blocks of such text at i.
+fn past_fits(s: &[u8], i: usize) -> usize
+    requires { ⌜ i ≤ length (now s) ⌝ }
+    ensures { λ r. ⌜ Passed (now (s .entry)) i r ⌝ }
+{
+    let mut at = i;
+    while BLOCK + 1 < s.len() - at {
+        let next = past_fit_block(s, at);
         if next == at {
             return at;
         }
@@ -286,7 +382,7 @@ fn past_same(s: &[u8], i: usize, n: usize) -> usize
     at
 }
 
-// The end of the run at i: of ASCII, of characters as long as the first, and from a character of two bytes on also of both mixed.
+// The end of the run at i: of ASCII; from a longer character on, of blocks of characters up to its length, and then of those as long as it.
 fn past_run(s: &[u8], i: usize) -> usize
     requires { ⌜ i < length (now s) ⌝ }
     ensures { λ r. ⌜ Passed (now (s .entry)) i r ⌝ }
@@ -299,7 +395,7 @@ fn past_run(s: &[u8], i: usize) -> usize
         return past_same(s, past_pairs(s, i), 2);
     }
     if b < 0xF0 {
-        return past_same(s, i, 3);
+        return past_same(s, past_fits(s, i), 3);
     }
     past_same(s, i, 4)
 }

@@ -34,6 +34,9 @@ past-same-requires c κs = search needs
 returns-2 : tie.Need-returns-2
 returns-2 c = search needs
 
+past-fits-requires : tie.Need-past-fits-requires
+past-fits-requires c κs = search needs
+
 past-same-requires-2 : tie.Need-past-same-requires-2
 past-same-requires-2 c κs = search needs
 
@@ -57,6 +60,7 @@ past-run-spec =
     past-pairs-requires
     past-same-requires
     returns-2
+    past-fits-requires
     past-same-requires-2
     returns-3
     past-same-requires-3
