@@ -64,6 +64,27 @@ fn leads() -> bool {
     t.say("every lead byte with every second byte")
 }
 
+/// Every lead byte with every second byte amid long text of each kind, where characters are passed by blocks, at each place
+/// of a block.
+fn amid(seed: u64, places: usize) -> bool {
+    let mut t = Tally::default();
+    let mut r = Random::new(seed);
+    for (_, kind) in &KINDS[..3] {
+        for place in 0..places {
+            let (before, after) = (made_of(&mut r, kind, 64 + place), made_of(&mut r, kind, 40));
+            for a in 0x7F..=255u8 {
+                for b in (0..=255u8).step_by(if places < 32 { 5 } else { 1 }) {
+                    for rest in [&[][..], &[0x80], &[0xBF, 0x80]] {
+                        let s = [&before[..], &[a, b], rest, &after].concat();
+                        t.check(port::valid_up_to(&s) == valid_up_to(&s), || format!("valid_up_to {s:02x?}"));
+                    }
+                }
+            }
+        }
+    }
+    t.say("every lead byte with every second byte amid long text")
+}
+
 /// Every scalar value, each of its truncations, and each of its bytes changed; every surrogate.
 fn scalars() -> bool {
     let mut t = Tally::default();
@@ -157,7 +178,7 @@ fn spans(seed: u64, count: usize) -> bool {
 }
 
 pub fn run(seed: u64, quick: bool) -> bool {
-    let count = if quick { 300 } else { 20_000 };
+    let (count, places) = if quick { (300, 8) } else { (20_000, 40) };
     // every part is run, also after one that differs
-    [leads(), scalars(), random(seed, count), spans(seed, count)].iter().all(|&same| same)
+    [leads(), amid(seed, places), scalars(), random(seed, count), spans(seed, count)].iter().all(|&same| same)
 }

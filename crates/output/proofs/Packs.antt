@@ -9,14 +9,13 @@ use native.Mathlib.Omega.{arith}
 use borrow.Author.Tests.{ltb-false, le-ltb, lt-ltb, eqb-true, leb-true}
 use lib.Dec.{ltb, leb, eqb}
 use lib.Ieee.{Float}
-use lib.ListN.{length, take, drop, replicate, length-replicate, length-drop}
+use lib.ListN.{length, take, replicate, length-replicate, length-drop}
 use Rattle.doubles.specs.Double.{Double, plusZero}
 use Rattle.doubles.specs.Units.{units}
 use Rattle.refusal.specs.declared.Fault.{Fault}
 use Rattle.refusal.specs.declared.Fault.the-variants as fault
 use Rattle.refusal.specs.declared.Reason.{Reason}
 use Rattle.refusal.specs.Sizes.{maxTable}
-use Rattle.refusal.specs.Refusal.{refuse}
 use Rattle.refusal.proofs.Tests.{not-found}
 use Rattle.text.specs.Ascii.{ascii}
 use Rattle.text.specs.Text.{wellFormed}
@@ -32,7 +31,7 @@ use Rattle.unigram.specs.Work as work
 use Rattle.unigram.specs.Pieces.{Model}
 use Rattle.pack.specs.declared.PackAnswer.{PackAnswer}
 use Rattle.pack.specs.declared.PackAnswer.the-variants as answer-is
-use Rattle.pack.specs.Pack.{headerOf, laidOut, kindOf, rowsOf, stringsOf, prefixOf}
+use Rattle.pack.specs.Pack.{headerOf, laidOut, rowsOf, stringsOf, prefixOf}
 use Rattle.pack.specs.Build.{nodesOf, packFault, theKind, trieIn, modelOf, PackBuilt}
 use Rattle.pack.proofs.Headers.{kind-laid}
 use Rattle.pack.proofs.Determinacy as determined

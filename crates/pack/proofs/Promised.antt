@@ -2,15 +2,14 @@
 -- the core says of the rows is said of the pack. Assumes nothing.
 use mathlib.Core.Path.{_≡_, refl, sym, ap, _∙_, subst}
 use mathlib.Core.Bool.{Bool, false, cond}
-use mathlib.Core.List.{List, [], _∷_, map}
-use mathlib.Core.Option.{Option, none, some, Option·getD}
+use mathlib.Core.List.{List, map}
+use mathlib.Core.Option.{Option, none, some}
 use Prim.Native.Nat.{ℕ, _-_, _≤_, min}
 use native.Mathlib.Omega.{arith}
 use borrow.Author.Tests.{ltb-false}
 use lib.Dec.{ltb}
 use lib.Ieee.{Float}
-use lib.ListN.{length, getD, take, drop, replicate, length-map, List·getD-eq-default}
-use lib.Seq.{take-at}
+use lib.ListN.{length, getD, take, drop, replicate, length-map}
 use Rattle.doubles.specs.Double.{Double, plusZero}
 use Rattle.doubles.specs.Units.{units}
 use Rattle.refusal.specs.declared.Fault.the-variants as fault
@@ -25,9 +24,7 @@ use Rattle.rows.specs.Rows.{Row, tokenOf}
 use Rattle.rows.proofs.RowFaults.{fine-short, fine-token-length}
 use Rattle.build.specs.declared.Built as core
 use Rattle.build.specs.declared.Built.the-variants.{Nodes, NoRoom}
-use Rattle.build.specs.Names.{names}
-use Rattle.build.specs.Parts.{lay, trieOf}
-use Rattle.build.specs.Rules.{tokensOf, firstRow, scoreOf, scoresOf, nodeScore, unigramTrie, unigramScores}
+use Rattle.build.specs.Rules.{scoreOf, scoresOf}
 use Rattle.build.specs.Given.{trieGiven}
 use Rattle.build.specs.Memory.{Memory, noScoredRoom, cleared, holding, zeroScores, leaves}
 use Rattle.build.specs.Core as builds
@@ -35,8 +32,7 @@ use Rattle.build.specs.Core.{roomOf, RoomFor, BuiltOf}
 use Rattle.build.proofs.Rooms.{room-for, no-scored-room, nodes-some, nodes-few}
 use Rattle.build.proofs.Outcomes.{core-full, core-fits}
 use Rattle.build.proofs.Lookups.{noRow}
-use Rattle.build.proofs.Sounds.{length-id}
-use Rattle.scored.specs.NodeScores.{rowScore, filledScores}
+use Rattle.scored.specs.NodeScores.{filledScores}
 use Rattle.scored.proofs.Builds.{ids-scores, ids-held}
 use Rattle.pack.specs.declared.header.Header as code-header
 use Rattle.pack.specs.declared.PackAnswer.{PackAnswer}

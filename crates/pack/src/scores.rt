@@ -13,7 +13,7 @@ ghost use Rattle.rows.specs.Scores.{lowest, unknownScore};
 ghost use Rattle.build.specs.Rules.{scoresOf};
 ghost use Rattle.scored.specs.NodeScores.{filledScores};
 ghost use Rattle.pack.specs.Pack.{rowsFrom};
-ghost use Rattle.pack.specs.Reading.{doubleAt, rowStart, FiniteRows};
+ghost use Rattle.pack.specs.Reading.{doubleAt, FiniteRows};
 
 // The score of row i.
 fn score_in(bytes: &[u8], rows: usize, i: usize) -> f64

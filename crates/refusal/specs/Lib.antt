@@ -1,4 +1,4 @@
--- 01's sizes and refusal numbers, and what a call leaves in the places lent to it.
+-- The paper's sizes and refusal numbers, and what a call leaves in the places lent to it.
 pub mod Sizes
 pub mod Refusal
 pub mod Places

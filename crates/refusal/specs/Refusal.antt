@@ -7,7 +7,7 @@ use Rattle.refusal.specs.declared.Fault.the-variants.{Size, Span, Token,
 use Rattle.refusal.specs.declared.Reason.{Reason}
 use Rattle.refusal.specs.declared.Reason.the-variants.{Call, Row}
 
--- 01's table of refusal numbers
+-- the paper's table of refusal numbers
 abbrev pub number : Fault → ℕ
 number Size = 1
 number Span = 2

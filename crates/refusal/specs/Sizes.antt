@@ -1,4 +1,4 @@
--- 01's sizes. "Each limit is accepted at the number and refused one above." Definitions only; assumes nothing.
+-- The paper's sizes. "Each limit is accepted at the number and refused one above." Definitions only; assumes nothing.
 use Prim.Native.Nat.{ℕ}
 use mathlib.Core.Bool.{Bool}
 use lib.Dec.{ltb}

@@ -1,14 +1,13 @@
 -- What `build` promises, in each case. A fault of the rows comes first, and its number is never 7, so nothing is written; then the room, that of
 -- the score column too, decides; and what the core says of its rows is said of the columns. Assumes nothing.
 use mathlib.Core.Path.{_≡_, refl, sym, ap, _∙_, subst}
-use mathlib.Core.Bool.{Bool, true, false, _||_, cond}
+use mathlib.Core.Bool.{Bool, true, false, cond}
 use mathlib.Core.List.{List, [], _∷_, map}
 use mathlib.Core.Logic.{_↔_}
 use mathlib.Core.Option.{Option, none, some, Option·getD}
 use Prim.Native.Nat.{ℕ, _≤_, _<_, min}
 use native.Mathlib.Omega.{arith}
-use native.Mathlib.Decide.{decLt}
-use borrow.Author.Tests.{lt-ltb, le-ltb, ltb-false}
+use borrow.Author.Tests.{ltb-false}
 use lib.Dec.{ltb, eqb}
 use lib.Ieee.{Float}
 use lib.ListN.{length, take, length-map, List·getD-eq-default}

@@ -3,6 +3,7 @@ use refusal::Fault;
 
 pub mod checked;
 pub mod lead;
+pub mod runs;
 pub mod utf8;
 
 ghost use Rattle.text.specs.Span.{TextAnswered, TextGiven};

@@ -1,22 +1,22 @@
 -- Slots in their columns: what a read reads, what stands after a store or an offer. Assumes nothing.
 use mathlib.Core.Path.{_≡_, refl, sym, ap, subst, _∙_}
 use mathlib.Core.Bool.{Bool, true, false, cond}
-use mathlib.Core.List.{List, [], _∷_, map}
-use mathlib.Core.Logic.{_⊎_, inl, inr, ⊎-elim}
-use mathlib.Core.Option.{Option, none, some}
-use Prim.Native.Nat.{ℕ, zero, suc, _+_, _≤_, _<_}
+use mathlib.Core.List.{List, map}
+use mathlib.Core.Logic.{_⊎_, ⊎-elim}
+use mathlib.Core.Option.{none}
+use Prim.Native.Nat.{ℕ, suc, _+_, _≤_, _<_}
 use native.Mathlib.Omega.{arith}
 use borrow.Author.Tests.{eq-eqb, ne-eqb, eqb-true, eqb-false, lt-ltb, le-ltb, lt-leb, le-leb}
-use lib.Dec.{eqb, ltb, leb}
+use lib.Dec.{eqb, ltb}
 use lib.Ieee.{Float}
 use lib.ListN.{length, getD, set, length-map}
 use lib.Seq.{getD-set-same, getD-set-other}
 use Rattle.doubles.specs.Double.{Double, plusZero, less}
 use Rattle.doubles.specs.Units.{units}
 use Rattle.refusal.specs.Sizes.{noId}
-use Rattle.unigram.specs.Cuttings.{Piece, Slot}
-use Rattle.unigram.specs.Records.{offered, candidate, shown}
-use Rattle.unigram.specs.Slots.{Slots, slotsOf, slotAt, Inside, PutAt, taken, afterOffer}
+use Rattle.unigram.specs.Cuttings.{Slot}
+use Rattle.unigram.specs.Records.{shown}
+use Rattle.unigram.specs.Slots.{Slots, slotsOf, slotAt, Inside, PutAt, taken}
 use Rattle.unigram.specs.Work.{Cleared}
 use Rattle.scored.proofs.Lists.{below-or, map-inside, place-inside, map-set}
 use Rattle.unigram.proofs.Best.{same-slot}

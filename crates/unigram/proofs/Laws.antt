@@ -1,4 +1,4 @@
--- What a record takes, and what a run's id is: the two rules of 01 that are easiest to get wrong, each by computing its definition.
+-- What a record takes, and what a run's id is: the two rules of the paper that are easiest to get wrong, each by computing its definition.
 use mathlib.Core.Path.{_≡_, ap}
 use Prim.Native.Nat.{ℕ}
 use mathlib.Core.Bool.{true, false, cond}

@@ -1,17 +1,15 @@
 -- The turns of the work: what a start that has been worked changes in the records, for any rule of what a piece is. A record takes the piece
 -- that ends there and starts at the start worked; a piece goes forward, so a record at or below the start is settled. Assumes nothing.
-use mathlib.Core.Path.{_≡_, refl, sym, ap, _∙_}
+use mathlib.Core.Path.{_≡_, refl, ap, _∙_}
 use mathlib.Core.Bool.{Bool, true, false}
-use mathlib.Core.List.{List}
 use mathlib.Core.Option.{Option, none, some}
 use mathlib.Core.Logic.{_⊎_, inl, inr, ⊎-elim}
 use Prim.Native.Nat.{ℕ, zero, suc, _≤_, _<_}
 use native.Mathlib.Omega.{arith}
-use borrow.Author.Tests.{leb-true, leb-false}
-use lib.Dec.{T, leb}
+use lib.Dec.{T}
 use Rattle.doubles.specs.Double.{isFinite}
 use Rattle.scored.proofs.Lists.{below-or}
-use Rattle.unigram.specs.Cuttings.{Piece, Slot}
+use Rattle.unigram.specs.Cuttings.{Piece}
 use Rattle.unigram.specs.Records.{scoreOf, offered, candidate, best}
 
 -- What is asked of a rule: a piece is not empty, goes from boundary to boundary within the text and has a finite score; and from each boundary

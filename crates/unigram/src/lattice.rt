@@ -8,7 +8,6 @@ ghost use mathlib.Core.List.{map};
 ghost use Prim.Native.Nat.{_≤_, _<_};
 ghost use lib.ListN.{length, getD};
 ghost use Rattle.doubles.specs.Units.{units};
-ghost use Rattle.trie.specs.Trie.{partsOf};
 ghost use Rattle.trie.specs.Walks.{Leads};
 ghost use Rattle.unigram.specs.Cuttings.{Piece};
 ghost use Rattle.unigram.specs.Pieces.{Model};

@@ -1,4 +1,4 @@
--- 01's twelve examples and its pack case hold of the definitions, by computing.
+-- The paper's twelve examples and its pack case hold of the definitions, by computing.
 use mathlib.Core.Path.{_≡_, refl}
 use mathlib.Core.Bool.{true}
 use lib.ListN.{length}

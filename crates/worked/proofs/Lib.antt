@@ -1,3 +1,3 @@
--- 01's examples, proved by computing.
+-- The paper's examples, proved by computing.
 pub mod Opened
 pub mod Examples

@@ -1,4 +1,4 @@
--- 01's table of proved examples, and its pack case.
+-- The paper's table of proved examples, and its pack case.
 pub mod Example
 pub mod Table
 pub mod Case

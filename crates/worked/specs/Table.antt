@@ -1,4 +1,4 @@
--- 01's "Table of proved examples", row for row. Definitions only; assumes nothing.
+-- The paper's "Table of proved examples", row for row. Definitions only; assumes nothing.
 use Prim.Native.Nat.{ℕ, _*_}
 use Prim.Native.String.{String}
 use mathlib.Core.Bool.{true, false}

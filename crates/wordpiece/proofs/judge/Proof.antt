@@ -1,15 +1,14 @@
 -- `wordpiece::judge` meets its contract: each test that is passed is a fact for the next. Assumes nothing.
-use mathlib.Core.Path.{_≡_, sym, ap, _∙_}
-use mathlib.Core.Bool.{true, false}
+use mathlib.Core.Path.{_≡_, sym, _∙_}
+use mathlib.Core.Bool.{true}
 use mathlib.Core.List.{List}
-use Prim.Native.Nat.{ℕ, _≤_, _<_}
+use Prim.Native.Nat.{ℕ}
 use native.Mathlib.Omega.{arith}
 use borrow.Author.Needs.{needs}
 use borrow.Author.Tests.{not-true, not-false}
-use lib.ListN.{length}
 use Rattle.text.specs.Text.{wellFormed}
 use Rattle.text.proofs.Valid.{short-ill, whole-well}
-use Rattle.trie.specs.Trie.{Trie, partsOf}
+use Rattle.trie.specs.Trie.{Trie}
 use Rattle.trie.specs.Sound.{sound}
 use Rattle.wordpiece.proofs.Faults.{fault-word, fault-prefix, fault-trie, fault-text, fault-mark, fault-ids, fault-none}
 use Rattle.wordpiece.proofs.judge.Statement.{statement}

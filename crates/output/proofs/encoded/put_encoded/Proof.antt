@@ -1,10 +1,5 @@
 -- `output::encoded::put_encoded` meets its contract: what `encode_tested` promises of as many places as are lent is what the line prints. Assumes nothing.
-use mathlib.Core.Path.{_≡_, sym, ap}
-use Prim.Native.Nat.{_≤_}
 use native.Mathlib.Omega.{arith}
-use lib.ListN.{length}
-use Rattle.wordpiece.specs.Encode.{Encoded}
-use Rattle.output.specs.Output.{encodedLine}
 use Rattle.output.proofs.Putting.{put-as}
 use Rattle.output.proofs.Printing.{encoded-refused, encoded-ids}
 use borrow.Author.Needs.{needs}

@@ -1,7 +1,6 @@
 -- `output::segmented::put_segmented` meets its contract: what `segment_tested` promises of as much scratch as is lent is what the line prints. Assumes
 -- nothing.
-use mathlib.Core.Path.{_≡_, sym, ap}
-use Prim.Native.Nat.{ℕ, _≤_}
+use Prim.Native.Nat.{_≤_}
 use native.Mathlib.Omega.{arith}
 use lib.ListN.{length}
 use Rattle.output.proofs.Putting.{put-as}

@@ -9,13 +9,22 @@ use Rattle.text.proofs.utf8.valid_up_to.Tie as tie
 past-all-blocks-requires : tie.Need-past-all-blocks-requires
 past-all-blocks-requires c κs = search needs
 
+returns : tie.Need-returns
+returns c =
+    let blocks = c .before in
+    omega (
+      arith,
+      blocks .past-all-blocks .ensures .same,
+      valid-past (blocks .before .before .args .s .now) (blocks .past-all-blocks .result) (omega arith),
+    )
+
 past-runs-requires : tie.Need-past-runs-requires
 past-runs-requires c κs = search needs
 
-returns : tie.Need-returns
-returns c =
+returns-2 : tie.Need-returns-2
+returns-2 c =
     let runs = c .before in
-    let blocks = runs .before in
+    let blocks = runs .before .before in
     omega (
       arith,
       blocks .past-all-blocks .ensures .same,
@@ -26,10 +35,10 @@ returns c =
 valid-from-requires : tie.Need-valid-from-requires
 valid-from-requires c κs = search needs
 
-returns-2 : tie.Need-returns-2
-returns-2 c = search needs
+returns-3 : tie.Need-returns-3
+returns-3 c = search needs
 
 pub valid-up-to-spec : {M : Type 1} → statement M
 valid-up-to-spec =
     tie.close
-    (tie.spec past-all-blocks-requires past-runs-requires returns valid-from-requires returns-2)
+    (tie.spec past-all-blocks-requires returns past-runs-requires returns-2 valid-from-requires returns-3)

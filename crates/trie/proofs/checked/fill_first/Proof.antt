@@ -1,13 +1,10 @@
 -- `trie::checked::fill_first` meets its contract. The loop's invariant: each byte leads where a search among the edges after the first `left` says.
 -- Assumes nothing.
-use mathlib.Core.Path.{_≡_, refl, sym, ap, subst, _∙_}
-use mathlib.Core.List.{List}
-use Prim.Native.Nat.{ℕ, suc, _+_, _-_, _≤_, _<_}
+use mathlib.Core.Path.{_≡_, refl, ap, _∙_}
+use Prim.Native.Nat.{suc, _+_, _-_, _≤_, _<_}
 use native.Mathlib.Omega.{arith}
-use borrow.Author.Needs.{needs}
-use lib.ListN.{length, getD, set, replicate, length-set, length-replicate}
+use lib.ListN.{length, getD, length-set, length-replicate}
 use Rattle.refusal.specs.Sizes.{noId}
-use Rattle.trie.specs.Walks.{Leads}
 use Rattle.trie.proofs.Leading.{Led, led-nowhere, led-more}
 use Rattle.trie.proofs.checked.fill_first.Statement.{statement}
 use Rattle.trie.proofs.checked.fill_first.Tie as tie

@@ -1,12 +1,9 @@
 -- `trie::checked::seek` meets its contract. The loop's invariant: the byte's target among all the edges is its target among the `left` edges
 -- from `low` on. Their number falls. Assumes nothing.
 use mathlib.Core.Path.{_≡_, refl, sym, ap, _∙_}
-use mathlib.Core.Bool.{cond}
-use mathlib.Core.List.{List}
-use Prim.Native.Nat.{ℕ, _+_, _-_, _*_, _/_, _≤_, _<_}
+use Prim.Native.Nat.{ℕ, _+_, _-_, _*_, _/_, _≤_}
 use native.Mathlib.Omega.{arith}
 use borrow.Author.Needs.{needs}
-use lib.ListN.{length, getD}
 use Rattle.trie.specs.Trie.{seek}
 use Rattle.trie.proofs.Seeking.{quarters}
 use Rattle.trie.proofs.checked.seek.Statement.{statement}

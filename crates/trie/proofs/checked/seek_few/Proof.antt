@@ -1,10 +1,8 @@
 -- `trie::checked::seek_few` meets its contract: each edge in turn has the byte or is passed over, until none is left. Assumes nothing.
-use mathlib.Core.Path.{_≡_, sym, ap, _∙_}
-use mathlib.Core.List.{List}
+use mathlib.Core.Path.{_≡_, sym, _∙_}
 use mathlib.Core.Option.{Option, none}
 use Prim.Native.Nat.{ℕ, _+_, _-_, _≤_}
 use native.Mathlib.Omega.{arith}
-use lib.ListN.{length, getD}
 use Rattle.trie.specs.Trie.{seek}
 use Rattle.trie.proofs.Seeking.{seek-first, seek-past, seek-over}
 use Rattle.trie.proofs.checked.seek_few.Statement.{statement}

@@ -1,19 +1,15 @@
 -- `unigram::checked::segment_tested` meets its contract: refused with 1, 8 or 4 exactly where the first test that fails says so, else as `cut`. Assumes
 -- nothing.
-use mathlib.Core.Path.{_≡_, refl, sym, ap, _∙_}
-use mathlib.Core.Bool.{Bool, true, false, not}
+use mathlib.Core.Path.{_≡_, sym, _∙_}
+use mathlib.Core.Bool.{true}
 use mathlib.Core.List.{List}
-use mathlib.Core.Option.{none}
-use Prim.Native.Nat.{ℕ, _≤_, _<_}
+use Prim.Native.Nat.{ℕ}
 use native.Mathlib.Omega.{arith}
-use lib.Dec.{ltb}
-use lib.ListN.{length}
-use Rattle.text.specs.Text.{characters}
 use Rattle.trie.specs.Sound.{soundScored}
 use Rattle.unigram.specs.Pieces.{Model}
-use Rattle.unigram.specs.Work.{modelOf, pieceWith, Ready}
-use Rattle.unigram.specs.Segment.{Scratch, shortScratch, segmentFault}
-use Rattle.unigram.specs.Core.{scratchOf, Prepared}
+use Rattle.unigram.specs.Work.{modelOf, pieceWith}
+use Rattle.unigram.specs.Segment.{Scratch}
+use Rattle.unigram.specs.Core.{scratchOf}
 use borrow.Author.Tests.{not-true, not-false}
 use Rattle.unigram.proofs.Refusing.{fault-size, fault-trie, fault-text, ready-of, refused-for}
 use borrow.Author.Needs.{needs}

@@ -1,10 +1,9 @@
 -- `trie::checked::Walk::step_by` meets its contract: from the root the table says what a search would, and from any other node it is the step. Assumes
 -- nothing.
-use mathlib.Core.Path.{_≡_, refl, sym, ap, _∙_}
+use mathlib.Core.Path.{sym, ap, _∙_}
 use Prim.Native.Nat.{ℕ}
 use native.Mathlib.Omega.{arith}
 use borrow.Author.Needs.{needs}
-use lib.ListN.{length, getD}
 use Rattle.trie.specs.Trie.{partsOf, step}
 use Rattle.trie.proofs.checked.Walk.step_by.Statement.{statement}
 use Rattle.trie.proofs.checked.Walk.step_by.Tie as tie

@@ -1,0 +1,85 @@
+-- `text::runs::is_four` meets its contract: the tests are those of `four-at`. Assumes nothing.
+use mathlib.Core.Path.{sym, _∙_}
+use native.Mathlib.Omega.{arith}
+use borrow.Author.Needs.{needs}
+use borrow.Author.Tests.{not-false}
+use Rattle.text.proofs.Characters.{false-true}
+use Rattle.text.proofs.Plain.{four-at}
+use Rattle.text.proofs.runs.is_four.Statement.{statement}
+use Rattle.text.proofs.runs.is_four.Tie as tie
+
+-- the ways back: from behind the test of the third byte to those of the second, from there to that of the first, and to the start
+abbrev second-test : tie.Else4 → tie.Else3
+second-test c = c .before .before .before
+
+abbrev first-test : tie.Else3 → tie.Else1
+first-test c = c .before .before .before
+
+abbrev start : tie.Else4 → tie.Start
+start c = let f = first-test (second-test c) in f .before .before .before
+
+shared-slice-read-if1 : tie.Need-shared-slice-read-if1
+shared-slice-read-if1 c = search needs
+
+returns : tie.Need-returns
+returns c e = false-true e
+
+add-x : tie.Need-add-x
+add-x c = search needs
+
+shared-slice-read-x : tie.Need-shared-slice-read-x
+shared-slice-read-x c = search needs
+
+returns-2 : tie.Need-returns-2
+returns-2 c e = false-true e
+
+returns-3 : tie.Need-returns-3
+returns-3 c e = false-true e
+
+add-is-tail : tie.Need-add-is-tail
+add-is-tail c = search needs
+
+shared-slice-read-is-tail : tie.Need-shared-slice-read-is-tail
+shared-slice-read-is-tail c = search needs
+
+is-tail-requires : tie.Need-is-tail-requires
+is-tail-requires c κs = search needs
+
+returns-4 : tie.Need-returns-4
+returns-4 c e = false-true e
+
+add-is-tail-2 : tie.Need-add-is-tail-2
+add-is-tail-2 c = search needs
+
+shared-slice-read-is-tail-2 : tie.Need-shared-slice-read-is-tail-2
+shared-slice-read-is-tail-2 c = search needs
+
+is-tail-requires-2 : tie.Need-is-tail-requires-2
+is-tail-requires-2 c κs = search needs
+
+returns-5 : tie.Need-returns-5
+returns-5 c e =
+    let third = c .before .before in
+    let a = start third .args in
+    four-at (a .s .now) (a .i) (omega arith) (omega arith) (omega arith) (omega arith)
+    (sym (third .before .is-tail .ensures) ∙ not-false _ (third .if4 .left))
+    (sym (c .is-tail2 .ensures) ∙ e)
+
+pub is-four-spec : {M : Type 1} → statement M
+is-four-spec =
+    tie.close
+    (tie.spec
+    shared-slice-read-if1
+    returns
+    add-x
+    shared-slice-read-x
+    returns-2
+    returns-3
+    add-is-tail
+    shared-slice-read-is-tail
+    is-tail-requires
+    returns-4
+    add-is-tail-2
+    shared-slice-read-is-tail-2
+    is-tail-requires-2
+    returns-5)

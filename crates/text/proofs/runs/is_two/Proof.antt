@@ -1,0 +1,47 @@
+-- `text::runs::is_two` meets its contract: the tests are those of `two-at`. Assumes nothing.
+use mathlib.Core.Path.{sym, _∙_}
+use native.Mathlib.Omega.{arith}
+use borrow.Author.Needs.{needs}
+use Rattle.text.proofs.Characters.{false-true}
+use Rattle.text.proofs.Plain.{two-at}
+use Rattle.text.proofs.runs.is_two.Statement.{statement}
+use Rattle.text.proofs.runs.is_two.Tie as tie
+
+-- the way back to the function's start from behind the tests of the lead byte
+abbrev start : tie.Else2 → tie.Start
+start c = c .before .before .before .before
+
+shared-slice-read-b : tie.Need-shared-slice-read-b
+shared-slice-read-b c = search needs
+
+returns : tie.Need-returns
+returns c e = false-true e
+
+returns-2 : tie.Need-returns-2
+returns-2 c e = false-true e
+
+add-is-tail : tie.Need-add-is-tail
+add-is-tail c = search needs
+
+shared-slice-read-is-tail : tie.Need-shared-slice-read-is-tail
+shared-slice-read-is-tail c = search needs
+
+is-tail-requires : tie.Need-is-tail-requires
+is-tail-requires c κs = search needs
+
+returns-3 : tie.Need-returns-3
+returns-3 c e =
+    let a = start (c .before .before) .args in
+    two-at (a .s .now) (a .i) (omega arith) (omega arith) (omega arith) (sym (c .is-tail .ensures) ∙ e)
+
+pub is-two-spec : {M : Type 1} → statement M
+is-two-spec =
+    tie.close
+    (tie.spec
+    shared-slice-read-b
+    returns
+    returns-2
+    add-is-tail
+    shared-slice-read-is-tail
+    is-tail-requires
+    returns-3)
