@@ -81,9 +81,13 @@ def is_refused(said, status):
 
 
 def first_error(said):
-    """Where the first error is: the fact that no longer holds."""
-    places = [line.split(": error")[0] for line in said.split("\n") if ": error" in line]
-    return places[0] if places else "no place given"
+    """Where the first error is: the fact that no longer holds. Of a proof that the prover makes by itself a note says so."""
+    for line in said.split("\n"):
+        if ": error" in line:
+            return line.split(": error")[0]
+        if line.startswith("note: ") and ": it is not proved" in line:
+            return line.removeprefix("note: ").split(": it is not proved")[0]
+    return "no place given"
 
 
 def try_one(root, edit, logs):

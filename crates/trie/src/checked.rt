@@ -95,8 +95,8 @@ fn first_step(first: &[u32], b: u8) -> Step
     Step::To(Walk { node: x })
 }
 
-// Makes the table of where each byte leads from the root, from marks alone. From the last edge to the first, as a search has it: of two edges with one byte
-// the first would count.
+// Makes the table of where each byte leads from the root, from marks alone. It goes from the last edge to the first: were there two with one byte,
+// a search would find the first, and so would the table.
 pub fn fill_first(edge_at: &[u32], edge_n: &[u16], byte: &[u8], to: &[u32], first: &mut [u32])
     requires { ⌜ Stands (now «edge_at») (now «edge_n») (now byte) (now to) 0 × (now first ≡ replicate 256 noId) ⌝ }
     ensures { λ _. ⌜ Leads (now (byte .entry)) (now (to .entry)) (getD (now («edge_at» .entry)) 0 0) (getD (now («edge_n» .entry)) 0 0) (now (first .exit)) ⌝ }

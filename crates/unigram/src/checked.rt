@@ -2,16 +2,16 @@
 use crate::SegmentAnswer;
 use refusal::Fault;
 ghost use mathlib.Core.Path.{_≡_};
+ghost use mathlib.Core.List.{map};
+ghost use Rattle.doubles.specs.Units.{units};
 ghost use Rattle.trie.specs.Trie.{partsOf};
 ghost use Rattle.trie.specs.Sound.{soundScored};
-ghost use Rattle.doubles.specs.Units.{units};
-ghost use mathlib.Core.List.{map};
 ghost use Rattle.unigram.specs.Segment.{Segmented};
 ghost use Rattle.unigram.specs.Work.{modelOf, pieceWith};
 ghost use Rattle.unigram.specs.Core.{scratchOf, Prepared, Cut};
 
-// Nothing here refuses: sound parts, a well-formed text within the limit, and enough places. The ids of the best cutting of the text go to the first id places, the ends of its pieces to the first path places, the records to the slots.
-// Answers how many ids there are.
+// Nothing is refused here: the parts are sound, the text is well-formed and within the limit, and there are enough places. The ids of the best
+// cutting go to the first id places, the ends of its pieces to the first path places, the records to the slots. Answers how many ids there are.
 pub fn segment(
     edge_at: &[u32],
     edge_n: &[u16],
