@@ -97,7 +97,20 @@ fn valid_from(s: &[u8], i: usize) -> usize
     valid_by(&lead::LEAD, s, i)
 }
 
-// The length of the longest prefix made of whole well-formed characters. A text whose every character the runs pass needs no table.
+// The same. A text whose every character the strides pass needs no table.
+fn valid_after(s: &[u8], i: usize) -> usize
+    requires { ⌜ i ≤ length (now s) ⌝ }
+    ensures { λ r. ⌜ r ≡ i + validUpTo (drop i (now (s .entry))) ⌝ }
+{
+    let at = past_runs(s, i);
+    if at == s.len() {
+        return at;
+    }
+    valid_from(s, at)
+}
+
+// The length of the longest prefix made of whole well-formed characters. What most texts need, blocks of ASCII, stands by itself: so short, it is
+// compiled into its callers.
 pub fn valid_up_to(s: &[u8]) -> usize
     ensures { λ r. ⌜ r ≡ validUpTo (now (s .entry)) ⌝ }
 {
@@ -105,11 +118,7 @@ pub fn valid_up_to(s: &[u8]) -> usize
     if ascii == s.len() {
         return ascii;
     }
-    let i = past_runs(s, ascii);
-    if i == s.len() {
-        return i;
-    }
-    valid_from(s, i)
+    valid_after(s, ascii)
 }
 
 // A character begins at i, or the text ends there.

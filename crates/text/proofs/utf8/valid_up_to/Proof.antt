@@ -1,5 +1,4 @@
--- `text::utf8::valid_up_to` meets its contract: what is valid is the blocks of ASCII in front, the runs after them, and what is valid after
--- those. Assumes nothing.
+-- `text::utf8::valid_up_to` meets its contract: what is valid is the blocks of ASCII in front and what is valid after them. Assumes nothing.
 use native.Mathlib.Omega.{arith}
 use borrow.Author.Needs.{needs}
 use Rattle.text.proofs.Valid.{valid-past}
@@ -18,27 +17,11 @@ returns c =
       valid-past (blocks .before .before .args .s .now) (blocks .past-all-blocks .result) (omega arith),
     )
 
-past-runs-requires : tie.Need-past-runs-requires
-past-runs-requires c κs = search needs
+valid-after-requires : tie.Need-valid-after-requires
+valid-after-requires c κs = search needs
 
 returns-2 : tie.Need-returns-2
-returns-2 c =
-    let runs = c .before in
-    let blocks = runs .before .before in
-    omega (
-      arith,
-      blocks .past-all-blocks .ensures .same,
-      runs .past-runs .ensures .same,
-      valid-past (blocks .before .before .args .s .now) (runs .past-runs .result) (omega arith),
-    )
-
-valid-from-requires : tie.Need-valid-from-requires
-valid-from-requires c κs = search needs
-
-returns-3 : tie.Need-returns-3
-returns-3 c = search needs
+returns-2 c = search needs
 
 pub valid-up-to-spec : {M : Type 1} → statement M
-valid-up-to-spec =
-    tie.close
-    (tie.spec past-all-blocks-requires returns past-runs-requires returns-2 valid-from-requires returns-3)
+valid-up-to-spec = tie.close (tie.spec past-all-blocks-requires returns valid-after-requires returns-2)
