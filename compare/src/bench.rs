@@ -13,33 +13,55 @@ pub fn nanoseconds<R>(call: impl FnMut() -> R) -> f64 {
     runs(call)[0]
 }
 
-/// Nanoseconds a call in 15 runs, the least first.
+/// Nanoseconds a call in each run, the least first.
 fn runs<R>(mut call: impl FnMut() -> R) -> Vec<f64> {
+    let calls = enough(&mut call);
+    sorted((0..RUNS).map(|_| run(calls, &mut call)).collect())
+}
+
+/// How often each is timed.
+const RUNS: usize = 15;
+
+/// As many calls as take some 2 milliseconds.
+fn enough<R>(call: &mut impl FnMut() -> R) -> u32 {
     let began = Instant::now();
     let mut calls = 1u32;
-    // as many calls as take some 2 milliseconds
     loop {
         let start = Instant::now();
         (0..calls).for_each(|_| _ = black_box(call()));
         if start.elapsed().as_micros() > 2000 || began.elapsed().as_millis() > 200 {
-            break;
+            return calls;
         }
         calls *= 2;
     }
-    let run = |_| {
-        let start = Instant::now();
-        (0..calls).for_each(|_| _ = black_box(call()));
-        start.elapsed().as_nanos() as f64 / f64::from(calls)
-    };
-    let mut all: Vec<f64> = (0..15).map(run).collect();
+}
+
+/// Nanoseconds a call, over this many calls.
+fn run<R>(calls: u32, call: &mut impl FnMut() -> R) -> f64 {
+    let start = Instant::now();
+    (0..calls).for_each(|_| _ = black_box(call()));
+    start.elapsed().as_nanos() as f64 / f64::from(calls)
+}
+
+/// The least first.
+fn sorted(mut all: Vec<f64>) -> Vec<f64> {
     all.sort_by(f64::total_cmp);
     all
 }
 
+/// Nanoseconds a call of both, timed in turn, so that a machine that slows down slows both: the runs of each, the least first.
+fn both<A, B>(mut rust: impl FnMut() -> A, mut port: impl FnMut() -> B) -> [Vec<f64>; 2] {
+    let calls = (enough(&mut rust), enough(&mut port));
+    let pairs = (0..RUNS).map(|_| (run(calls.0, &mut rust), run(calls.1, &mut port)));
+    let (a, b) = pairs.unzip();
+    [sorted(a), sorted(b)]
+}
+
 /// One line of `bench`: what, at which size of what, nanoseconds for each of how many: the least and the median of both.
 fn line<A, B>(what: &str, of: &str, size: usize, each: f64, rust: impl FnMut() -> A, port: impl FnMut() -> B) {
-    let (a, b) = (runs(rust), runs(port));
-    let of_each = [a[0], a[7], b[0], b[7]].map(|ns| format!("{:.3}", ns / each)).join("\t");
+    let [a, b] = both(rust, port);
+    let middle = RUNS / 2;
+    let of_each = [a[0], a[middle], b[0], b[middle]].map(|ns| format!("{:.3}", ns / each)).join("\t");
     println!("{what}\t{of}\t{size}\t{of_each}\t{:.2}", b[0] / a[0]);
 }
 
@@ -94,7 +116,7 @@ fn sized(r: &mut Random, u: &tokie::Unigram, w: &tokie::Wordpiece, tokens: usize
         );
         let sound = runs(|| port::sound_scored(black_box(&p)));
         let nodes = p.edge_at.len() as f64;
-        println!("sound_scored\ttokens\t{tokens}\t\t\t{:.3}\t{:.3}\t", sound[0] / nodes, sound[7] / nodes);
+        println!("sound_scored\ttokens\t{tokens}\t\t\t{:.3}\t{:.3}\t", sound[0] / nodes, sound[RUNS / 2] / nodes);
     }
     let (tested, words) = (port::Tested::scored(&p), port::Tested::new(&q));
     let given = port::Given { unknown: 0, max_chars: 100, prefix: b"##" };
@@ -167,8 +189,7 @@ pub fn texts() {
     for (name, kind) in &text::KINDS[..4] {
         for bytes in [16, 64, 256, 1024, 4096, 65536] {
             let s = text::made_of(&mut r, kind, bytes);
-            let a = nanoseconds(|| std::str::from_utf8(black_box(&s)));
-            let b = nanoseconds(|| port::valid_up_to(black_box(&s)));
+            let [a, b] = both(|| std::str::from_utf8(black_box(&s)), || port::valid_up_to(black_box(&s))).map(|runs| runs[0]);
             println!("| {name} | {} | {a:.1} | {b:.1} | {:.2} |", s.len(), b / a);
         }
     }
@@ -206,18 +227,19 @@ pub fn wordpieces() {
     for (name, make) in kinds {
         let words: Vec<String> = (0..10_000).map(|_| make(&mut r)).collect();
         let mut out = Vec::new();
-        let rust = nanoseconds(|| {
+        let mut ids = vec![0u32; 256];
+        let port = || words.iter().map(|w| tested.encode(given, w, &mut ids)).sum::<usize>();
+        let wide = || {
             out.clear();
             words.iter().for_each(|w| trie.encode_into(w, 100, &mut out));
             out.len()
-        });
+        };
+        let [rust, port] = both(wide, port).map(|runs| runs[0]);
         let without = nanoseconds(|| {
             out.clear();
             words.iter().for_each(|w| narrow(w, 100, &mut out));
             out.len()
         });
-        let mut ids = vec![0u32; 256];
-        let port = nanoseconds(|| words.iter().map(|w| tested.encode(given, w, &mut ids)).sum::<usize>());
         let [a, b, c] = [rust, without, port].map(|ns| ns / 10_000.0);
         println!("| {name} | {a:.0} | {b:.0} | {c:.0} | {:.2} | {:.2} |", c / a, c / b);
     }
@@ -257,12 +279,13 @@ pub fn segments() {
     for (name, texts) in rows {
         let (n, bytes) = (texts.len() as f64, texts.iter().map(String::len).sum::<usize>() as f64);
         let mut out = Vec::new();
-        let rust = nanoseconds(|| {
+        let rust = || {
             out.clear();
             texts.iter().for_each(|t| lattice.segment_into(t, &mut out));
             out.len()
-        });
-        let port = nanoseconds(|| texts.iter().map(|t| tested.segment(v.unknown, t, &mut b)).sum::<usize>());
+        };
+        let port = || texts.iter().map(|t| tested.segment(v.unknown, t, &mut b)).sum::<usize>();
+        let [rust, port] = both(rust, port).map(|runs| runs[0]);
         println!(
             "| {name} | {:.0} | {:.0} | {:.0} | {:.2} | {:.1} |",
             bytes / n,
