@@ -6,3 +6,4 @@ pub mod Printing
 pub mod Following
 pub mod Whole
 pub mod Packs
+pub mod Determinacy
