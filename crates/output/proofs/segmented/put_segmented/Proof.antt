@@ -23,6 +23,13 @@ entry c =
     let k = a .before .before .before .before .before .before in
     k .before .before .before .before .before .before .before .before
 
+-- from what was put to the answer that it is for
+abbrev told : tie.After-put-refusal → tie.After-answer
+told c = c .before .before .before .before
+
+abbrev told-ids : tie.After-put-first → tie.After-answer2
+told-ids c = c .before .before .before .before
+
 segment-tested-requires : tie.Need-segment-tested-requires
 segment-tested-requires c κs = search needs
 
@@ -70,7 +77,7 @@ same-length-6 c = search needs
 returns : tie.Need-returns
 returns c =
     let p = c .before .before in
-    let b = p .before .before .before .before in
+    let b = told p in
     let e = entry (refused b) in (
       put-as (segmented-refused (e .pre .1 .0) (refused b .segment-tested .ensures) (b .answer .given .1)) (p .put-refusal .ensures .0),
       omega (arith, p .put-refusal .ensures .1),
@@ -97,7 +104,7 @@ same-length-12 c = search needs
 returns-2 : tie.Need-returns-2
 returns-2 c =
     let p = c .before .before in
-    let b = p .before .before .before .before in
+    let b = told-ids p in
     let e = entry (called b) in
     let s = segmented-ids (e .pre .1 .0) (called b .segment-tested .ensures) (b .answer2 .given .1) in
     (put-as (s .text) (p .put-first .ensures .0), omega (arith, p .put-first .ensures .1, s .few))

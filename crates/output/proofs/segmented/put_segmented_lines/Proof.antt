@@ -33,9 +33,16 @@ head c = c .before .before
 abbrev entry : Head → tie.Start Inv-loop μ-loop
 entry c = let k = c .before .before .before .before .before in k .before .before .before .before .before
 
--- from after a line was put to where it ends
+-- from before and after a line is put to where it ends
+abbrev asked : tie.After-put-segmented-arg Inv-loop μ-loop → tie.After-line-end Inv-loop μ-loop
+asked c = c .before .before .before .before .before .before .before
+
 abbrev after : tie.After-put-segmented Inv-loop μ-loop → tie.After-line-end Inv-loop μ-loop
-after c = c .before .before .before .before .before .before .before .before
+after c = asked (c .before)
+
+-- and to that from where all that was lent for it is home
+abbrev put : tie.After-slice-known2 Inv-loop μ-loop → tie.After-put-segmented Inv-loop μ-loop
+put c = c .before .before .before .before .before .before .before
 
 -- what a line prints
 abbrev prints : Head → List ℕ → List ℕ
@@ -86,7 +93,7 @@ slice-aggregate-put-segmented-5 c = search needs
 
 put-segmented-requires : tie.Need-put-segmented-requires Inv-loop μ-loop
 put-segmented-requires c κs =
-    let e = c .before .before .before .before .before .before .before in
+    let e = asked c in
     let h = head e in
     let s = entry h in (
       h .before .sound-scored .ensures,
@@ -99,17 +106,17 @@ put-segmented-requires c κs =
 
 add-from : tie.Need-add-from Inv-loop μ-loop
 add-from c =
-    let e = after (c .before .before .before .before .before .before .before) in
+    let e = after (put c) in
     omega (arith, ends e, entry (head e) .good)
 
 loop-less : tie.Need-loop-less Inv-loop μ-loop
 loop-less c =
-    let e = after (c .before .before .before .before .before .before .before) in
+    let e = after (put c) in
     omega (arith, e .line-end .ensures, e .before .loop-test .taken)
 
 loop-again : tie.Need-loop-again Inv-loop μ-loop
 loop-again c =
-    let p = c .before .before .before .before .before .before .before in
+    let p = put c in
     let e = after p in
     let h = head e in
     let a = entry h .args in

@@ -38,8 +38,14 @@ built c =
     let l = k .before .before .before .before .before .before in
     l .before .before .before .before .before .before
 
+abbrev asked : tie.After-build-first-arg10 → tie.Else1
+asked c = let k = c .before .before .before .before .before in k .before .before .before .before .before
+
 abbrev roomed : tie.After-build-first → tie.Else1
-roomed c = let k = c .before .before .before .before .before .before in k .before .before .before .before .before
+roomed c = asked (c .before)
+
+abbrev begun : tie.After-is-short → tie.Start
+begun c = entry (c .before .before .before)
 
 -- the lent columns, and the first places of those for the rows
 
@@ -57,9 +63,9 @@ lent e = let a = e .args in memory (a .edge-at .now) (a .edge-n .now) (a .node-i
 fine : (c : tie.After-enum-told) → reasonIn (entry (c .before .before) .args .found) ≡ none
 fine c = ap reasonIn (c .enum-told .given .1)
 
-measured : (c : tie.After-is-short) → let e = entry (c .before .before .before) in c .is-short .result ≡ shortOf (e .args .n) (places e)
+measured : (c : tie.After-is-short) → let e = begun c in c .is-short .result ≡ shortOf (e .args .n) (places e)
 measured c =
-    let a = entry (c .before .before .before) .args in
+    let a = begun c .args in
     c .is-short .ensures ∙ short-is (a .n) (a .off .now) (a .len .now) (a .score .now)
 
 -- ---- the needs
@@ -118,15 +124,15 @@ returns-2 : tie.Need-returns-2
 returns-2 c =
     let r = refused c in
     let t = tested r in
-    let e = entry (t .before .before .before .before) in
+    let e = begun (t .before) in
     let a = e .args in
     copied-short (a .n) (a .tab .now) (firsts e) (places e) (lent e) (map units (a .node-score .now)) (fine (t .before .before))
     (sym (measured (t .before)) ∙ t .if1 .taken) (r .refuse-short .ensures .0) (r .refuse-short .ensures .1) (r .refuse-short .ensures .2) (r .refuse-short .ensures .3)
 
 build-first-requires : tie.Need-build-first-requires
 build-first-requires c κs =
-    let t = c .before .before .before .before .before .before .before .before .before .before in
-    let e = entry (t .before .before .before .before) in
+    let t = asked c in
+    let e = begun (t .before) in
     let roomy = sym (measured (t .before)) ∙ t .if1 .left in
     (roomy, e .pre .fine (fine (t .before .before)) roomy)
 
@@ -168,7 +174,7 @@ returns-3 c =
     let k = emptied c in
     let b = built k in
     let t = roomed b in
-    let e = entry (t .before .before .before .before) in
+    let e = begun (t .before) in
     let a = e .args in
     let roomy = sym (measured (t .before)) ∙ t .if1 .left in
     let found = fine (t .before .before) in
