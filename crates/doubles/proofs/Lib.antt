@@ -12,5 +12,7 @@ pub mod Largest
 pub mod Floats
 -- bit patterns
 pub mod Patterns
+-- each promise fixes its answer
+pub mod Determinacy
 -- worked examples of IEEE 754, in one table
 mod Vectors

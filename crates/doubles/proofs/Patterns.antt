@@ -65,6 +65,12 @@ equal-no-nan nan e = absurd (subst T (sym e) tt)
 equal-no-nan (inf s) e = tt
 equal-no-nan (fin s m k) e = tt
 
+pub equal-number : (x : Float) → eq x x ≡ true → T (isNumber (units x))
+unfolding eq units isNumber
+equal-number nan e = absurd (subst T (sym e) tt)
+equal-number (inf s) e = tt
+equal-number (fin s m k) e = tt
+
 pub unequal-nan : (x : Float) → eq x x ≡ false → units x ≡ notANumber
 unfolding eq units
 unequal-nan nan e = refl
