@@ -10,6 +10,7 @@ use native.Mathlib.Omega.{arith}
 use borrow.Author.Tests.{lt-ltb, le-ltb, ltb-false, eq-eqb, ne-eqb, not-false}
 use lib.Dec.{ltb}
 use lib.ListN.{length, take, drop, length-take, length-drop}
+use denote.Ref.{RefT}
 use Rattle.refusal.specs.declared.Fault.{Fault}
 use Rattle.refusal.specs.declared.Fault.the-variants.{Size, Span, Text}
 use Rattle.refusal.specs.Sizes.{maxTable}
@@ -18,7 +19,7 @@ use Rattle.refusal.proofs.Tests.{passed}
 use Rattle.text.specs.declared.SpanAnswer.{SpanAnswer}
 use Rattle.text.specs.declared.SpanAnswer.the-variants.{Accepted, Refused}
 use Rattle.text.specs.Text.{validUpTo, wellFormed}
-use Rattle.text.specs.Span.{spanOf, spanFault, answerOf, givenFor, TextAnswered, TextGiven}
+use Rattle.text.specs.Span.{spanOf, endFault, spanFault, answerOf, givenFor, startFor, TextAnswered, PartGiven}
 use Rattle.text.proofs.Valid.{valid-le}
 
 -- ---- which fault
@@ -111,20 +112,42 @@ module _ {tab : List ℕ} {off len : ℕ} {answer : SpanAnswer} (a : TextAnswere
   pub accepted-exactly : (answer ≡ Accepted) ↔ (spanFault tab off len ≡ none)
   accepted-exactly = (accepted-none, none-accepted)
 
--- the promise met twice gives the same answer, and the same part
+-- the promise met twice gives the same answer, and the same part: the same bytes at the same place
 pub answer-determined : {tab : List ℕ} {off len : ℕ} {a b : SpanAnswer} → TextAnswered tab off len a → TextAnswered tab off len b → a ≡ b
 answer-determined p q = p .answered ∙ sym (q .answered)
 
-pub part-determined : {tab : List ℕ} {off len : ℕ} {a b : List ℕ} → TextGiven tab off len a → TextGiven tab off len b → a ≡ b
-part-determined p q = p .gave ∙ sym (q .gave)
+module _ {fault : Option Fault} {table : RefT (List ℕ)} {off len : ℕ} {a b : RefT (List ℕ)}
+    (p : PartGiven fault table off len a) (q : PartGiven fault table off len b) where
+  pub part-determined : a .now ≡ b .now
+  part-determined = p .gave ∙ sym (q .gave)
+
+  pub place-determined : (a .ptr .0 ≡ b .ptr .0) × (a .ptr .1 ≡ b .ptr .1)
+  place-determined = (p .block ∙ sym (q .block), p .stands ∙ sym (q .stands))
 
 -- ---- the part
 
-module _ {tab : List ℕ} {off len : ℕ} {given : List ℕ} (g : TextGiven tab off len given) where
-  pub given-accepted : spanFault tab off len ≡ none → given ≡ spanOf tab off len
-  unfolding givenFor
-  given-accepted e = g .gave ∙ ap (λ (o : Option Fault). givenFor o (spanOf tab off len)) e
+-- an empty part in front, for a refused span
+pub nothing-given : (fault : Option Fault) (f : Fault) → fault ≡ some f → (bytes : List ℕ) (off : ℕ) → (givenFor fault bytes ≡ []) × (startFor fault off ≡ 0)
+unfolding givenFor startFor
+nothing-given fault f e bytes off = (ap (λ (o : Option Fault). givenFor o bytes) e, ap (λ (o : Option Fault). startFor o off) e)
 
-  pub given-refused : (f : Fault) → spanFault tab off len ≡ some f → given ≡ []
-  unfolding givenFor
-  given-refused f e = g .gave ∙ ap (λ (o : Option Fault). givenFor o (spanOf tab off len)) e
+-- the span itself, for an accepted one
+pub span-given : (fault : Option Fault) → fault ≡ none → (bytes : List ℕ) (off : ℕ) → (givenFor fault bytes ≡ bytes) × (startFor fault off ≡ off)
+unfolding givenFor startFor
+span-given fault e bytes off = (ap (λ (o : Option Fault). givenFor o bytes) e, ap (λ (o : Option Fault). startFor o off) e)
+
+-- a span that ends inside the table has no fault of its end
+pub inside-end : (tab : List ℕ) (off len : ℕ) → off + len ≤ length tab → endFault tab off len ≡ none
+unfolding endFault
+inside-end tab off len h = rw (le-ltb (length tab) (off + len) h)
+
+pub outside-end : (tab : List ℕ) (off len : ℕ) → length tab < off + len → endFault tab off len ≡ some Span
+unfolding endFault
+outside-end tab off len h = rw (lt-ltb (length tab) (off + len) h)
+
+-- what is given of a span that ends inside the table: its bytes
+pub inside-given :
+    {table part : RefT (List ℕ)} {off len : ℕ} → PartGiven (endFault (table .now) off len) table off len part
+    → off + len ≤ length (table .now) → part .now ≡ spanOf (table .now) off len
+inside-given {table = table} {off = off} {len = len} g h =
+    g .gave ∙ span-given (endFault (table .now) off len) (inside-end (table .now) off len h) (spanOf (table .now) off len) off .0

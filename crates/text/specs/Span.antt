@@ -1,11 +1,12 @@
--- The span check over a lent string table, and what its two calls promise. Definitions only; assumes nothing.
+-- The span check over a lent string table, and what its calls promise. Definitions only; assumes nothing.
 use mathlib.Core.Path.{_≡_}
 use Prim.Native.Nat.{ℕ, _+_}
-use mathlib.Core.Bool.{not}
+use mathlib.Core.Bool.{Bool, not}
 use mathlib.Core.List.{List, []}
 use mathlib.Core.Option.{Option, none, some}
 use lib.Dec.{ltb}
 use lib.ListN.{length, take, drop}
+use denote.Ref.{RefT}
 use Rattle.refusal.specs.declared.Fault.{Fault}
 use Rattle.refusal.specs.declared.Fault.the-variants.{Size, Span, Text}
 use Rattle.refusal.specs.Sizes.{maxTable, above}
@@ -18,12 +19,21 @@ use Rattle.text.specs.Text.{wellFormed}
 abbrev pub spanOf : List ℕ → ℕ → ℕ → List ℕ
 spanOf tab off len = take len (drop off tab)
 
+-- 2: "offset + length passes the end of the string table"
+abbrev pub outside : List ℕ → ℕ → ℕ → Bool
+outside tab off len = ltb (length tab) (off + len)
+
+-- of a span that need not be text: 2 alone
+unfoldable pub endFault : List ℕ → ℕ → ℕ → Option Fault
+unfolding refuse
+endFault tab off len = refuse (outside tab off len) Span none
+
 -- "A span is tested in the order 1 (the table), 2, 4."
 unfoldable pub spanFault : List ℕ → ℕ → ℕ → Option Fault
 unfolding refuse wellFormed
 spanFault tab off len =
     refuse (above maxTable (length tab)) Size
-    (refuse (ltb (length tab) (off + len)) Span
+    (refuse (outside tab off len) Span
     (refuse (not (wellFormed (spanOf tab off len))) Text none))
 
 -- "a call beside it answers accepted or the number"
@@ -31,15 +41,23 @@ unfoldable pub answerOf : Option Fault → SpanAnswer
 answerOf none = Accepted
 answerOf (some f) = Refused f
 
+-- The part that a span is, where no fault is found of it; else the empty part. And how far from the table's start it stands.
 -- "An accepted span gives back that part of the lent string table itself. A refused one gives back the empty part at the table's start"
 unfoldable pub givenFor : Option Fault → List ℕ → List ℕ
 givenFor none bytes = bytes
 givenFor (some f) bytes = []
 
+unfoldable pub startFor : Option Fault → ℕ → ℕ
+startFor none off = off
+startFor (some f) off = 0
+
 -- what `text_answer(tab, off, len)` promises of its answer
 pub record TextAnswered (tab : List ℕ) (off len : ℕ) (answer : SpanAnswer) : Type 0 where
   pub answered : answer ≡ answerOf (spanFault tab off len)
 
--- what `text(tab, off, len)` promises of the part that it gives back
-pub record TextGiven (tab : List ℕ) (off len : ℕ) (given : List ℕ) : Type 0 where
-  pub gave : given ≡ givenFor (spanFault tab off len) (spanOf tab off len)
+-- What is promised of the part given back of a span with this fault: its bytes, and that it is a part of the lent table itself, in the same
+-- block of memory.
+pub record PartGiven (fault : Option Fault) (table : RefT (List ℕ)) (off len : ℕ) (part : RefT (List ℕ)) : Type 0 where
+  pub gave : part .now ≡ givenFor fault (spanOf (table .now) off len)
+  pub block : part .ptr .0 ≡ table .ptr .0
+  pub stands : part .ptr .1 ≡ table .ptr .1 + startFor fault off

@@ -3,10 +3,11 @@ use refusal::Fault;
 
 pub mod checked;
 pub mod lead;
-pub mod runs;
+mod runs;
 pub mod utf8;
 
-ghost use Rattle.text.specs.Span.{TextAnswered, TextGiven};
+ghost use mathlib.Core.Path.{_≡_};
+ghost use Rattle.text.specs.Span.{outside, endFault, spanFault, TextAnswered, PartGiven};
 
 // The largest string table, in bytes.
 pub const MAX_TABLE: usize = 16_777_216;
@@ -17,19 +18,37 @@ pub enum SpanAnswer {
     Refused(Fault),
 }
 
-// Whether the span of len bytes at off in the table is text: the size of the table is tested, then the span's end, then its bytes.
+// Whether the span of len bytes at off passes the table's end.
+pub fn is_outside(tab: &[u8], off: u32, len: u32) -> bool
+    ensures { λ r. ⌜ r ≡ outside (now (tab .entry)) off len ⌝ }
+{
+    tab.len() < off as usize + len as usize
+}
+
+// The part of the table that a span is, text or not; the empty part at the table's start where it passes the end.
+pub fn span<'a>(tab: &'a [u8], off: u32, len: u32) -> &'a [u8]
+    ensures { λ r. ⌜ PartGiven (endFault (now (tab .entry)) off len) (tab .entry) off len r ⌝ }
+{
+    if is_outside(tab, off, len) {
+        return &tab[..0];
+    }
+    let start = off as usize;
+    let end = start + len as usize;
+    &tab[start..end]
+}
+
+// Whether a span is text: the size of the table is tested, then the span's end, then its bytes.
 pub fn text_answer(tab: &[u8], off: u32, len: u32) -> SpanAnswer
     ensures { λ r. ⌜ TextAnswered (now (tab .entry)) off len r ⌝ }
 {
-    let start = off as usize;
-    let end = start + len as usize;
     if MAX_TABLE < tab.len() {
         return SpanAnswer::Refused(Fault::Size);
     }
-    if tab.len() < end {
+    if is_outside(tab, off, len) {
         return SpanAnswer::Refused(Fault::Span);
     }
-    if utf8::valid_up_to(&tab[start..end]) < end - start {
+    let part = span(tab, off, len);
+    if utf8::valid_up_to(part) < part.len() {
         return SpanAnswer::Refused(Fault::Text);
     }
     SpanAnswer::Accepted
@@ -37,13 +56,11 @@ pub fn text_answer(tab: &[u8], off: u32, len: u32) -> SpanAnswer
 
 // An accepted span's own part of the table; the empty part at its start for a refused one.
 pub fn text<'a>(tab: &'a [u8], off: u32, len: u32) -> &'a [u8]
-    ensures { λ r. ⌜ TextGiven (now (tab .entry)) off len (now r) ⌝ }
+    ensures { λ r. ⌜ PartGiven (spanFault (now (tab .entry)) off len) (tab .entry) off len r ⌝ }
 {
     let answer = text_answer(tab, off, len);
     if let SpanAnswer::Refused(_) = answer {
         return &tab[..0];
     }
-    let start = off as usize;
-    let end = start + len as usize;
-    &tab[start..end]
+    span(tab, off, len)
 }

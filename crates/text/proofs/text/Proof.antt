@@ -1,10 +1,13 @@
--- `text::text` meets its contract: an answer tells the fault, or that there is none and the span lies inside. Assumes nothing.
-use mathlib.Core.Path.{_≡_, sym, ap, _∙_}
+-- `text::text` meets its contract: an answer tells the fault, or that there is none, and then the span lies inside and is what is given back.
+-- Assumes nothing.
+use mathlib.Core.Path.{_≡_, refl, sym, ap, _∙_}
 use mathlib.Core.Option.{Option, none}
+use Prim.Native.Nat.{ℕ, _+_}
+use native.Mathlib.Nat.{add-zero}
 use borrow.Author.Needs.{needs}
 use Rattle.refusal.specs.declared.Fault.{Fault}
-use Rattle.text.specs.Span.{spanOf, spanFault, givenFor}
-use Rattle.text.proofs.Spans.{part-is, refused-fault, accepted-none, accepted-inside}
+use Rattle.text.specs.Span.{spanOf, endFault, spanFault, PartGiven}
+use Rattle.text.proofs.Spans.{nothing-given, inside-end, refused-fault, accepted-none, accepted-inside}
 use Rattle.text.proofs.text.Statement.{statement}
 use Rattle.text.proofs.text.Tie as tie
 
@@ -29,43 +32,26 @@ slice-aggregate-result : tie.Need-slice-aggregate-result
 slice-aggregate-result c = search needs
 
 returns : tie.Need-returns
-unfolding givenFor
 returns c =
     let told = c .before in
     let asked = told .before .before in
     let a = start asked .args in
-    record {
-      gave =
-          sym
-          (ap (λ (o : Option Fault). givenFor o (spanOf (a .tab .now) (a .off) (a .len)))
-          (refused-fault (asked .text-answer .ensures) (told .enum-told .given .0 .0) (told .enum-told .given .1)));
-    }
+    let refused = refused-fault (asked .text-answer .ensures) (told .enum-told .given .0 .0) (told .enum-told .given .1) in
+    let nothing = nothing-given (fault (start asked)) (told .enum-told .given .0 .0) refused (spanOf (a .tab .now) (a .off) (a .len)) (a .off) in
+    record { gave = sym (nothing .0); block = refl; stands = sym (ap (λ (k : ℕ). a .tab .ptr .1 + k) (nothing .1) ∙ add-zero _) }
 
 enum-told-2 : tie.Need-enum-told-2
 enum-told-2 c = search needs
 
-add-end : tie.Need-add-end
-add-end c = search needs
-
-sub-result : tie.Need-sub-result
-sub-result c = search needs
-
-part-result-start : tie.Need-part-result-start
-part-result-start c = search needs
-
-part-result-end : tie.Need-part-result-end
-part-result-end c = let a = start (c .before .before) .args in accepted-inside (a .tab .now) (a .off) (a .len) (accepted c)
+span-requires : tie.Need-span-requires
+span-requires c κs = search needs
 
 returns-2 : tie.Need-returns-2
-unfolding givenFor
 returns-2 c =
-    let told = c .before in
-    let a = start (told .before .before) .args in
-    record {
-      gave =
-          part-is (a .tab .now) (a .off) (a .len)
-          ∙ sym (ap (λ (o : Option Fault). givenFor o (spanOf (a .tab .now) (a .off) (a .len))) (accepted told));
-    }
+    let a = start (c .before .before .before) .args in
+    let none-found = accepted (c .before) in
+    let ended = inside-end (a .tab .now) (a .off) (a .len) (accepted-inside (a .tab .now) (a .off) (a .len) none-found) in
+    rw (none-found ∙ sym ended) (c .span .ensures)
 
 pub text-spec : {M : Type 1} → statement M
 text-spec =
@@ -76,8 +62,5 @@ text-spec =
     slice-aggregate-result
     returns
     enum-told-2
-    add-end
-    sub-result
-    part-result-start
-    part-result-end
+    span-requires
     returns-2)

@@ -1,25 +1,38 @@
 -- `text::text_answer` meets its contract: each return is the fault that its test finds, the last that there is none. Assumes nothing.
 use mathlib.Core.Path.{_≡_, sym, ap, _∙_}
+use Prim.Native.Nat.{_+_, _≤_}
 use native.Mathlib.Omega.{arith}
 use borrow.Author.Needs.{needs}
+use borrow.Author.Tests.{ltb-true, ltb-false}
+use lib.ListN.{length}
 use Rattle.text.specs.Text.{validUpTo}
 use Rattle.text.specs.Span.{spanOf, answerOf}
-use Rattle.text.proofs.Spans.{part-is, fault-size, fault-span, fault-text, fault-none}
+use Rattle.text.proofs.Spans.{fault-size, fault-span, fault-text, fault-none, span-length, inside-given}
 use Rattle.text.proofs.text_answer.Statement.{statement}
 use Rattle.text.proofs.text_answer.Tie as tie
 
--- the way back to the function's start from after the call
-abbrev start : tie.After-valid-up-to → tie.Start
-start c = c .before .before .before .before .before
+-- the ways back: to the function's start from after the test of the end, and to that test from after the last call
+abbrev start : tie.After-is-outside → tie.Start
+start c = c .before .before .before
 
--- what the call answered of the span
+abbrev tested : tie.After-valid-up-to → tie.Else2
+tested c = c .before .before
+
+-- the span ends inside the table
+inside : (c : tie.Else2) → start (c .before) .args .off + start (c .before) .args .len ≤ length (start (c .before) .args .tab .now)
+inside c = ltb-false _ _ (sym (c .before .is-outside .ensures) ∙ c .if2 .left)
+
+-- what was given back of the table is the span
+part-is-span :
+    (c : tie.After-valid-up-to)
+    → c .before .span .result .now ≡ spanOf (start (tested c .before) .args .tab .now) (start (tested c .before) .args .off) (start (tested c .before) .args .len)
+part-is-span c = inside-given (c .before .span .ensures) (inside (tested c))
+
+-- how far it is text, and how long it is
 valid-is :
     (c : tie.After-valid-up-to)
-    → c .valid-up-to .result ≡ validUpTo (spanOf (start c .args .tab .now) (start c .args .off) (start c .args .len))
-valid-is c = let a = start c .args in c .valid-up-to .ensures ∙ ap validUpTo (part-is (a .tab .now) (a .off) (a .len))
-
-add-end : tie.Need-add-end
-add-end c = search needs
+    → c .valid-up-to .result ≡ validUpTo (spanOf (start (tested c .before) .args .tab .now) (start (tested c .before) .args .off) (start (tested c .before) .args .len))
+valid-is c = c .valid-up-to .ensures ∙ ap validUpTo (part-is-span c)
 
 returns : tie.Need-returns
 unfolding answerOf
@@ -27,61 +40,40 @@ returns c =
     let a = c .before .before .args in
     record { answered = sym (ap answerOf (fault-size (a .tab .now) (a .off) (a .len) (omega arith))) }
 
+is-outside-requires : tie.Need-is-outside-requires
+is-outside-requires c κs = search needs
+
 returns-2 : tie.Need-returns-2
 unfolding answerOf
 returns-2 c =
-    let sized = c .before in
-    let a = sized .before .before .args in
-    record { answered = sym (ap answerOf (fault-span (a .tab .now) (a .off) (a .len) (omega arith) (omega arith))) }
+    let a = start (c .before) .args in
+    let passes = ltb-true _ _ (sym (c .before .is-outside .ensures) ∙ c .if2 .taken) in
+    record { answered = sym (ap answerOf (fault-span (a .tab .now) (a .off) (a .len) (omega arith) passes)) }
 
-sub-valid-up-to : tie.Need-sub-valid-up-to
-sub-valid-up-to c = search needs
-
-part-valid-up-to-start : tie.Need-part-valid-up-to-start
-part-valid-up-to-start c = search needs
-
-part-valid-up-to-end : tie.Need-part-valid-up-to-end
-part-valid-up-to-end c = search needs
+span-requires : tie.Need-span-requires
+span-requires c κs = search needs
 
 valid-up-to-requires : tie.Need-valid-up-to-requires
 valid-up-to-requires c κs = search needs
 
-sub-if3 : tie.Need-sub-if3
-sub-if3 c = search needs
-
 returns-3 : tie.Need-returns-3
 unfolding answerOf
 returns-3 c =
-    let a = start (c .before) .args in
-    record {
-      answered =
-          sym
-          (ap answerOf
-          (fault-text (a .tab .now) (a .off) (a .len) (omega arith) (omega arith) (omega (arith, valid-is (c .before)))));
-    }
+    let v = c .before in
+    let a = start (tested v .before) .args in
+    let within = inside (tested v) in
+    let long = ap length (part-is-span v) ∙ span-length (a .tab .now) (a .off) (a .len) (omega arith) within in
+    record { answered = sym (ap answerOf (fault-text (a .tab .now) (a .off) (a .len) (omega arith) within (omega (arith, valid-is v, long)))) }
 
 returns-4 : tie.Need-returns-4
 unfolding answerOf
 returns-4 c =
-    let a = start (c .before) .args in
-    record {
-      answered =
-          sym
-          (ap answerOf
-          (fault-none (a .tab .now) (a .off) (a .len) (omega arith) (omega arith) (omega (arith, valid-is (c .before)))));
-    }
+    let v = c .before in
+    let a = start (tested v .before) .args in
+    let within = inside (tested v) in
+    let long = ap length (part-is-span v) ∙ span-length (a .tab .now) (a .off) (a .len) (omega arith) within in
+    record { answered = sym (ap answerOf (fault-none (a .tab .now) (a .off) (a .len) (omega arith) within (omega (arith, valid-is v, long)))) }
 
 pub text-answer-spec : {M : Type 1} → statement M
 text-answer-spec =
-    tie.close
-    (tie.spec
-    add-end
-    returns
-    returns-2
-    sub-valid-up-to
-    part-valid-up-to-start
-    part-valid-up-to-end
-    valid-up-to-requires
-    sub-if3
-    returns-3
-    returns-4)
+    tie.close (tie.spec returns is-outside-requires returns-2 span-requires valid-up-to-requires returns-3 returns-4)
