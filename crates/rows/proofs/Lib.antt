@@ -12,3 +12,5 @@ pub mod LowestScores
 pub mod ListFaults
 -- which reason is given, exactly when, and that the answer is determined
 pub mod Judged
+-- each promise fixes its answer
+pub mod Determinacy

@@ -77,7 +77,7 @@ module _ (kind : Kind) (tab : List ℕ) (r : Row) where
     unfolding rowFault
     fault-token h = not-found _ _ _ (le-ltb (length tab) (r .off + r .len) inside) ∙ found _ _ _ (lt-ltb maxToken (r .len) h)
 
-    token-length : length (tokenOf tab r) ≡ r .len
+    pub token-length : length (tokenOf tab r) ≡ r .len
     token-length = simp (length-take, length-drop) (omega arith)
 
     module _ (short : r .len ≤ maxToken) where

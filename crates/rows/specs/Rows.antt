@@ -1,10 +1,9 @@
 -- Rows, and the first bad one. Definitions only; assumes nothing.
-use Prim.Native.Nat.{ℕ, suc, _+_}
+use Prim.Native.Nat.{ℕ, suc}
 use mathlib.Core.Bool.{not}
 use mathlib.Core.List.{List, [], _∷_}
 use mathlib.Core.Option.{Option, none, some}
-use lib.Dec.{ltb, eqb}
-use lib.ListN.{length}
+use lib.Dec.{eqb}
 use Rattle.doubles.specs.Double.{Double, isFinite}
 use Rattle.doubles.specs.Units.{units}
 use Rattle.refusal.specs.declared.Fault.{Fault}
@@ -14,7 +13,7 @@ use Rattle.refusal.specs.declared.Reason.the-variants as reason
 use Rattle.refusal.specs.Sizes.{maxToken, noId, above}
 use Rattle.refusal.specs.Refusal.{refuse}
 use Rattle.text.specs.Text.{wellFormed}
-use Rattle.text.specs.Span.{spanOf}
+use Rattle.text.specs.Span.{spanOf, outside}
 use Rattle.rows.specs.declared.Kind.{Kind}
 use Rattle.rows.specs.declared.Kind.the-variants.{Unigram, WordPiece}
 use Rattle.rows.specs.declared.Worth as code-worth
@@ -54,7 +53,7 @@ worthFault WordPiece (id i) = refuse (eqb i noId) fault.Id none
 -- one row: "tested in the order 2, 3, 4, then 5 or 6"
 unfoldable pub rowFault : Kind → List ℕ → Row → Option Fault
 rowFault kind tab r =
-    refuse (ltb (length tab) (r .off + r .len)) fault.Span
+    refuse (outside tab (r .off) (r .len)) fault.Span
     (refuse (above maxToken (r .len)) fault.Token
     (refuse (not (wellFormed (tokenOf tab r))) fault.Text
     (worthFault kind (r .worth))))

@@ -1,7 +1,7 @@
 // The rows of a vocabulary: a token's span in the string table and its worth, and which row is the first bad one.
 use refusal::Fault;
 
-pub mod checked;
+mod checked;
 pub mod columns;
 pub mod scores;
 
@@ -71,16 +71,16 @@ fn id_fault(worth: Worth) -> RowAnswer
 pub fn row_fault(kind: Kind, tab: &[u8], row: Row) -> RowAnswer
     ensures { λ r. ⌜ faultIn r ≡ rowFault kind (now (tab .entry)) (rowIs row) ⌝ }
 {
-    let start = row.off as usize;
+    let off = row.off;
     let len = row.len;
-    let end = start + len as usize;
-    if tab.len() < end {
+    if text::is_outside(tab, off, len) {
         return RowAnswer::Bad(Fault::Span);
     }
     if MAX_TOKEN < len {
         return RowAnswer::Bad(Fault::Token);
     }
-    if text::utf8::valid_up_to(&tab[start..end]) < end - start {
+    let token = text::span(tab, off, len);
+    if text::utf8::valid_up_to(token) < token.len() {
         return RowAnswer::Bad(Fault::Text);
     }
     let worth = row.worth;

@@ -1,82 +1,88 @@
 -- `rows::row_fault` meets its contract: each return is the fault that its test finds, and past the tests of the token the worth decides.
 -- Assumes nothing.
 use mathlib.Core.Path.{_≡_, sym, ap, _∙_}
+use Prim.Native.Nat.{_+_, _≤_}
 use native.Mathlib.Omega.{arith}
 use borrow.Author.Needs.{needs}
+use borrow.Author.Tests.{ltb-true, ltb-false}
+use lib.ListN.{length}
 use Rattle.text.specs.Text.{validUpTo}
-use Rattle.text.specs.Span.{spanOf}
-use Rattle.text.proofs.Spans.{part-is}
+use Rattle.text.proofs.Spans.{inside-given}
 use Rattle.rows.specs.declared.Kind.{Kind}
-use Rattle.rows.specs.Rows.{rowIs, worthIs, worthFault, rowFault}
-use Rattle.rows.proofs.RowFaults.{fault-span, fault-token, fault-text, fault-worth}
+use Rattle.rows.specs.Rows.{rowIs, worthIs, tokenOf, worthFault, rowFault}
+use Rattle.rows.proofs.RowFaults.{token-length, fault-span, fault-token, fault-text, fault-worth}
 use Rattle.rows.proofs.row_fault.Statement.{statement}
 use Rattle.rows.proofs.row_fault.Tie as tie
 
--- the way back to the function's start: from the first test, from past the second, from the call
-abbrev begun : tie.After-struct-known → tie.Start
-begun c = c .before .before
+-- the ways back: to the function's start from after the first test, to that test from past the second, and to the second from the last call
+abbrev start : tie.After-is-outside → tie.Start
+start c = c .before .before
 
-abbrev sized : tie.Else2 → tie.Start
-sized c = begun (c .before .before)
+abbrev ended : tie.Else2 → tie.Else1
+ended c = c .before
 
-abbrev start : tie.After-valid-up-to → tie.Start
-start c = sized (c .before .before)
+abbrev sized : tie.After-valid-up-to → tie.Else2
+sized c = c .before .before
 
--- what the call answered of the token
-valid-is :
-    (c : tie.After-valid-up-to)
-    → c .valid-up-to .result ≡ validUpTo (spanOf (start c .args .tab .now) (start c .args .row .off) (start c .args .row .len))
-valid-is c = let a = start c .args in c .valid-up-to .ensures ∙ ap validUpTo (part-is (a .tab .now) (a .row .off) (a .row .len))
+abbrev begun : tie.After-valid-up-to → tie.Start
+begun c = start (ended (sized c) .before)
+
+-- the span ends inside the table
+inside : (c : tie.Else1) → let a = start (c .before) .args in a .row .off + a .row .len ≤ length (a .tab .now)
+inside c = ltb-false _ _ (sym (c .before .is-outside .ensures) ∙ c .if1 .left)
+
+-- what was given back of the table is the token: how far it is text, and how long it is
+module _ (c : tie.After-valid-up-to) where
+  token-is : c .before .span .result .now ≡ tokenOf (begun c .args .tab .now) (rowIs (begun c .args .row))
+  unfolding rowIs
+  token-is = inside-given (c .before .span .ensures) (inside (ended (sized c)))
+
+  valid-is : c .valid-up-to .result ≡ validUpTo (tokenOf (begun c .args .tab .now) (rowIs (begun c .args .row)))
+  valid-is = c .valid-up-to .ensures ∙ ap validUpTo token-is
+
+  long : length (c .before .span .result .now) ≡ begun c .args .row .len
+  unfolding rowIs
+  long =
+      let a = begun c .args in
+      ap length token-is ∙ token-length (a .kind) (a .tab .now) (rowIs (a .row)) (inside (ended (sized c)))
 
 -- past the tests of the token its worth decides
 worth-left :
     (c : tie.Else3)
-    → let a = start (c .before) .args in rowFault (a .kind) (a .tab .now) (rowIs (a .row)) ≡ worthFault (a .kind) (worthIs (a .row .worth))
+    → let a = begun (c .before) .args in rowFault (a .kind) (a .tab .now) (rowIs (a .row)) ≡ worthFault (a .kind) (worthIs (a .row .worth))
 unfolding rowIs
 worth-left c =
-    let a = start (c .before) .args in
-    fault-worth (a .kind) (a .tab .now) (rowIs (a .row)) (omega arith) (omega arith) (omega (arith, valid-is (c .before)))
+    let v = c .before in
+    let a = begun v .args in
+    fault-worth (a .kind) (a .tab .now) (rowIs (a .row)) (inside (ended (sized v))) (omega arith) (omega (arith, valid-is v, long v))
 
-cast-start : tie.Need-cast-start
-cast-start c = search needs
-
-cast-end : tie.Need-cast-end
-cast-end c = search needs
-
-add-end : tie.Need-add-end
-add-end c = search needs
+is-outside-requires : tie.Need-is-outside-requires
+is-outside-requires c κs = search needs
 
 returns : tie.Need-returns
 unfolding rowIs
-returns c = let a = begun (c .before) .args in sym (fault-span (a .kind) (a .tab .now) (rowIs (a .row)) (omega arith))
+returns c =
+    let a = start (c .before) .args in
+    sym (fault-span (a .kind) (a .tab .now) (rowIs (a .row)) (ltb-true _ _ (sym (c .before .is-outside .ensures) ∙ c .if1 .taken)))
 
 returns-2 : tie.Need-returns-2
 unfolding rowIs
 returns-2 c =
-    let inside = c .before in
-    let a = begun (inside .before) .args in
-    sym (fault-token (a .kind) (a .tab .now) (rowIs (a .row)) (omega arith) (omega arith))
+    let a = start (c .before .before) .args in
+    sym (fault-token (a .kind) (a .tab .now) (rowIs (a .row)) (inside (c .before)) (omega arith))
 
-sub-valid-up-to : tie.Need-sub-valid-up-to
-sub-valid-up-to c = search needs
-
-part-valid-up-to-start : tie.Need-part-valid-up-to-start
-part-valid-up-to-start c = search needs
-
-part-valid-up-to-end : tie.Need-part-valid-up-to-end
-part-valid-up-to-end c = search needs
+span-requires : tie.Need-span-requires
+span-requires c κs = search needs
 
 valid-up-to-requires : tie.Need-valid-up-to-requires
 valid-up-to-requires c κs = search needs
 
-sub-if3 : tie.Need-sub-if3
-sub-if3 c = search needs
-
 returns-3 : tie.Need-returns-3
 unfolding rowIs
 returns-3 c =
-    let a = start (c .before) .args in
-    sym (fault-text (a .kind) (a .tab .now) (rowIs (a .row)) (omega arith) (omega arith) (omega (arith, valid-is (c .before))))
+    let v = c .before in
+    let a = begun v .args in
+    sym (fault-text (a .kind) (a .tab .now) (rowIs (a .row)) (inside (ended (sized v))) (omega arith) (omega (arith, valid-is v, long v)))
 
 enum-told : tie.Need-enum-told
 enum-told c = search needs
@@ -94,30 +100,25 @@ returns-4 : tie.Need-returns-4
 returns-4 c =
     let told = c .before in
     let left = told .before .before in
-    let w = start (left .before) .args .row .worth in
+    let w = begun (left .before) .args .row .worth in
     c .score-fault .ensures ∙ sym (worth-left left ∙ ap (λ (k : Kind). worthFault k (worthIs w)) (told .enum-told .given .1))
 
 returns-5 : tie.Need-returns-5
 returns-5 c =
     let told = c .before in
     let left = told .before .before in
-    let w = start (left .before) .args .row .worth in
+    let w = begun (left .before) .args .row .worth in
     c .id-fault .ensures ∙ sym (worth-left left ∙ ap (λ (k : Kind). worthFault k (worthIs w)) (told .enum-told2 .given .1))
 
 pub row-fault-spec : {M : Type 1} → statement M
 row-fault-spec =
     tie.close
     (tie.spec
-    cast-start
-    cast-end
-    add-end
+    is-outside-requires
     returns
     returns-2
-    sub-valid-up-to
-    part-valid-up-to-start
-    part-valid-up-to-end
+    span-requires
     valid-up-to-requires
-    sub-if3
     returns-3
     enum-told
     score-fault-requires
