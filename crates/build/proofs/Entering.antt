@@ -8,7 +8,6 @@ use native.Mathlib.Omega.{arith}
 use native.Mathlib.Numerals.{add-one}
 use lib.ListN.{length, getD, take, drop, length-take, length-drop}
 use lib.Seq.{take-suc, drop-cons, take-length, drop-length, getD-take, getD-drop}
-use Rattle.text.specs.Span.{spanOf}
 use Rattle.build.specs.Names.{place, prefixes, add, enter}
 use Rattle.build.specs.Held.{Held, Roomy, Enterable, Done}
 use Rattle.build.proofs.Places.{place-below}
@@ -24,13 +23,10 @@ pub roomy-kept : (room : ℕ) (edgeN₀ id₀ work₀ edgeN id work : List ℕ) 
 roomy-kept room edgeN₀ id₀ work₀ edgeN id work k r =
     record { nodes = omega arith; ids = omega arith; links = omega arith; small = r .small }
 
--- ---- a token is a part of the table
-
-pub span-length : (tab : List ℕ) (off len : ℕ) → off + len ≤ length tab → length (spanOf tab off len) ≡ len
-span-length tab off len h = omega (arith, length-take len (drop off tab), length-drop off tab)
-
-pub span-at : (tab : List ℕ) (off len i : ℕ) → i < len → getD tab (off + i) 0 ≡ getD (spanOf tab off len) i 0
-span-at tab off len i h = sym (getD-take len (drop off tab) i 0 h ∙ getD-drop off tab i 0)
+-- a token of no bytes
+pub length-zero : (s : List ℕ) → length s ≡ 0 → s ≡ []
+length-zero [] e = refl
+length-zero (b ∷ s) e = absurd (omega arith)
 
 -- ---- after i bytes
 

@@ -117,7 +117,6 @@ module _ (first : Bool) (v : ℕ) (ms : List²) (rule : List ℕ → Option ℕ)
 
 -- the same for an id that is the same
 pub row-valued :
-    {edgeN id work edgeN′ id′ work′ : List ℕ} {first : Bool} {room n : ℕ} {t : List ℕ} {v w n′ : ℕ} → v ≡ w
-    → RowEntered edgeN id work edgeN′ id′ work′ first room n t v n′ → RowEntered edgeN id work edgeN′ id′ work′ first room n t w n′
-row-valued {edgeN} {id} {work} {edgeN′} {id′} {work′} {first} {room} {n} {t} {v} {w} {n′} e r =
-    subst (λ (x : ℕ). RowEntered edgeN id work edgeN′ id′ work′ first room n t x n′) e r
+    {edgeN id work edgeN′ id′ work′ : List ℕ} {first : Bool} {room n : ℕ} {t u : List ℕ} {v w n′ : ℕ} → t ≡ u → v ≡ w
+    → RowEntered edgeN id work edgeN′ id′ work′ first room n t v n′ → RowEntered edgeN id work edgeN′ id′ work′ first room n u w n′
+row-valued e f r = rw (← e, ← f) r

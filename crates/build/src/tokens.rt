@@ -3,31 +3,28 @@ use crate::NO_ID;
 use crate::links::Reached;
 use crate::links::child;
 ghost use mathlib.Core.Path.{_≡_};
-ghost use Prim.Native.Nat.{_+_, _≤_, _<_};
+ghost use Prim.Native.Nat.{_<_};
 ghost use lib.ListN.{length};
-ghost use Rattle.text.specs.Span.{spanOf};
 ghost use Rattle.build.specs.Held.{Enterable, TokenEntered, markedIds, RowEntered};
 
-// The token of `len` bytes at `off`, from the root on: its last node, and how many nodes there are. The node is `room` where no room is left.
+// The token from the root on: its last node, and how many nodes there are. The node is `room` where no room is left.
 fn enter(
-    tab: &[u8],
-    off: usize,
-    len: usize,
+    token: &[u8],
     edge_n: &mut [u16],
     id: &mut [u32],
     work: &mut [u32],
     room: usize,
     n: usize,
 ) -> Reached
-    requires { ⌜ (off + len ≤ length (now tab)) × Enterable (now «edge_n») (now id) (now work) room 0 n ⌝ }
+    requires { ⌜ Enterable (now «edge_n») (now id) (now work) room 0 n ⌝ }
     ensures { λ r.
         ⌜ TokenEntered (now («edge_n» .entry)) (now (id .entry)) (now (work .entry))
-        (now («edge_n» .exit)) (now (id .exit)) (now (work .exit)) room n (spanOf (now (tab .entry)) off len) (r .node) (r .n) ⌝ }
+        (now («edge_n» .exit)) (now (id .exit)) (now (work .exit)) room n (now (token .entry)) (r .node) (r .n) ⌝ }
 {
     let mut at = Reached { node: 0, n };
     let mut i: usize = 0;
-    while i < len {
-        at = child(edge_n, id, work, room, at, tab[off + i]);
+    while i < token.len() {
+        at = child(edge_n, id, work, room, at, token[i]);
         if at.node == room {
             return at;
         }
@@ -51,9 +48,7 @@ fn mark(id: &mut [u32], node: usize, first: bool, v: u32)
 
 // A token that is given the id v: how many nodes there are then, more than `room` where no room is left. An empty token does nothing.
 pub fn enter_token(
-    tab: &[u8],
-    off: usize,
-    len: usize,
+    token: &[u8],
     first: bool,
     v: u32,
     edge_n: &mut [u16],
@@ -62,15 +57,15 @@ pub fn enter_token(
     room: usize,
     n: usize,
 ) -> usize
-    requires { ⌜ (off + len ≤ length (now tab)) × Enterable (now «edge_n») (now id) (now work) room 0 n ⌝ }
+    requires { ⌜ Enterable (now «edge_n») (now id) (now work) room 0 n ⌝ }
     ensures { λ r.
         ⌜ RowEntered (now («edge_n» .entry)) (now (id .entry)) (now (work .entry))
-        (now («edge_n» .exit)) (now (id .exit)) (now (work .exit)) first room n (spanOf (now (tab .entry)) off len) v r ⌝ }
+        (now («edge_n» .exit)) (now (id .exit)) (now (work .exit)) first room n (now (token .entry)) v r ⌝ }
 {
-    if len == 0 {
+    if token.len() == 0 {
         return n;
     }
-    let end = enter(tab, off, len, edge_n, id, work, room, n);
+    let end = enter(token, edge_n, id, work, room, n);
     let node = end.node;
     if node == room {
         return room + 1;

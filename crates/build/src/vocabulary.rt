@@ -45,18 +45,8 @@ fn enter_row(
         (valueGiven first (now (ids .entry)) i) r ⌝ }
 {
     let v = value(first, ids, i);
-    enter_token(
-        tab,
-        off[i] as usize,
-        len[i] as usize,
-        first,
-        v,
-        edge_n,
-        id,
-        work,
-        room,
-        n,
-    )
+    let token = text::span(tab, off[i], len[i]);
+    enter_token(token, first, v, edge_n, id, work, room, n)
 }
 
 // All rows, from the root on: how many nodes there are, more than `room` where no room is left.

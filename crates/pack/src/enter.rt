@@ -62,12 +62,11 @@ fn enter_row(
         (valueOf (firstOf kind) i (rowAt kind (now (bytes .entry)) (rowStart i))) r ⌝ }
 {
     let row = row_at(kind, bytes, HEADER + ROW * i);
-    let off = row.off as usize;
-    let len = row.len as usize;
+    let token = text::span(strings, row.off, row.len);
     let worth = row.worth;
     let v = value(worth, i);
     let first = keeps_first(kind);
-    enter_token(strings, off, len, first, v, edge_n, id, work, room, n)
+    enter_token(token, first, v, edge_n, id, work, room, n)
 }
 
 // All rows, from the root on: how many nodes there are, more than `room` where no room is left.

@@ -3,24 +3,23 @@
 use mathlib.Core.Path.{_≡_, refl, _∙_}
 use mathlib.Core.List.{List, [], _∷_, _++_}
 use mathlib.Core.Option.{Option}
-use Prim.Native.Nat.{ℕ, _+_, _-_, _≤_}
+use Prim.Native.Nat.{ℕ, _-_, _≤_}
 use native.Mathlib.Omega.{arith}
 use lib.ListN.{length, getD, take}
-use Rattle.text.specs.Span.{spanOf}
 use Rattle.build.specs.Names.{add}
 use Rattle.build.specs.Held.{Held, Roomy, Done}
-use Rattle.build.proofs.Entering.{Kept, roomy-kept, span-length, span-at, Along, along-start, along-turn, along-full, along-end, along-enterable}
+use Rattle.build.proofs.Entering.{Kept, roomy-kept, Along, along-start, along-turn, along-full, along-end, along-enterable}
 use Rattle.build.proofs.tokens.enter.Statement.{statement}
 use Rattle.build.proofs.tokens.enter.Tie as tie
 
 abbrev Inv-loop : tie.InvT-loop
-Inv-loop tab off len edge-n₀ id₀ work₀ room n at₀ i₀ edge-n id work at i =
-    (i ≤ len) × (at .n ≤ room) × Kept edge-n₀ id₀ work₀ edge-n id work
+Inv-loop token edge-n₀ id₀ work₀ room n at₀ i₀ edge-n id work at i =
+    (i ≤ length token) × (at .n ≤ room) × Kept edge-n₀ id₀ work₀ edge-n id work
     × ((ns : List (List ℕ)) (rule : List ℕ → Option ℕ) → Held ns rule edge-n₀ id₀ work₀ → n ≡ length ns
-    → Along ns rule (spanOf tab off len) i edge-n id work (at .node) (at .n))
+    → Along ns rule token i edge-n id work (at .node) (at .n))
 
 abbrev μ-loop : tie.MeasureT-loop
-μ-loop tab off len edge-n₀ id₀ work₀ room n at₀ i₀ edge-n id work at i = len - i
+μ-loop token edge-n₀ id₀ work₀ room n at₀ i₀ edge-n id work at i = length token - i
 
 -- ---- the ways back: to the function's start from the loop's head, to the loop's head from the call of `child` and from what follows it
 
@@ -34,7 +33,7 @@ abbrev entry : Head → tie.Start Inv-loop μ-loop
 entry h = lent h .before .before
 
 abbrev token : Head → List ℕ
-token h = let a = entry h .args in spanOf (a .tab .now) (a .off) (a .len)
+token h = entry h .args .token .now
 
 abbrev passed : tie.After-child-arg3 Inv-loop μ-loop → tie.In-loop Inv-loop μ-loop
 passed c = let p = c .before .before in p .before
@@ -57,10 +56,7 @@ roomy : (h : Head) → Roomy (entry h .args .room) (h .loop .edge-n) (h .loop .i
 roomy h =
     let a = entry h .args in
     roomy-kept (a .room) (a .edge-n .now) (a .id .now) (a .work .now) (h .loop .edge-n) (h .loop .id) (h .loop .work) (h .loop .inv .2)
-    (entry h .pre .1 .roomy)
-
-size : (h : Head) → length (token h) ≡ entry h .args .len
-size h = let a = entry h .args in span-length (a .tab .now) (a .off) (a .len) (entry h .pre .0)
+    (entry h .pre .roomy)
 
 kept :
     (c : tie.After-child Inv-loop μ-loop)
@@ -76,7 +72,7 @@ byte :
     → (let h = turn c .before in
     (ns : List (List ℕ)) (rule : List ℕ → Option ℕ)
     → (w : Along ns rule (token h) (h .loop .i) (h .loop .edge-n) (h .loop .id) (h .loop .work) (h .loop .at .node) (h .loop .at .n))
-    → (let b = getD (entry h .args .tab .now) (entry h .args .off + h .loop .i) 0 in
+    → (let b = getD (token h) (h .loop .i) 0 in
     Done (add (w .names) (take (h .loop .i) (token h) ++ (b ∷ []))) rule (take (h .loop .i) (token h) ++ (b ∷ [])) (entry h .args .room)
     (c .child .last .0) (c .child .last .1 .0) (c .child .last .1 .1 .0) (c .child .result .node) (c .child .result .n)))
 byte c ns rule w = let h = turn c .before in c .child .ensures .entered (w .names) rule (take (h .loop .i) (token h)) (w .held) (w .count) (w .here)
@@ -87,22 +83,19 @@ loop-holds c =
     let s = k .before .before in
     let a = s .args in (
       omega arith,
-      s .pre .1 .fits,
+      s .pre .fits,
       record { nodes = refl; ids = refl; links = refl },
-      λ ns rule h e. along-start ns rule (spanOf (a .tab .now) (a .off) (a .len)) (a .edge-n .now) (a .id .now) (a .work .now) (a .n) h e,
+      λ ns rule h e. along-start ns rule (a .token .now) (a .edge-n .now) (a .id .now) (a .work .now) (a .n) h e,
     )
 
-add-child : tie.Need-add-child Inv-loop μ-loop
-add-child c = let t = passed c in omega (arith, t .loop-test .taken, entry (t .before) .pre .0, entry (t .before) .good)
-
 shared-slice-read-child : tie.Need-shared-slice-read-child Inv-loop μ-loop
-shared-slice-read-child c = let t = passed (c .before) in omega (arith, t .loop-test .taken, entry (t .before) .pre .0)
+shared-slice-read-child c = let t = passed (c .before) in omega (arith, t .loop-test .taken)
 
 child-requires : tie.Need-child-requires Inv-loop μ-loop
 child-requires c κs =
     let h = passed (c .before) .before in
     let a = entry h .args in
-    let p = entry h .pre .1 in
+    let p = entry h .pre in
     along-enterable (p .names) (p .rule) (token h) (h .loop .i) (h .loop .edge-n) (h .loop .id) (h .loop .work) (h .loop .at .node)
     (h .loop .at .n) (h .loop .inv .3 (p .names) (p .rule) (p .held) (p .count)) (a .room) (roomy h) (h .loop .inv .1)
 
@@ -124,8 +117,7 @@ returns c =
       entered = λ ns rule g e.
           let w = h .loop .inv .3 ns rule g e in
           along-full ns rule (token h) (h .loop .i) (h .loop .edge-n) (h .loop .id) (h .loop .work) (h .loop .at .node) (h .loop .at .n) w (a .room)
-          (getD (a .tab .now) (a .off + h .loop .i) 0) (omega (arith, turn f .loop-test .taken, size h))
-          (span-at (a .tab .now) (a .off) (a .len) (h .loop .i) (turn f .loop-test .taken)) (f .child .last .0) (f .child .last .1 .0)
+          (getD (token h) (h .loop .i) 0) (turn f .loop-test .taken) refl (f .child .last .0) (f .child .last .1 .0)
           (f .child .last .1 .1 .0) (f .child .result .node) (f .child .result .n) (byte f ns rule w) (c .if1 .taken) (f .child .last .0)
           (f .child .last .1 .0) (f .child .last .1 .1 .0) (f .child .result .n);
     }
@@ -141,15 +133,14 @@ loop-again c =
     let f = called (c .before) in
     let h = turn f .before in
     let a = entry h .args in
-    let p = entry h .pre .1 in (
+    let p = entry h .pre in (
       omega (arith, turn f .loop-test .taken),
       byte f (p .names) (p .rule) (h .loop .inv .3 (p .names) (p .rule) (p .held) (p .count)) .fits (c .if1 .left),
       kept f,
       λ ns rule g e.
           let w = h .loop .inv .3 ns rule g e in
           along-turn ns rule (token h) (h .loop .i) (h .loop .edge-n) (h .loop .id) (h .loop .work) (h .loop .at .node) (h .loop .at .n) w (a .room)
-          (getD (a .tab .now) (a .off + h .loop .i) 0) (omega (arith, turn f .loop-test .taken, size h))
-          (span-at (a .tab .now) (a .off) (a .len) (h .loop .i) (turn f .loop-test .taken)) (f .child .last .0) (f .child .last .1 .0)
+          (getD (token h) (h .loop .i) 0) (turn f .loop-test .taken) refl (f .child .last .0) (f .child .last .1 .0)
           (f .child .last .1 .1 .0) (f .child .result .node) (f .child .result .n) (byte f ns rule w) (c .if1 .left),
     )
 
@@ -169,7 +160,7 @@ returns-2 c =
     record {
       entered = λ ns rule g e.
           along-end ns rule (token h) (h .loop .i) (h .loop .edge-n) (h .loop .id) (h .loop .work) (h .loop .at .node) (h .loop .at .n)
-          (h .loop .inv .3 ns rule g e) (a .room) (h .loop .inv .1) (omega (arith, c .loop-test .left, h .loop .inv .0, size h));
+          (h .loop .inv .3 ns rule g e) (a .room) (h .loop .inv .1) (omega (arith, c .loop-test .left, h .loop .inv .0));
     }
 
 pub enter-spec : {M : Type 1} → statement M
@@ -179,7 +170,6 @@ enter-spec =
     Inv-loop
     μ-loop
     loop-holds
-    add-child
     shared-slice-read-child
     child-requires
     same-length

@@ -7,12 +7,11 @@ use Prim.Native.Nat.{ℕ}
 use native.Mathlib.Omega.{arith}
 use borrow.Author.Needs.{needs}
 use lib.ListN.{length}
-use Rattle.text.specs.Span.{spanOf}
 use Rattle.build.specs.Names.{prefixes, enter}
 use Rattle.build.specs.Given.{marked}
 use Rattle.build.specs.Held.{Held, Done}
 use Rattle.build.proofs.Places.{place-below}
-use Rattle.build.proofs.Entering.{span-length}
+use Rattle.build.proofs.Entering.{length-zero}
 use Rattle.build.proofs.Marking.{row-empty, row-full, row-marked}
 use Rattle.build.proofs.tokens.enter_token.Statement.{statement}
 use Rattle.build.proofs.tokens.enter_token.Tie as tie
@@ -38,18 +37,18 @@ abbrev entry : tie.After-enter → tie.Start
 entry c = start (unless-empty c .before)
 
 abbrev token : tie.After-enter → List ℕ
-token c = let a = entry c .args in spanOf (a .tab .now) (a .off) (a .len)
+token c = entry c .args .token .now
 
 -- the columns as `enter` leaves them
 
 abbrev edges : tie.After-enter → List ℕ
-edges c = c .enter .last .1 .1 .1 .0
+edges c = c .enter .last .1 .0
 
 abbrev ids : tie.After-enter → List ℕ
-ids c = c .enter .last .1 .1 .1 .1 .0
+ids c = c .enter .last .1 .1 .0
 
 abbrev works : tie.After-enter → List ℕ
-works c = c .enter .last .1 .1 .1 .1 .1 .0
+works c = c .enter .last .1 .1 .1 .0
 
 -- what `enter` promises of the names that are held
 done :
@@ -67,7 +66,7 @@ returns c =
     record {
       entered = λ ns rule h e small.
           row-empty (a .first) (a .v) ns rule (a .room) (a .edge-n .now) (a .id .now) (a .work .now) (a .n)
-          (spanOf (a .tab .now) (a .off) (a .len)) (ap (spanOf (a .tab .now) (a .off)) (c .if1 .taken)) h e (p .1 .fits);
+          (a .token .now) (length-zero (a .token .now) (c .if1 .taken)) h e (p .fits);
     }
 
 enter-requires : tie.Need-enter-requires
@@ -100,7 +99,7 @@ mark-requires : tie.Need-mark-requires
 mark-requires c κs =
     let t = c .before in
     let f = entered (t .before) in
-    let p = entry f .pre .1 in
+    let p = entry f .pre in
     let d = done f (p .names) (p .rule) (p .held) (p .count) in
     omega (
       arith,
@@ -128,7 +127,7 @@ returns-3 c =
       entered = λ ns rule h e small.
           row-marked (a .first) (a .v) (enter ns (prefixes [] (token f))) rule (token f) (a .room) (edges f) (ids f)
           (works f) (f .enter .result .node) (f .enter .result .n) (done f ns rule h e) (t .if2 .left)
-          (omega (arith, span-length (a .tab .now) (a .off) (a .len) (p .0), unless-empty f .if1 .left)) small (m .mark .last .0)
+          (omega (arith, unless-empty f .if1 .left)) small (m .mark .last .0)
           (m .mark .ensures);
     }
 

@@ -101,7 +101,7 @@ row c =
     let h = t .before in
     let a = entry h .args in
     let r = h .loop .inv .3 in
-    row-valued (sym (value-given (a .first) (a .off .now) (a .len .now) (a .ids .now) (h .loop .i))) (c .enter-row .ensures) .entered (r .nodes)
+    row-valued refl (sym (value-given (a .first) (a .off .now) (a .len .now) (a .ids .now) (h .loop .i))) (c .enter-row .ensures) .entered (r .nodes)
     (r .rule) (r .held) (r .count)
     (rowed-small (a .first) (a .tab .now) (all h) (rest h) (h .loop .i) (h .loop .edge-n) (h .loop .id) (h .loop .work) (h .loop .n) r (omega (arith, t .loop-test .taken, entry h .pre .0 .few)))
 

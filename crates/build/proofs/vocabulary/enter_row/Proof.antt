@@ -1,11 +1,12 @@
--- `build::vocabulary::enter_row` meets its contract: it reads the row and enters its token. Assumes nothing.
+-- `build::vocabulary::enter_row` meets its contract: it reads the row and enters its token, which lies inside the table. Assumes nothing.
 use native.Mathlib.Omega.{arith}
 use borrow.Author.Needs.{needs}
+use Rattle.text.proofs.Spans.{inside-given}
 use Rattle.build.proofs.Marking.{row-valued}
 use Rattle.build.proofs.vocabulary.enter_row.Statement.{statement}
 use Rattle.build.proofs.vocabulary.enter_row.Tie as tie
 
--- ---- the ways back: to the start, and from what follows the call of `enter_token`
+-- ---- the ways back: to the start, from what follows the call of `span`, and from what follows the call of `enter_token`
 
 abbrev columns : tie.After-slice-known3 → tie.After-shared-slice-known4
 columns c = let k = c .before .before in k .before
@@ -13,11 +14,11 @@ columns c = let k = c .before .before in k .before
 abbrev start : tie.After-slice-known3 → tie.Start
 start c = let k = columns c .before .before in k .before .before
 
-abbrev read : tie.After-enter-token-arg3 → tie.After-shared-slice-known6
-read c = let p = c .before .before in p .before
+abbrev valued : tie.After-span → tie.After-value
+valued c = let k = c .before .before in k .before
 
-abbrev valued : tie.After-shared-slice-known6 → tie.After-value
-valued c = c .before .before
+abbrev spanned : tie.After-enter-token → tie.After-span
+spanned c = let p = c .before .before in p .before .before
 
 abbrev id-back : tie.After-slice-known6 → tie.After-slice-known5
 id-back c = c .before .before
@@ -33,28 +34,23 @@ value-requires c κs =
     let p = start c .pre in
     (omega (arith, p .there, p .judged .few), λ e. omega (arith, p .there, p .judged .own e))
 
-mul-enter-token : tie.Need-mul-enter-token
-mul-enter-token c = search needs
+mul-span : tie.Need-mul-span
+mul-span c = search needs
 
-shared-slice-read-enter-token : tie.Need-shared-slice-read-enter-token
-shared-slice-read-enter-token c = search needs
+shared-slice-read-span : tie.Need-shared-slice-read-span
+shared-slice-read-span c = search needs
 
-cast-enter-token : tie.Need-cast-enter-token
-cast-enter-token c = let f = c .before in omega (arith, c .shared-slice-known5 .given (start (f .before) .args .i))
+mul-span-2 : tie.Need-mul-span-2
+mul-span-2 c = search needs
 
-mul-enter-token-2 : tie.Need-mul-enter-token-2
-mul-enter-token-2 c = search needs
+shared-slice-read-span-2 : tie.Need-shared-slice-read-span-2
+shared-slice-read-span-2 c = search needs
 
-shared-slice-read-enter-token-2 : tie.Need-shared-slice-read-enter-token-2
-shared-slice-read-enter-token-2 c = search needs
-
-cast-enter-token-2 : tie.Need-cast-enter-token-2
-cast-enter-token-2 c = let f = valued c in omega (arith, c .shared-slice-known6 .given (start (f .before) .args .i))
+span-requires : tie.Need-span-requires
+span-requires c κs = search needs
 
 enter-token-requires : tie.Need-enter-token-requires
-enter-token-requires c κs =
-    let s = start (valued (read c) .before) in
-    (s .pre .judged .inside (s .args .i) (s .pre .there), s .pre .enterable)
+enter-token-requires c κs = search needs
 
 same-length : tie.Need-same-length
 same-length c = search needs
@@ -68,19 +64,22 @@ same-length-3 c = search needs
 returns : tie.Need-returns
 returns c =
     let f = called c in
-    row-valued (valued (read (f .before)) .value .ensures) (f .enter-token .ensures)
+    let g = spanned f in
+    let v = valued g in
+    let s = start (v .before) in
+    row-valued (inside-given (g .span .ensures) (s .pre .judged .inside (s .args .i) (s .pre .there))) (v .value .ensures)
+    (f .enter-token .ensures)
 
 pub enter-row-spec : {M : Type 1} → statement M
 enter-row-spec =
     tie.close
     (tie.spec
     value-requires
-    mul-enter-token
-    shared-slice-read-enter-token
-    cast-enter-token
-    mul-enter-token-2
-    shared-slice-read-enter-token-2
-    cast-enter-token-2
+    mul-span
+    shared-slice-read-span
+    mul-span-2
+    shared-slice-read-span-2
+    span-requires
     enter-token-requires
     same-length
     same-length-2
