@@ -10,7 +10,8 @@ use native.Mathlib.Omega.{arith}
 use borrow.Author.Tests.{lt-ltb, le-ltb, ltb-false, not-false}
 use lib.Dec.{T, ltb}
 use lib.Ieee.{Float, nan, binary64, fits}
-use lib.ListN.{length, getD, length-map}
+use lib.ListN.{length, getD, replicate, length-map, length-replicate, getD-replicate}
+use lib.Seq.{ext-getD}
 use Rattle.doubles.specs.Double.{Double, plusZero, isFinite, isDouble}
 use Rattle.doubles.specs.Units.{units}
 use Rattle.doubles.proofs.Floats.{units-is-double}
@@ -29,7 +30,7 @@ use Rattle.rows.specs.Scores.{unknownScore}
 use Rattle.rows.specs.Answers.{columns, Level}
 use Rattle.refusal.proofs.Tests.{passed, found, not-found}
 use Rattle.rows.proofs.RowFaults.{fine-inside, fine-short, fine-token-length, fine-text, fine-worth, fine-score, fine-id}
-use Rattle.rows.proofs.RowLists.{rows-length, rows-at, level-score, lists-level, getD-map-inside}
+use Rattle.rows.proofs.RowLists.{rows-length, rows-at, level-scored, level-score, lists-level, getD-map-inside}
 use Rattle.rows.proofs.FirstBad.{none-bad-says, none-bad-found}
 use Rattle.rows.proofs.LowestScores.{Scored, unknown-finite}
 
@@ -213,6 +214,14 @@ module _ (tab : List ℕ) (c : Columns) (i : ℕ) (h : i < length (c .off)) wher
     pub wordpiece-row : rowAt c i .worth ≡ id (getD (c .id) i 0)
     unfolding rowAt
     wordpiece-row = rw wordpiece-numbered
+
+-- so the column of kinds of a Unigram list without a fault says of every row that it has a score
+pub all-scored : (tab : List ℕ) (c : Columns) → columnsFault Unigram tab c ≡ none → c .scored ≡ replicate (length (c .off)) true
+all-scored tab c fine =
+    let n = length (c .off) in
+    let long = level-scored c (columns-level Unigram tab c fine) in
+    ext-getD false (c .scored) (replicate n true) (long ∙ sym (length-replicate n true))
+    (λ i h. let k : i < n = omega (arith, long) in unigram-scored tab c i k fine ∙ sym (getD-replicate n i true false k))
 
 -- ---- what it says of the lent lists
 

@@ -1,11 +1,11 @@
 -- What the answers about rows say, and the columns of a row list as one value. Definitions only; assumes nothing.
 use mathlib.Core.Path.{_≡_}
 use Prim.Native.Nat.{ℕ}
-use mathlib.Core.Bool.{Bool}
+use mathlib.Core.Bool.{Bool, true}
 use mathlib.Core.List.{List, map}
 use mathlib.Core.Option.{Option, none, some}
 use lib.Ieee.{Float}
-use lib.ListN.{length}
+use lib.ListN.{length, replicate}
 use Rattle.doubles.specs.Units.{units}
 use Rattle.refusal.specs.declared.Fault.{Fault}
 use Rattle.refusal.specs.declared.Reason.{Reason}
@@ -28,6 +28,10 @@ reasonIn (rows-are.Refused r) = some r
 -- the lent lists as columns
 abbrev pub columns : List ℕ → List ℕ → List Bool → List Float → List ℕ → Columns
 columns off len scored score id = record { off = off; len = len; scored = scored; score = map units score; id = id }
+
+-- the same where each row has a score for its worth
+abbrev pub scoredColumns : List ℕ → List ℕ → List Float → List ℕ → Columns
+scoredColumns off len score id = columns off len (replicate (length off) true) score id
 
 -- the lists have one length
 pub record Level (off len : List ℕ) (scored : List Bool) (score : List Float) (id : List ℕ) : Type 0 where

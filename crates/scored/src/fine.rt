@@ -5,16 +5,14 @@ use build::Built;
 use refusal::Fault;
 use refusal::Reason;
 ghost use mathlib.Core.Path.{_≡_};
-ghost use mathlib.Core.Bool.{Bool, true};
-ghost use mathlib.Core.List.{List, map};
+ghost use mathlib.Core.List.{map};
 ghost use mathlib.Core.Option.{none};
 ghost use Prim.Native.Nat.{min};
 ghost use lib.ListN.{length};
 ghost use Rattle.doubles.specs.Units.{units};
 ghost use Rattle.rows.specs.declared.Kind.the-variants.{Unigram};
 ghost use Rattle.rows.specs.Columns.{columnsFault};
-ghost use Rattle.rows.specs.Answers.{columns};
-ghost use Rattle.build.specs.Held.{Judged};
+ghost use Rattle.rows.specs.Answers.{scoredColumns};
 ghost use Rattle.build.specs.Memory.{memory};
 ghost use Rattle.build.specs.Core.{roomOf};
 ghost use Rattle.scored.specs.Build as promise;
@@ -40,7 +38,8 @@ pub fn room(
     room
 }
 
-// The trie of the rows in the lent columns, the first row of a token giving the id and the score; or no room for it.
+// The trie of rows with scores in which no fault was found, in the lent columns, the first row of a token giving the id and the score; or no room
+// for it.
 pub fn build_rows(
     tab: &[u8],
     off: &[u32],
@@ -55,16 +54,14 @@ pub fn build_rows(
     to: &mut [u32],
     work: &mut [u32],
 ) -> BuildAnswer
-    requires { ⌜ Judged true (now tab) (now off) (now len) (now id) ⌝ }
+    requires { ⌜ columnsFault Unigram (now tab) (scoredColumns (now off) (now len) (now score) (now id)) ≡ none ⌝ }
     ensures { λ r.
-        ⌜ ((scored : List Bool)
-        → columnsFault Unigram (now (tab .entry)) (columns (now (off .entry)) (now (len .entry)) scored (now (score .entry)) (now (id .entry))) ≡ none
-        → promise.Built (now (tab .entry)) (columns (now (off .entry)) (now (len .entry)) scored (now (score .entry)) (now (id .entry)))
+        ⌜ promise.Built (now (tab .entry)) (scoredColumns (now (off .entry)) (now (len .entry)) (now (score .entry)) (now (id .entry)))
         (memory (now («edge_at» .entry)) (now («edge_n» .entry)) (now («node_id» .entry)) (now (byte .entry)) (now (to .entry)) (now (work .entry)))
         (map units (now («node_score» .entry)))
         r
         (memory (now («edge_at» .exit)) (now («edge_n» .exit)) (now («node_id» .exit)) (now (byte .exit)) (now (to .exit)) (now (work .exit)))
-        (map units (now («node_score» .exit)))) ⌝ }
+        (map units (now («node_score» .exit))) ⌝ }
 {
     let room = room(edge_at, edge_n, node_id, node_score, byte, to, work);
     let built = build::core::build(

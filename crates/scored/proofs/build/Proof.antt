@@ -1,8 +1,8 @@
 -- `scored::build` meets its contract: what `judge` finds is refused, and rows without a fault are what the build asks for.
 -- Assumes nothing.
-use mathlib.Core.Path.{_≡_, sym, ap, _∙_}
-use mathlib.Core.Bool.{true}
-use mathlib.Core.List.{map}
+use mathlib.Core.Path.{_≡_, sym, ap, _∙_, subst}
+use mathlib.Core.Bool.{Bool}
+use mathlib.Core.List.{List, map}
 use mathlib.Core.Option.{none}
 use borrow.Author.Needs.{needs}
 use Rattle.doubles.specs.Units.{units}
@@ -10,7 +10,7 @@ use Rattle.rows.specs.declared.Kind.the-variants.{Unigram}
 use Rattle.rows.specs.Columns.{Columns, columnsFault}
 use Rattle.rows.specs.Answers.{columns, reasonIn}
 use Rattle.build.specs.Memory.{Memory, memory}
-use Rattle.build.proofs.Judging.{judged}
+use Rattle.rows.proofs.ListFaults.{all-scored}
 use Rattle.scored.proofs.Builds.{built-bad}
 use Rattle.scored.proofs.build.Statement.{statement}
 use Rattle.scored.proofs.build.Tie as tie
@@ -32,8 +32,12 @@ score-back c = let k = c .before .before .before in k .before .before .before
 abbrev called : tie.After-slice-known14 → tie.After-build-rows
 called c = let k = score-back c .before .before .before .before in k .before .before .before .before
 
+-- the lent rows, with another column of kinds or their own
+abbrev kinds : tie.Start → List Bool → Columns
+kinds e scored = let a = e .args in columns (a .off .now) (a .len .now) scored (a .score .now) (a .id .now)
+
 abbrev lists : tie.Start → Columns
-lists e = let a = e .args in columns (a .off .now) (a .len .now) (a .scored .now) (a .score .now) (a .id .now)
+lists e = kinds e (e .args .scored .now)
 
 abbrev lent : tie.Start → Memory
 lent e = let a = e .args in memory (a .edge-at .now) (a .edge-n .now) (a .node-id .now) (a .byte .now) (a .to .now) (a .work .now)
@@ -58,7 +62,7 @@ build-rows-requires : tie.Need-build-rows-requires
 build-rows-requires c κs =
     let t = c .before .before .before .before .before .before .before in
     let e = entry (t .before .before) in
-    judged Unigram (e .args .tab .now) (lists e) (fine t) true
+    subst (λ (k : List Bool). columnsFault Unigram (e .args .tab .now) (kinds e k) ≡ none) (all-scored (e .args .tab .now) (lists e) (fine t)) (fine t)
 
 returns : tie.Need-returns
 returns c =
@@ -92,7 +96,9 @@ returns-2 : tie.Need-returns-2
 returns-2 c =
     let b = called c in
     let t = told b in
-    b .build-rows .ensures (entry (t .before .before) .args .scored .now) (fine t)
+    let e = entry (t .before .before) in
+    let a = e .args in
+    rw (all-scored (a .tab .now) (lists e) (fine t)) (b .build-rows .ensures)
 
 pub build-spec : {M : Type 1} → statement M
 build-spec =

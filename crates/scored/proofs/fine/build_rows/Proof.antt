@@ -1,10 +1,15 @@
 -- `scored::fine::build_rows` meets its contract: the room is the least that the columns have, what the core answers is answered, and the score
 -- column is made zero or filled. Assumes nothing.
 use mathlib.Core.Path.{ap}
+use mathlib.Core.Bool.{true}
 use native.Mathlib.Omega.{arith}
 use borrow.Author.Needs.{needs}
 use lib.ListN.{length}
+use Rattle.rows.specs.declared.Kind.the-variants.{Unigram}
+use Rattle.rows.specs.Columns.{Columns}
+use Rattle.rows.specs.Answers.{scoredColumns}
 use Rattle.build.specs.Memory.{Memory, memory}
+use Rattle.build.proofs.Judging.{judged}
 use Rattle.scored.specs.Build.{built, told}
 use Rattle.scored.proofs.Builds.{scored-room-for, nodes-placed, Placed, lists-full, lists-built}
 use Rattle.scored.proofs.fine.build_rows.Statement.{statement}
@@ -33,7 +38,10 @@ called c = let k = byte-back c .before .before .before in k .before .before .bef
 abbrev counted : tie.After-fill → tie.After-built
 counted c = c .before .before .before .before
 
--- the lent columns, before and after
+-- the lent rows, and the lent columns before and after
+
+abbrev rows-lent : tie.Start → Columns
+rows-lent e = let a = e .args in scoredColumns (a .off .now) (a .len .now) (a .score .now) (a .id .now)
 
 abbrev lent : tie.Start → Memory
 lent e = let a = e .args in memory (a .edge-at .now) (a .edge-n .now) (a .node-id .now) (a .byte .now) (a .to .now) (a .work .now)
@@ -60,7 +68,8 @@ room-requires c κs = search needs
 build-requires : tie.Need-build-requires
 build-requires c κs =
     let r = c .before .before .before .before .before .before in
-    (entry r .pre, scored-room-for (lent (entry r)) _ (r .room .ensures))
+    let a = entry r .args in
+    (judged Unigram (a .tab .now) (rows-lent (entry r)) (entry r .pre) true, scored-room-for (lent (entry r)) _ (r .room .ensures))
 
 enum-told : tie.Need-enum-told
 enum-told c = search needs
@@ -105,13 +114,13 @@ same-length-7 : tie.Need-same-length-7
 same-length-7 c = search needs
 
 returns : tie.Need-returns
-returns c scored fine =
+returns c =
     let told-full = c .before .before .before .before in
     let b = called (told-full .before .before) in
     let r = measured b in
     let a = entry r .args in
     lists-full (a .tab .now) (a .off .now) (a .len .now) (a .score .now) (a .id .now) (lent (entry r)) (left b) (a .node-score .now)
-    (r .room .ensures) scored fine (b .build .ensures) (told-full .enum-told .given .1) (c .before .before .zero .ensures)
+    (r .room .ensures) (rows-lent (entry r) .scored) (entry r .pre) (b .build .ensures) (told-full .enum-told .given .1) (c .before .before .zero .ensures)
 
 same-length-8 : tie.Need-same-length-8
 same-length-8 c = search needs
@@ -136,14 +145,14 @@ same-length-14 c = search needs
 
 returns-2 : tie.Need-returns-2
 unfolding told
-returns-2 c scored fine =
+returns-2 c =
     let f = c .before .before .before in
     let t = counted f in
     let b = called (t .before .before) in
     let r = measured b in
     let a = entry r .args in
     lists-built (a .tab .now) (a .off .now) (a .len .now) (a .score .now) (a .id .now) (lent (entry r)) (left b) (a .node-score .now)
-    (r .room .ensures) scored fine (b .build .ensures) (t .built .given .1)
+    (r .room .ensures) (rows-lent (entry r) .scored) (entry r .pre) (b .build .ensures) (t .built .given .1)
     (ap (built (t .built .given .0 .0)) (c .unknown-score .ensures)) (f .fill .ensures)
 
 pub build-rows-spec : {M : Type 1} → statement M
