@@ -2,7 +2,7 @@
 use rows::Row;
 use scored::BuildAnswer;
 
-pub mod slice;
+mod slice;
 
 ghost use mathlib.Core.List.{map};
 ghost use Rattle.doubles.specs.Units.{units};

@@ -1,11 +1,11 @@
 // WordPiece: `from_rows`, a trie from rows; `encode`, the longest token first.
+use build::Built;
 use refusal::Fault;
 use refusal::Reason;
 use rows::Kind;
 use rows::columns::RowsAnswer;
 
 pub mod checked;
-pub mod fine;
 
 ghost use mathlib.Core.Path.{_≡_};
 ghost use mathlib.Core.List.{List};
@@ -15,7 +15,7 @@ ghost use Rattle.trie.specs.Trie.{Trie, partsOf};
 ghost use Rattle.trie.specs.Sound.{sound};
 ghost use Rattle.rows.specs.Answers.{columns};
 ghost use Rattle.build.specs.Memory.{memory};
-ghost use Rattle.wordpiece.specs.Build.{Built};
+ghost use Rattle.wordpiece.specs.Build as promise;
 ghost use Rattle.wordpiece.specs.Encode.{encodeFault, Encoded};
 ghost use Rattle.wordpiece.specs.Checked.{faultIn};
 
@@ -48,26 +48,33 @@ pub fn from_rows(
     work: &mut [u32],
 ) -> BuildAnswer
     ensures { λ r.
-        ⌜ Built (now (tab .entry)) (columns (now (off .entry)) (now (len .entry)) (now (scored .entry)) (now (score .entry)) (now (id .entry)))
+        ⌜ promise.Built (now (tab .entry)) (columns (now (off .entry)) (now (len .entry)) (now (scored .entry)) (now (score .entry)) (now (id .entry)))
         (memory (now («edge_at» .entry)) (now («edge_n» .entry)) (now («node_id» .entry)) (now (byte .entry)) (now (to .entry)) (now (work .entry)))
         r
         (memory (now («edge_at» .exit)) (now («edge_n» .exit)) (now («node_id» .exit)) (now (byte .exit)) (now (to .exit)) (now (work .exit))) ⌝ }
 {
     let found = rows::columns::judge(Kind::WordPiece, tab, off, len, scored, score, id);
-    match found {
-        RowsAnswer::Refused(r) => BuildAnswer::Refused(r),
-        RowsAnswer::Fine => fine::build_rows(
-            tab,
-            off,
-            len,
-            id,
-            edge_at,
-            edge_n,
-            node_id,
-            byte,
-            to,
-            work,
-        ),
+    if let RowsAnswer::Refused(r) = found {
+        return BuildAnswer::Refused(r);
+    }
+    let room = build::core::room(edge_at, edge_n, node_id, byte, to, work);
+    let built = build::core::build(
+        false,
+        tab,
+        off,
+        len,
+        id,
+        edge_at,
+        edge_n,
+        node_id,
+        byte,
+        to,
+        work,
+        room,
+    );
+    match built {
+        Built::NoRoom => BuildAnswer::Refused(Reason::Call(Fault::Room)),
+        Built::Nodes(n) => BuildAnswer::Built(n as u32),
     }
 }
 

@@ -1,19 +1,23 @@
--- `wordpiece::from_rows` meets its contract: what `judge` finds is refused, and rows without a fault are what the build asks for.
--- Assumes nothing.
-use mathlib.Core.Path.{_≡_, sym, ap, _∙_}
+-- `wordpiece::from_rows` meets its contract: what `judge` finds is refused. Rows without a fault are what the core asks for, the room is the
+-- least that the columns have, and what the core answers is answered. Assumes nothing.
+use mathlib.Core.Path.{_≡_, sym, ap, _∙_, subst}
 use mathlib.Core.Bool.{false}
 use mathlib.Core.Option.{none}
+use Prim.Native.Nat.{ℕ}
+use native.Mathlib.Omega.{arith}
 use borrow.Author.Needs.{needs}
 use Rattle.rows.specs.declared.Kind.the-variants.{WordPiece}
 use Rattle.rows.specs.Columns.{Columns, columnsFault}
 use Rattle.rows.specs.Answers.{columns, reasonIn}
 use Rattle.build.specs.Memory.{Memory, memory}
+use Rattle.build.specs.Core.{RoomFor}
+use Rattle.build.proofs.Rooms.{room-is}
 use Rattle.build.proofs.Judging.{judged}
-use Rattle.wordpiece.proofs.Builds.{built-bad}
+use Rattle.wordpiece.proofs.Builds.{built-bad, nodes-fit, lists-full, lists-built}
 use Rattle.wordpiece.proofs.from_rows.Statement.{statement}
 use Rattle.wordpiece.proofs.from_rows.Tie as tie
 
--- ---- the ways back: to the start, to the call of `judge`, and to the call of the build
+-- ---- the ways back: to the start, to the call of `judge`, to the call of `room`, and to the call of the core
 
 abbrev tables : tie.After-judge → tie.After-shared-slice-known6
 tables c = let k = c .before .before .before .before in k .before .before .before
@@ -21,20 +25,33 @@ tables c = let k = c .before .before .before .before in k .before .before .befor
 abbrev entry : tie.After-judge → tie.Start
 entry c = let k = tables c .before .before .before in k .before .before .before
 
-abbrev told : tie.After-build-rows → tie.After-enum-told
+abbrev told : tie.After-room → tie.After-enum-told
 told c = let k = c .before .before .before .before in k .before .before .before
+
+abbrev measured : tie.After-build → tie.After-room
+measured c = let k = c .before .before .before .before in k .before .before .before
 
 abbrev byte-back : tie.After-slice-known12 → tie.After-slice-known9
 byte-back c = let k = c .before .before .before in k .before .before .before
 
-abbrev called : tie.After-slice-known12 → tie.After-build-rows
+abbrev called : tie.After-slice-known12 → tie.After-build
 called c = let k = byte-back c .before .before .before in k .before .before .before
+
+abbrev begun : tie.After-room → tie.Start
+begun r = entry (told r .before .before)
+
+-- the lent rows, and the lent columns before and after
 
 abbrev lists : tie.Start → Columns
 lists e = let a = e .args in columns (a .off .now) (a .len .now) (a .scored .now) (a .score .now) (a .id .now)
 
 abbrev lent : tie.Start → Memory
 lent e = let a = e .args in memory (a .edge-at .now) (a .edge-n .now) (a .node-id .now) (a .byte .now) (a .to .now) (a .work .now)
+
+abbrev left : tie.After-build → Memory
+left b =
+    let l = b .build .last .1 .1 .1 .1 .1 in
+    memory (l .0) (l .1 .0) (l .1 .1 .0) (l .1 .1 .1 .0) (l .1 .1 .1 .1 .0) (l .1 .1 .1 .1 .1 .0)
 
 -- what was found
 found-is : (j : tie.After-judge) → columnsFault WordPiece (entry j .args .tab .now) (lists (entry j)) ≡ reasonIn (j .judge .result)
@@ -43,26 +60,45 @@ found-is j = sym (j .judge .ensures)
 fine : (c : tie.After-enum-told) → columnsFault WordPiece (entry (c .before .before) .args .tab .now) (lists (entry (c .before .before))) ≡ none
 fine c = found-is (c .before .before) ∙ ap reasonIn (c .enum-told .given .1)
 
+-- ---- the needs
+
 judge-requires : tie.Need-judge-requires
 judge-requires c κs = search needs
 
 enum-known-found : tie.Need-enum-known-found
 enum-known-found c = search needs
 
-enum-told : tie.Need-enum-told
-enum-told c = search needs
-
-build-rows-requires : tie.Need-build-rows-requires
-build-rows-requires c κs =
-    let t = c .before .before .before .before .before .before in
-    let e = entry (t .before .before) in
-    judged WordPiece (e .args .tab .now) (lists e) (fine t) false
-
 returns : tie.Need-returns
 returns c =
     let bound = c .before in
     let j = bound .before .before in
     built-bad (entry j .args .tab .now) (lists (entry j)) (lent (entry j)) (found-is j ∙ ap reasonIn (bound .found .given .1))
+
+enum-told : tie.Need-enum-told
+enum-told c = search needs
+
+room-requires : tie.Need-room-requires
+room-requires c κs = search needs
+
+build-requires : tie.Need-build-requires
+build-requires c κs =
+    let r = c .before .before .before .before .before .before in
+    let e = begun r in (
+      judged WordPiece (e .args .tab .now) (lists e) (fine (told r)) false,
+      subst (λ (n : ℕ). RoomFor n (lent e)) (sym (r .room .ensures)) (room-is (lent e)),
+    )
+
+enum-told-2 : tie.Need-enum-told-2
+enum-told-2 c = search needs
+
+enum-known-built : tie.Need-enum-known-built
+enum-known-built c = search needs
+
+cast-t46 : tie.Need-cast-t46
+cast-t46 c =
+    let bound = c .before in
+    let b = called (bound .before .before) in
+    omega (arith, nodes-fit (b .build .ensures) (bound .built .given .1) (measured b .room .ensures))
 
 same-length : tie.Need-same-length
 same-length c = search needs
@@ -84,10 +120,40 @@ same-length-6 c = search needs
 
 returns-2 : tie.Need-returns-2
 returns-2 c =
-    let b = called c in
-    let t = told b in
-    let a = entry (t .before .before) .args in
-    b .build-rows .ensures (a .scored .now) (a .score .now) (fine t)
+    let b = called (c .before .before) in
+    let r = measured b in
+    let e = begun r in
+    let a = e .args in
+    lists-full (a .tab .now) (a .off .now) (a .len .now) (a .id .now) (lent e) (left b) (r .room .ensures) (b .build .ensures)
+    (a .scored .now) (a .score .now) (fine (told r)) (c .enum-told2 .given .1)
+
+same-length-7 : tie.Need-same-length-7
+same-length-7 c = search needs
+
+same-length-8 : tie.Need-same-length-8
+same-length-8 c = search needs
+
+same-length-9 : tie.Need-same-length-9
+same-length-9 c = search needs
+
+same-length-10 : tie.Need-same-length-10
+same-length-10 c = search needs
+
+same-length-11 : tie.Need-same-length-11
+same-length-11 c = search needs
+
+same-length-12 : tie.Need-same-length-12
+same-length-12 c = search needs
+
+returns-3 : tie.Need-returns-3
+returns-3 c =
+    let bound = c .before in
+    let b = called (bound .before .before) in
+    let r = measured b in
+    let e = begun r in
+    let a = e .args in
+    lists-built (a .tab .now) (a .off .now) (a .len .now) (a .id .now) (lent e) (left b) (r .room .ensures) (b .build .ensures)
+    (a .scored .now) (a .score .now) (fine (told r)) (bound .built .given .1)
 
 pub from-rows-spec : {M : Type 1} → statement M
 from-rows-spec =
@@ -95,13 +161,24 @@ from-rows-spec =
     (tie.spec
     judge-requires
     enum-known-found
-    enum-told
-    build-rows-requires
     returns
+    enum-told
+    room-requires
+    build-requires
+    enum-told-2
+    enum-known-built
+    cast-t46
     same-length
     same-length-2
     same-length-3
     same-length-4
     same-length-5
     same-length-6
-    returns-2)
+    returns-2
+    same-length-7
+    same-length-8
+    same-length-9
+    same-length-10
+    same-length-11
+    same-length-12
+    returns-3)

@@ -1,12 +1,8 @@
 -- `sliced::slice::build_first` meets its contract: the first places of the columns are what the build asks for. Assumes nothing.
 use Rattle.sliced.proofs.Copies.{all-hold}
-use Rattle.sliced.specs.Copied.{firstPlaces}
-use Rattle.build.proofs.Judging.{judged}
-use Rattle.rows.specs.declared.Kind.the-variants.{Unigram}
-use lib.ListN.{length, replicate}
+use lib.ListN.{length, take}
 use Prim.Native.Nat.{_≤_}
-use mathlib.Core.Path.{sym}
-use mathlib.Core.Bool.{true}
+use mathlib.Core.Path.{_≡_, sym}
 use lib.Seq.{length-take-le}
 use borrow.Author.Needs.{needs}
 use Rattle.sliced.proofs.slice.build_first.Statement.{statement}
@@ -36,11 +32,12 @@ slice-aggregate-build-rows c = let e = named (c .before) in sym (length-take-le 
 slice-aggregate-build-rows-2 : tie.Need-slice-aggregate-build-rows-2
 slice-aggregate-build-rows-2 c = let e = named (c .before .before) in sym (length-take-le (e .args .n) (e .args .score .now) (room e .2))
 
+-- so the first places of the offsets are n
+places : (e : tie.Start) → length (take (e .args .n) (e .args .off .now)) ≡ e .args .n
+places e = length-take-le (e .args .n) (e .args .off .now) (room e .0)
+
 build-rows-requires : tie.Need-build-rows-requires
-build-rows-requires c κs =
-    let e = lent c in
-    let a = e .args in
-    judged Unigram (a .tab .now) (firstPlaces (a .n) (a .off .now) (a .len .now) (a .score .now)) (e .pre .1) true
+build-rows-requires c κs = let e = lent c in rw (places e) (e .pre .1)
 
 same-length : tie.Need-same-length
 same-length c = search needs
@@ -64,10 +61,7 @@ same-length-7 : tie.Need-same-length-7
 same-length-7 c = search needs
 
 returns : tie.Need-returns
-returns c =
-    let b = called c in
-    let e = lent (b .before) in
-    b .build-rows .ensures (replicate (e .args .n) true) (e .pre .1)
+returns c = let b = called c in let e = lent (b .before) in rw (places e) at (b .build-rows .ensures)
 
 pub build-first-spec : {M : Type 1} → statement M
 build-first-spec =
