@@ -1,15 +1,16 @@
 #!/usr/bin/env python3
-"""Tries the must-fail edits: each is a wrong version of a crate, which the prover must refuse.
+"""Tries wrong versions of the crates, each of which the prover must refuse.
 
-    python3 tools/must_fail.py [CRATE..]
+    python3 tools/must_fail.py [--finer] [CRATE..]
 
 Run it after `rt check`. For each crate it takes a copy of the repository, has the prover check the crate as it is, and
-then applies crates/CRATE/must-fail/*.edit one after the other and has it checked again. The prover keeps what an edit
-leaves alone, so that an edit takes seconds; `rt must-fail` tries the same edits with a whole check for each.
+then applies one edit after the other and has it checked again. The prover keeps what an edit leaves alone, so that an
+edit takes seconds. The edits are those of crates/CRATE/must-fail/, which `rt ci` tries too, with a whole check of the
+crate for each, and the finer ones of crates/CRATE/wrong/. With --finer it tries the latter alone, as ./test does.
 
 An edit is refused when the prover ends with `logic=not-proved`. Anything else fails: an edit that is still proved, whose
 text is not there exactly once, or that does not reach the prover. What the prover said of each is left in
-target/must-fail/CRATE/EDIT.log. The last line says how many were refused and how many were not.
+target/wrong/CRATE/EDIT.log. The last line says how many were refused and how many were not.
 """
 
 import os
@@ -23,6 +24,8 @@ from pathlib import Path
 
 ROOT = Path(__file__).resolve().parent.parent
 PARTS = ("src", "specs", "proofs")
+FINER = ("wrong",)
+ALL = ("must-fail", "wrong")
 
 
 class BadEdit(Exception):
@@ -98,7 +101,7 @@ def try_one(root, edit, logs):
     try:
         before = apply(root / "crates" / crate, edit)
     except BadEdit as why:
-        return f"must-fail {name}: BAD EDIT: {why}", False
+        return f"wrong {name}: BAD EDIT: {why}", False
     try:
         said, status = check(root, crate)
     finally:
@@ -106,15 +109,21 @@ def try_one(root, edit, logs):
     (logs / f"{edit.stem}.log").write_text(said)
     took = f"{time.time() - began:.0f} s"
     if is_refused(said, status):
-        return f"must-fail {name}: refused, as it must be (first at {first_error(said)}; {took})", True
+        return f"wrong {name}: refused, as it must be (first at {first_error(said)}; {took})", True
     what = "the crate is still proved" if status == 0 else f"it did not reach the prover (exit {status})"
-    return f"must-fail {name}: NOT REFUSED: {what} ({took})", False
+    return f"wrong {name}: NOT REFUSED: {what} ({took})", False
 
 
-def try_crate(crate):
+def edits_of(crate, folders):
+    """The edits of a crate, by name."""
+    found = [e for f in folders for e in (ROOT / "crates" / crate / f).glob("*.edit")]
+    return sorted(found, key=lambda e: e.stem)
+
+
+def try_crate(crate, folders):
     """Tries the edits of one crate in a copy of the repository; answers for each whether it was refused."""
-    edits = sorted((ROOT / "crates" / crate / "must-fail").glob("*.edit"))
-    logs = ROOT / "target" / "must-fail" / crate
+    edits = edits_of(crate, folders)
+    logs = ROOT / "target" / "wrong" / crate
     shutil.rmtree(logs, ignore_errors=True)
     logs.mkdir(parents=True)
     with tempfile.TemporaryDirectory() as folder:
@@ -126,7 +135,7 @@ def try_crate(crate):
         os.symlink(ROOT / "target" / "rlib", copy / "target" / "rlib")
         said, status = check(copy, crate)
         if status != 0:
-            print(f"must-fail {crate}: NOT TRIED: the crate is not proved without an edit (exit {status})", flush=True)
+            print(f"wrong {crate}: NOT TRIED: the crate is not proved without an edit (exit {status})", flush=True)
             return [False] * len(edits)
         answers = []
         for edit in edits:
@@ -140,17 +149,20 @@ def size(crate):
     return sum(f.stat().st_size for f in (ROOT / "crates" / crate).rglob("*.antt"))
 
 
-def main(wanted):
-    crates = {e.parent.parent.name for e in ROOT.glob("crates/*/must-fail/*.edit")}
+def main(words):
+    finer = "--finer" in words
+    folders = FINER if finer else ALL
+    wanted = [w for w in words if w != "--finer"]
+    crates = {p.name for p in (ROOT / "crates").iterdir() if edits_of(p.name, folders)}
     unknown = [c for c in wanted if c not in crates]
     if unknown:
-        print(f"no must-fail edits: {' '.join(unknown)}")
+        print(f"no edits of: {' '.join(unknown)}")
         return 2
     # the largest first, so that the last to end is a small one
     order = sorted(wanted or crates, key=size, reverse=True)
     with ThreadPoolExecutor(max_workers=os.cpu_count() or 1) as pool:
-        answers = [a for of_crate in pool.map(try_crate, order) for a in of_crate]
-    print(f"{answers.count(True)} must-fail edits refused, {answers.count(False)} not")
+        answers = [a for of_crate in pool.map(lambda c: try_crate(c, folders), order) for a in of_crate]
+    print(f"{answers.count(True)} wrong versions refused, {answers.count(False)} not")
     return 0 if all(answers) else 1
 
 

@@ -1,5 +1,5 @@
--- The promise of a build from a pack fixes what it answers and what it leaves: each field is an equation with a value of the inputs. The answer
--- is fixed as what it says, its score as a Double. And it is refused with r exactly where r is the pack's fault. Assumes nothing.
+-- The promise of a build from a pack fixes what it answers and what it leaves: each field is an equation with a value of the inputs. Scores are
+-- promised as doubles, of which the format has one value each. And it is refused with r exactly where r is the pack's fault. Assumes nothing.
 use mathlib.Core.Path.{_≡_, refl, sym, ap, _∙_}
 use mathlib.Core.Logic.{_↔_}
 use mathlib.Core.List.{List}
@@ -15,8 +15,39 @@ use Rattle.pack.specs.declared.PackAnswer.{PackAnswer}
 use Rattle.pack.specs.declared.PackAnswer.the-variants as answer-is
 use Rattle.pack.specs.Build.{refused, packFault, told, toldOf, theKind, toldFor, PackBuilt}
 
-pub built-once : {bytes : List ℕ} {m : Memory} {x : List Double} {a b : PackAnswer} {m₁ m₂ : Memory} {x₁ x₂ : List Double} → PackBuilt bytes m x a m₁ x₁ → PackBuilt bytes m x b m₂ x₂ → (told a ≡ told b) × (m₁ ≡ m₂) × (x₁ ≡ x₂)
-built-once p q = (p .answered ∙ sym (q .answered), p .columns ∙ sym (q .columns), p .scores ∙ sym (q .scores))
+pub told-once : {bytes : List ℕ} {m : Memory} {x : List Double} {a b : PackAnswer} {m₁ m₂ : Memory} {x₁ x₂ : List Double} → PackBuilt bytes m x a m₁ x₁ → PackBuilt bytes m x b m₂ x₂ → (told a ≡ told b) × (m₁ ≡ m₂) × (x₁ ≡ x₂)
+told-once p q = (p .answered ∙ sym (q .answered), p .columns ∙ sym (q .columns), p .scores ∙ sym (q .scores))
+
+-- the score that an answer has is one that the format holds, as every `f64` is
+abbrev pub heldIn : PackAnswer → Bool
+heldIn (answer-is.Unigram n u x) = held x
+heldIn (answer-is.WordPiece n u c off len) = true
+heldIn (answer-is.Refused r) = true
+
+-- an answer is known by what it tells
+told-known : (a b : PackAnswer) → T (heldIn a) → T (heldIn b) → told a ≡ told b → a ≡ b
+unfolding told
+told-known (answer-is.Unigram n u x) (answer-is.Unigram k v y) h j e =
+    let p : n ≡ k = cc in
+    let q : u ≡ v = cc in
+    let r : units x ≡ units y = cc in
+    let s : x ≡ y = units-injective x y h j r in
+    cc
+told-known (answer-is.Unigram n u x) (answer-is.WordPiece k v c off len) h j e = cc
+told-known (answer-is.Unigram n u x) (answer-is.Refused r) h j e = cc
+told-known (answer-is.WordPiece n u c off len) (answer-is.Unigram k v y) h j e = cc
+told-known (answer-is.WordPiece n u c off len) (answer-is.WordPiece k v d at long) h j e = cc
+told-known (answer-is.WordPiece n u c off len) (answer-is.Refused r) h j e = cc
+told-known (answer-is.Refused q) (answer-is.Unigram k v y) h j e = cc
+told-known (answer-is.Refused q) (answer-is.WordPiece k v c off len) h j e = cc
+told-known (answer-is.Refused q) (answer-is.Refused r) h j e = cc
+
+-- one answer, and one content of every lent column. That the format holds the scores is so of every column.
+module _ {bytes : List ℕ} {m m₁ m₂ : Memory} {x : List Double} {a b : PackAnswer} (x₁ x₂ : List Float)
+    (p : PackBuilt bytes m x a m₁ (map units x₁)) (q : PackBuilt bytes m x b m₂ (map units x₂))
+    (h : T (heldIn a)) (k : T (heldIn b)) (h₁ : T (allHeld x₁)) (h₂ : T (allHeld x₂)) where
+  pub built-once : (a ≡ b) × (m₁ ≡ m₂) × (x₁ ≡ x₂)
+  built-once = let t = told-once p q in (told-known a b h k (t .0), t .1, column-once x₁ x₂ h₁ h₂ (t .2))
 
 -- an answer that says a reason is that refusal
 told-refused : (a : PackAnswer) (r : Reason) → told a ≡ refused r → a ≡ answer-is.Refused r

@@ -1,13 +1,19 @@
--- The promise of `build` fixes what it answers and what it leaves: each field is an equation with a value of the inputs. The answer is fixed as what
--- it says, its score as a Double.
-use mathlib.Core.Path.{_≡_, refl, sym, ap, _∙_}
+-- The promise of `build` fixes what it answers and what it leaves: each field is an equation with a value of the inputs. Scores are promised as
+-- doubles, of which the format has one value each, so that the answer and the score column themselves are fixed too.
+use mathlib.Core.Path.{_≡_, refl, sym, ap, ap₂, _∙_}
+use mathlib.Core.Bool.{Bool, true}
 use mathlib.Core.Logic.{_↔_}
 use Prim.Native.Nat.{ℕ}
 use native.Mathlib.Omega.{arith}
-use mathlib.Core.List.{List}
+use mathlib.Core.List.{List, map}
 use mathlib.Core.Option.{Option, none, some}
+use lib.Dec.{T}
+use lib.Ieee.{Float}
 use Rattle.refusal.specs.declared.Reason.{Reason}
 use Rattle.doubles.specs.Double.{Double}
+use Rattle.doubles.specs.Units.{units, held, allHeld}
+use Rattle.doubles.proofs.Floats.{units-injective}
+use Rattle.doubles.proofs.Determinacy.{column-once}
 use Rattle.rows.specs.Rows.{Row}
 use Rattle.rows.specs.Columns.{Columns, rowsOf}
 use Rattle.rows.specs.Scores.{unknownScore}
@@ -18,8 +24,32 @@ use Rattle.scored.specs.declared.BuildAnswer.{BuildAnswer}
 use Rattle.scored.specs.declared.BuildAnswer.the-variants as answer-is
 use Rattle.scored.specs.Build.{Told, built, refused, told, buildFault, toldFor, Built}
 
-pub built-once : {tab : List ℕ} {c : Columns} {m : Memory} {x : List Double} {a b : BuildAnswer} {m₁ m₂ : Memory} {x₁ x₂ : List Double} → Built tab c m x a m₁ x₁ → Built tab c m x b m₂ x₂ → (told a ≡ told b) × (m₁ ≡ m₂) × (x₁ ≡ x₂)
-built-once p q = (p .answered ∙ sym (q .answered), p .columns ∙ sym (q .columns), p .scores ∙ sym (q .scores))
+pub told-once : {tab : List ℕ} {c : Columns} {m : Memory} {x : List Double} {a b : BuildAnswer} {m₁ m₂ : Memory} {x₁ x₂ : List Double} → Built tab c m x a m₁ x₁ → Built tab c m x b m₂ x₂ → (told a ≡ told b) × (m₁ ≡ m₂) × (x₁ ≡ x₂)
+told-once p q = (p .answered ∙ sym (q .answered), p .columns ∙ sym (q .columns), p .scores ∙ sym (q .scores))
+
+-- the score that an answer has is one that the format holds, as every `f64` is
+abbrev pub heldIn : BuildAnswer → Bool
+heldIn (answer-is.Built s) = held (s .«unknown_score»)
+heldIn (answer-is.Refused r) = true
+
+-- an answer is known by what it tells
+pub told-known : (a b : BuildAnswer) → T (heldIn a) → T (heldIn b) → told a ≡ told b → a ≡ b
+unfolding told
+told-known (answer-is.Built s) (answer-is.Built t) h k e =
+    let n : s .nodes ≡ t .nodes = cc in
+    let x : units (s .«unknown_score») ≡ units (t .«unknown_score») = cc in
+    ap₂ (λ (n : ℕ) (x : Float). answer-is.Built (record { nodes = n; «unknown_score» = x })) n
+    (units-injective (s .«unknown_score») (t .«unknown_score») h k x)
+told-known (answer-is.Built s) (answer-is.Refused r) h k e = cc
+told-known (answer-is.Refused r) (answer-is.Built t) h k e = cc
+told-known (answer-is.Refused q) (answer-is.Refused r) h k e = let same : q ≡ r = cc in ap answer-is.Refused same
+
+-- `build` on the same rows and memory: one answer, and one content of every lent column. That the format holds the scores is so of every column.
+module _ {tab : List ℕ} {c : Columns} {m m₁ m₂ : Memory} {x : List Double} {a b : BuildAnswer} (x₁ x₂ : List Float)
+    (p : Built tab c m x a m₁ (map units x₁)) (q : Built tab c m x b m₂ (map units x₂))
+    (h : T (heldIn a)) (k : T (heldIn b)) (h₁ : T (allHeld x₁)) (h₂ : T (allHeld x₂)) where
+  pub built-once : (a ≡ b) × (m₁ ≡ m₂) × (x₁ ≡ x₂)
+  built-once = let t = told-once p q in (told-known a b h k (t .0), t .1, column-once x₁ x₂ h₁ h₂ (t .2))
 
 -- "exactly when", both ways: a build is refused with r exactly when r is its fault, and says N and the unknown score exactly when there is none
 abbrev pub accepted : List ℕ → List Row → Told

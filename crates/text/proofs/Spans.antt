@@ -6,6 +6,7 @@ use mathlib.Core.List.{List, []}
 use mathlib.Core.Logic.{_↔_}
 use mathlib.Core.Option.{Option, none, some}
 use Prim.Native.Nat.{ℕ, _+_, _-_, _≤_, _<_}
+use native.Mathlib.Nat.{add-zero}
 use native.Mathlib.Omega.{arith}
 use borrow.Author.Tests.{lt-ltb, le-ltb, ltb-false, eq-eqb, ne-eqb, not-false}
 use lib.Dec.{ltb}
@@ -19,7 +20,7 @@ use Rattle.refusal.proofs.Tests.{passed}
 use Rattle.text.specs.declared.SpanAnswer.{SpanAnswer}
 use Rattle.text.specs.declared.SpanAnswer.the-variants.{Accepted, Refused}
 use Rattle.text.specs.Text.{validUpTo, wellFormed}
-use Rattle.text.specs.Span.{spanOf, endFault, spanFault, answerOf, givenFor, startFor, TextAnswered, PartGiven}
+use Rattle.text.specs.Span.{spanOf, endFault, spanFault, answerOf, givenFor, startFor, TextAnswered, PartGiven, NothingGiven}
 use Rattle.text.proofs.Valid.{valid-le}
 
 -- ---- which fault
@@ -126,10 +127,17 @@ module _ {fault : Option Fault} {table : RefT (List ℕ)} {off len : ℕ} {a b :
 
 -- ---- the part
 
--- an empty part in front, for a refused span
-pub nothing-given : (fault : Option Fault) (f : Fault) → fault ≡ some f → (bytes : List ℕ) (off : ℕ) → (givenFor fault bytes ≡ []) × (startFor fault off ≡ 0)
+-- the empty part in front is what is given of a span with a fault
+pub nothing-given :
+    {table part : RefT (List ℕ)} {off len : ℕ} (fault : Option Fault) (f : Fault) → fault ≡ some f → NothingGiven table part
+    → PartGiven fault table off len part
 unfolding givenFor startFor
-nothing-given fault f e bytes off = (ap (λ (o : Option Fault). givenFor o bytes) e, ap (λ (o : Option Fault). startFor o off) e)
+nothing-given {table} {part} {off} {len} fault f e n =
+    record {
+      gave = n .gave ∙ sym (ap (λ (o : Option Fault). givenFor o (spanOf (table .now) off len)) e);
+      block = n .block;
+      stands = n .stands ∙ sym (ap (λ (o : Option Fault). table .ptr .1 + startFor o off) e ∙ add-zero (table .ptr .1));
+    }
 
 -- the span itself, for an accepted one
 pub span-given : (fault : Option Fault) → fault ≡ none → (bytes : List ℕ) (off : ℕ) → (givenFor fault bytes ≡ bytes) × (startFor fault off ≡ off)

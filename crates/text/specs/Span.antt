@@ -61,3 +61,9 @@ pub record PartGiven (fault : Option Fault) (table : RefT (List ℕ)) (off len :
   pub gave : part .now ≡ givenFor fault (spanOf (table .now) off len)
   pub block : part .ptr .0 ≡ table .ptr .0
   pub stands : part .ptr .1 ≡ table .ptr .1 + startFor fault off
+
+-- "the empty part at the table's start"
+pub record NothingGiven (table part : RefT (List ℕ)) : Type 0 where
+  pub gave : part .now ≡ []
+  pub block : part .ptr .0 ≡ table .ptr .0
+  pub stands : part .ptr .1 ≡ table .ptr .1

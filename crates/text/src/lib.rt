@@ -7,7 +7,7 @@ mod runs;
 pub mod utf8;
 
 ghost use mathlib.Core.Path.{_≡_};
-ghost use Rattle.text.specs.Span.{outside, endFault, spanFault, TextAnswered, PartGiven};
+ghost use Rattle.text.specs.Span.{outside, endFault, spanFault, TextAnswered, PartGiven, NothingGiven};
 
 // The largest string table, in bytes.
 pub const MAX_TABLE: usize = 16_777_216;
@@ -25,12 +25,20 @@ pub fn is_outside(tab: &[u8], off: u32, len: u32) -> bool
     tab.len() < off as usize + len as usize
 }
 
+// The empty part at the table's start.
+fn nothing<'a>(tab: &'a [u8]) -> &'a [u8]
+    ensures { λ r. ⌜ NothingGiven (tab .entry) r ⌝ }
+{
+    let start: usize = 0;
+    &tab[start..start]
+}
+
 // The part of the table that a span is, text or not; the empty part at the table's start where it passes the end.
 pub fn span<'a>(tab: &'a [u8], off: u32, len: u32) -> &'a [u8]
     ensures { λ r. ⌜ PartGiven (endFault (now (tab .entry)) off len) (tab .entry) off len r ⌝ }
 {
     if is_outside(tab, off, len) {
-        return &tab[..0];
+        return nothing(tab);
     }
     let start = off as usize;
     let end = start + len as usize;
@@ -60,7 +68,7 @@ pub fn text<'a>(tab: &'a [u8], off: u32, len: u32) -> &'a [u8]
 {
     let answer = text_answer(tab, off, len);
     if let SpanAnswer::Refused(_) = answer {
-        return &tab[..0];
+        return nothing(tab);
     }
     span(tab, off, len)
 }

@@ -1,10 +1,9 @@
 -- `text::span` meets its contract: the part that is cut out stands as far from the table's start as it is cut, and holds the span's bytes.
 -- Assumes nothing.
 use mathlib.Core.Path.{_≡_, refl, sym, ap, _∙_}
-use mathlib.Core.Option.{Option, none, some}
-use Prim.Native.Nat.{ℕ, _+_, _≤_, _<_}
-use native.Mathlib.Nat.{add-zero, add-comm}
-use native.Mathlib.Omega.{arith}
+use mathlib.Core.Option.{some}
+use Prim.Native.Nat.{ℕ, _+_, _≤_}
+use native.Mathlib.Nat.{add-comm}
 use borrow.Author.Needs.{needs}
 use borrow.Author.Tests.{ltb-true, ltb-false}
 use lib.ListN.{length}
@@ -30,14 +29,11 @@ ends-inside c = ltb-false _ _ (sym (c .before .is-outside .ensures) ∙ c .if1 .
 is-outside-requires : tie.Need-is-outside-requires
 is-outside-requires c κs = search needs
 
-slice-aggregate-result : tie.Need-slice-aggregate-result
-slice-aggregate-result c = search needs
+nothing-requires : tie.Need-nothing-requires
+nothing-requires c κs = search needs
 
 returns : tie.Need-returns
-returns c =
-    let a = start (c .before .before) .args in
-    let nothing = nothing-given (endFault (a .tab .now) (a .off) (a .len)) Span (passes-end (c .before)) (spanOf (a .tab .now) (a .off) (a .len)) (a .off) in
-    record { gave = sym (nothing .0); block = refl; stands = sym (ap (λ (k : ℕ). a .tab .ptr .1 + k) (nothing .1) ∙ add-zero _) }
+returns c = nothing-given _ Span (passes-end (c .before)) (c .nothing .ensures)
 
 add-end : tie.Need-add-end
 add-end c = search needs
@@ -67,7 +63,7 @@ span-spec =
     tie.close
     (tie.spec
     is-outside-requires
-    slice-aggregate-result
+    nothing-requires
     returns
     add-end
     sub-result

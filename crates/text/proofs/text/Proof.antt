@@ -1,12 +1,10 @@
 -- `text::text` meets its contract: an answer tells the fault, or that there is none, and then the span lies inside and is what is given back.
 -- Assumes nothing.
-use mathlib.Core.Path.{_≡_, refl, sym, ap, _∙_}
+use mathlib.Core.Path.{_≡_, sym, _∙_}
 use mathlib.Core.Option.{Option, none}
-use Prim.Native.Nat.{ℕ, _+_}
-use native.Mathlib.Nat.{add-zero}
 use borrow.Author.Needs.{needs}
 use Rattle.refusal.specs.declared.Fault.{Fault}
-use Rattle.text.specs.Span.{spanOf, endFault, spanFault, PartGiven}
+use Rattle.text.specs.Span.{spanFault}
 use Rattle.text.proofs.Spans.{nothing-given, inside-end, refused-fault, accepted-none, accepted-inside}
 use Rattle.text.proofs.text.Statement.{statement}
 use Rattle.text.proofs.text.Tie as tie
@@ -28,17 +26,15 @@ text-answer-requires c κs = search needs
 enum-told : tie.Need-enum-told
 enum-told c = search needs
 
-slice-aggregate-result : tie.Need-slice-aggregate-result
-slice-aggregate-result c = search needs
+nothing-requires : tie.Need-nothing-requires
+nothing-requires c κs = search needs
 
 returns : tie.Need-returns
 returns c =
     let told = c .before in
     let asked = told .before .before in
-    let a = start asked .args in
-    let refused = refused-fault (asked .text-answer .ensures) (told .enum-told .given .0 .0) (told .enum-told .given .1) in
-    let nothing = nothing-given (fault (start asked)) (told .enum-told .given .0 .0) refused (spanOf (a .tab .now) (a .off) (a .len)) (a .off) in
-    record { gave = sym (nothing .0); block = refl; stands = sym (ap (λ (k : ℕ). a .tab .ptr .1 + k) (nothing .1) ∙ add-zero _) }
+    let f = told .enum-told .given .0 .0 in
+    nothing-given _ f (refused-fault (asked .text-answer .ensures) f (told .enum-told .given .1)) (c .nothing .ensures)
 
 enum-told-2 : tie.Need-enum-told-2
 enum-told-2 c = search needs
@@ -59,7 +55,7 @@ text-spec =
     (tie.spec
     text-answer-requires
     enum-told
-    slice-aggregate-result
+    nothing-requires
     returns
     enum-told-2
     span-requires

@@ -1,7 +1,6 @@
 -- `wordpiece::from_rows` meets its contract: what `judge` finds is refused. Rows without a fault are what the core asks for, the room is the
 -- least that the columns have, and what the core answers is answered. Assumes nothing.
 use mathlib.Core.Path.{_≡_, sym, ap, _∙_, subst}
-use mathlib.Core.Bool.{false}
 use mathlib.Core.Option.{none}
 use Prim.Native.Nat.{ℕ}
 use native.Mathlib.Omega.{arith}
@@ -84,7 +83,7 @@ build-requires : tie.Need-build-requires
 build-requires c κs =
     let r = c .before .before .before .before .before .before in
     let e = begun r in (
-      judged WordPiece (e .args .tab .now) (lists e) (fine (told r)) false,
+      judged WordPiece (e .args .tab .now) (lists e) (fine (told r)) _,
       subst (λ (n : ℕ). RoomFor n (lent e)) (sym (r .room .ensures)) (room-is (lent e)),
     )
 

@@ -1,88 +1,57 @@
--- `pack::enter::enter_row` meets its contract: what is read is the row, since it is fine, and its token is entered. Assumes nothing.
-use mathlib.Core.Path.{_≡_, ap}
-use native.Mathlib.Omega.{arith}
 use borrow.Author.Needs.{needs}
-use Rattle.rows.specs.Rows.{Row, rowIs}
-use Rattle.rows.proofs.RowFaults.{fine-inside}
-use Rattle.pack.specs.Pack.{rowAt}
-use Rattle.pack.specs.Reading.{rowStart}
-use Rattle.pack.proofs.Entered.{entered-row}
 use Rattle.pack.proofs.enter.enter_row.Statement.{statement}
 use Rattle.pack.proofs.enter.enter_row.Tie as tie
+use Rattle.pack.proofs.enter.enter_row.Reads as reads
+use Rattle.pack.proofs.enter.enter_row.Lts as lts
+use Rattle.build.proofs.tokens.enter_token.Reads as enter-token-reads
+use Rattle.pack.proofs.enter.keeps_first.Reads as keeps-first-reads
+use Rattle.pack.proofs.enter.value.Reads as value-reads
+use Rattle.pack.proofs.row.row_at.Reads as row-at-reads
+use Rattle.text.proofs.span.Reads as span-reads
 
--- ---- the ways back
-
-abbrev entry : tie.After-row-at → tie.Start
-entry c =
-    let k = c .before .before in
-    let k₁ = k .before .before in
-    k₁ .before .before
-
-abbrev valued : tie.After-value → tie.After-row-at
-valued c = let k = c .before .before in k .before
-
-abbrev called : tie.After-slice-known6 → tie.After-enter-token
-called c =
-    let k = c .before .before in
-    let k₁ = k .before .before in
-    k₁ .before .before
-
-abbrev lent : tie.After-enter-token-arg3 → tie.After-keeps-first
-lent c = let k = c .before .before in k .before
-
--- the row that is read is the row
-row-is : (c : tie.After-row-at) → (let s = entry c in rowIs (c .row-at .result) ≡ rowAt (s .args .kind) (s .args .bytes .now) (rowStart (s .args .i)))
-row-is c = let s = entry c in c .row-at .ensures .very (s .args .strings .now) (s .pre .fine)
-
+-- src/enter.rt:64:44
 mul-row-at : tie.Need-mul-row-at
-mul-row-at c = let k = c .before .before in let s = k .before .before .before in omega (arith, s .pre .small)
+mul-row-at c = search needs
 
+-- src/enter.rt:64:35
 add-row-at : tie.Need-add-row-at
-add-row-at c = let k = c .before .before in let s = k .before .before .before in omega (arith, s .pre .small)
+add-row-at c = search needs
 
+-- src/enter.rt:64:9
 row-at-requires : tie.Need-row-at-requires
-row-at-requires c κs = let k = c .before .before in let s = k .before .before .before in s .pre .inside
+row-at-requires c κs = search needs
 
-cast-off : tie.Need-cast-off
-cast-off c = search needs
+-- src/enter.rt:65:9
+span-requires : tie.Need-span-requires
+span-requires c κs = search needs
 
-cast-len : tie.Need-cast-len
-cast-len c = search needs
-
+-- src/enter.rt:67:9
 value-requires : tie.Need-value-requires
-value-requires c κs = let k = c .before .before in entry k .pre .small
+value-requires c κs = search needs
 
+-- src/enter.rt:68:9
 keeps-first-requires : tie.Need-keeps-first-requires
 keeps-first-requires c κs = search needs
 
+-- src/enter.rt:69:5
 enter-token-requires : tie.Need-enter-token-requires
-unfolding rowIs
-enter-token-requires c κs =
-    let k = valued (lent c .before) in
-    let s = entry k in
-    let read = row-is k in
-    let in-table = fine-inside (s .args .kind) (s .args .strings .now) (rowAt (s .args .kind) (s .args .bytes .now) (rowStart (s .args .i))) (s .pre .fine) in
-    (omega (arith, in-table, ap (λ (r : Row). r .off) read, ap (λ (r : Row). r .len) read), s .pre .enterable)
+enter-token-requires c κs = search needs
 
+-- src/enter.rt:46:1
 same-length : tie.Need-same-length
 same-length c = search needs
 
+-- src/enter.rt:46:1
 same-length-2 : tie.Need-same-length-2
 same-length-2 c = search needs
 
+-- src/enter.rt:46:1
 same-length-3 : tie.Need-same-length-3
 same-length-3 c = search needs
 
+-- src/enter.rt:46:1
 returns : tie.Need-returns
-unfolding rowIs
-returns c =
-    let t = called c in
-    let first = lent (t .before) in
-    let v = first .before in
-    let k = valued v in
-    let s = entry k in
-    entered-row (s .args .kind) (s .args .bytes .now) (s .args .strings .now) (rowStart (s .args .i)) (s .args .i) (rowIs (k .row-at .result))
-    (row-is k) (first .keeps-first .ensures) (v .value .ensures) (t .enter-token .ensures)
+returns c = ?
 
 pub enter-row-spec : {M : Type 1} → statement M
 enter-row-spec =
@@ -91,8 +60,7 @@ enter-row-spec =
     mul-row-at
     add-row-at
     row-at-requires
-    cast-off
-    cast-len
+    span-requires
     value-requires
     keeps-first-requires
     enter-token-requires

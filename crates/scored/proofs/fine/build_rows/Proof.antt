@@ -1,7 +1,6 @@
 -- `scored::fine::build_rows` meets its contract: the room is the least that the columns have, what the core answers is answered, and the score
 -- column is made zero or filled. Assumes nothing.
 use mathlib.Core.Path.{ap}
-use mathlib.Core.Bool.{true}
 use native.Mathlib.Omega.{arith}
 use borrow.Author.Needs.{needs}
 use lib.ListN.{length}
@@ -69,7 +68,7 @@ build-requires : tie.Need-build-requires
 build-requires c κs =
     let r = c .before .before .before .before .before .before in
     let a = entry r .args in
-    (judged Unigram (a .tab .now) (rows-lent (entry r)) (entry r .pre) true, scored-room-for (lent (entry r)) _ (r .room .ensures))
+    (judged Unigram (a .tab .now) (rows-lent (entry r)) (entry r .pre) _, scored-room-for (lent (entry r)) _ (r .room .ensures))
 
 enum-told : tie.Need-enum-told
 enum-told c = search needs

@@ -1,0 +1,21 @@
+-- `text::nothing` meets its contract: a part that ends where it starts is empty, and one that starts at 0 stands at the start. Assumes nothing.
+use mathlib.Core.Path.{refl}
+use native.Mathlib.Nat.{zero-add}
+use borrow.Author.Needs.{needs}
+use Rattle.text.proofs.nothing.Statement.{statement}
+use Rattle.text.proofs.nothing.Tie as tie
+
+sub-result : tie.Need-sub-result
+sub-result c = search needs
+
+part-result-start : tie.Need-part-result-start
+part-result-start c = search needs
+
+part-result-end : tie.Need-part-result-end
+part-result-end c = search needs
+
+returns : tie.Need-returns
+returns c = record { gave = refl; block = refl; stands = zero-add (c .before .args .tab .ptr .1) }
+
+pub nothing-spec : {M : Type 1} → statement M
+nothing-spec = tie.close (tie.spec sub-result part-result-start part-result-end returns)
