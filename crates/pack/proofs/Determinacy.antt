@@ -2,11 +2,17 @@
 -- promised as doubles, of which the format has one value each. And it is refused with r exactly where r is the pack's fault. Assumes nothing.
 use mathlib.Core.Path.{_≡_, refl, sym, ap, _∙_}
 use mathlib.Core.Logic.{_↔_}
-use mathlib.Core.List.{List}
+use mathlib.Core.Bool.{Bool, true}
+use mathlib.Core.List.{List, map}
 use mathlib.Core.Option.{Option, none, some}
 use Prim.Native.Nat.{ℕ}
 use native.Mathlib.Omega.{arith}
+use lib.Dec.{T}
+use lib.Ieee.{Float}
 use Rattle.doubles.specs.Double.{Double}
+use Rattle.doubles.specs.Units.{units, held, allHeld}
+use Rattle.doubles.proofs.Floats.{units-injective}
+use Rattle.doubles.proofs.Determinacy.{column-once}
 use Rattle.refusal.specs.declared.Reason.{Reason}
 use Rattle.rows.specs.declared.Kind.{Kind}
 use Rattle.rows.specs.declared.Kind.the-variants.{Unigram, WordPiece}
