@@ -162,7 +162,7 @@ fn sized(r: &mut Random, u: &tokie::Unigram, w: &tokie::Wordpiece, tokens: usize
 }
 
 /// The whole program's work, pack to printed lines, beside the Rust's tries and ids with the same reading and printing.
-/// The port tests the trie for each line, and clears the scratch that it lends.
+/// The port tests the trie once, for all lines, and the lines share one scratch.
 fn program(r: &mut Random) {
     let u = large::unigram(r);
     let rows = u.rows[..900].iter().map(|(t, x)| (t.clone().into_bytes(), Worth::Score(*x))).collect();
