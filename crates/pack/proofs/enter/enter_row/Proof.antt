@@ -1,57 +1,93 @@
+-- `pack::enter::enter_row` meets its contract: what is read is the row, since it is fine, and its token is entered. Assumes nothing.
+use mathlib.Core.Path.{_≡_, refl, ap}
+use Prim.Native.Nat.{_+_, _≤_}
+use native.Mathlib.Omega.{arith}
 use borrow.Author.Needs.{needs}
+use lib.ListN.{length}
+use Rattle.text.proofs.Spans.{inside-given}
+use Rattle.rows.specs.Rows.{Row, rowIs}
+use Rattle.rows.proofs.RowFaults.{fine-inside}
+use Rattle.build.proofs.Marking.{row-valued}
+use Rattle.pack.specs.Pack.{rowAt}
+use Rattle.pack.specs.Reading.{rowStart}
+use Rattle.pack.proofs.Entered.{entered-row}
 use Rattle.pack.proofs.enter.enter_row.Statement.{statement}
 use Rattle.pack.proofs.enter.enter_row.Tie as tie
-use Rattle.pack.proofs.enter.enter_row.Reads as reads
-use Rattle.pack.proofs.enter.enter_row.Lts as lts
-use Rattle.build.proofs.tokens.enter_token.Reads as enter-token-reads
-use Rattle.pack.proofs.enter.keeps_first.Reads as keeps-first-reads
-use Rattle.pack.proofs.enter.value.Reads as value-reads
-use Rattle.pack.proofs.row.row_at.Reads as row-at-reads
-use Rattle.text.proofs.span.Reads as span-reads
 
--- src/enter.rt:64:44
+-- ---- the ways back
+
+abbrev entry : tie.After-row-at → tie.Start
+entry c =
+    let k = c .before .before in
+    let k₁ = k .before .before in
+    k₁ .before .before
+
+abbrev spanned : tie.After-value → tie.After-span
+spanned c = c .before
+
+abbrev called : tie.After-slice-known6 → tie.After-enter-token
+called c =
+    let k = c .before .before in
+    let k₁ = k .before .before in
+    k₁ .before .before
+
+abbrev lent : tie.After-enter-token-arg3 → tie.After-keeps-first
+lent c = let k = c .before .before in k .before
+
+-- the row that is read is the row
+row-is : (c : tie.After-row-at) → (let s = entry c in rowIs (c .row-at .result) ≡ rowAt (s .args .kind) (s .args .bytes .now) (rowStart (s .args .i)))
+row-is c = let s = entry c in c .row-at .ensures .very (s .args .strings .now) (s .pre .fine)
+
+-- so its token lies inside the strings
+inside : (c : tie.After-row-at) → c .row-at .result .off + c .row-at .result .len ≤ length (entry c .args .strings .now)
+unfolding rowIs
+inside c =
+    let s = entry c in
+    let row = rowAt (s .args .kind) (s .args .bytes .now) (rowStart (s .args .i)) in
+    let in-table = fine-inside (s .args .kind) (s .args .strings .now) row (s .pre .fine) in
+    omega (arith, in-table, ap (λ (r : Row). r .off) (row-is c), ap (λ (r : Row). r .len) (row-is c))
+
 mul-row-at : tie.Need-mul-row-at
-mul-row-at c = search needs
+mul-row-at c = let k = c .before .before in let s = k .before .before .before in omega (arith, s .pre .small)
 
--- src/enter.rt:64:35
 add-row-at : tie.Need-add-row-at
-add-row-at c = search needs
+add-row-at c = let k = c .before .before in let s = k .before .before .before in omega (arith, s .pre .small)
 
--- src/enter.rt:64:9
 row-at-requires : tie.Need-row-at-requires
-row-at-requires c κs = search needs
+row-at-requires c κs = let k = c .before .before in let s = k .before .before .before in s .pre .inside
 
--- src/enter.rt:65:9
 span-requires : tie.Need-span-requires
 span-requires c κs = search needs
 
--- src/enter.rt:67:9
 value-requires : tie.Need-value-requires
-value-requires c κs = search needs
+value-requires c κs = entry (c .before) .pre .small
 
--- src/enter.rt:68:9
 keeps-first-requires : tie.Need-keeps-first-requires
 keeps-first-requires c κs = search needs
 
--- src/enter.rt:69:5
 enter-token-requires : tie.Need-enter-token-requires
-enter-token-requires c κs = search needs
+enter-token-requires c κs = entry (spanned (lent c .before) .before) .pre .enterable
 
--- src/enter.rt:46:1
 same-length : tie.Need-same-length
 same-length c = search needs
 
--- src/enter.rt:46:1
 same-length-2 : tie.Need-same-length-2
 same-length-2 c = search needs
 
--- src/enter.rt:46:1
 same-length-3 : tie.Need-same-length-3
 same-length-3 c = search needs
 
--- src/enter.rt:46:1
 returns : tie.Need-returns
-returns c = ?
+unfolding rowIs
+returns c =
+    let t = called c in
+    let first = lent (t .before) in
+    let v = first .before in
+    let g = spanned v in
+    let k = g .before in
+    let s = entry k in
+    entered-row (s .args .kind) (s .args .bytes .now) (s .args .strings .now) (rowStart (s .args .i)) (s .args .i) (rowIs (k .row-at .result))
+    (row-is k) (first .keeps-first .ensures) (v .value .ensures) (row-valued (inside-given (g .span .ensures) (inside k)) refl (t .enter-token .ensures))
 
 pub enter-row-spec : {M : Type 1} → statement M
 enter-row-spec =
