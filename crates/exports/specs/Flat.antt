@@ -1,9 +1,10 @@
 -- Answers as numbers, for callers in other languages. Definitions only; assumes nothing.
 use mathlib.Core.Path.{_≡_}
-use Prim.Native.Nat.{ℕ, _+_, _*_, _^_, _≤_, _<_}
+use Prim.Native.Nat.{ℕ, _+_, _*_, _^_}
 use mathlib.Core.Bool.{cond}
 use mathlib.Core.List.{List, [], _∷_}
 use mathlib.Core.Option.{Option, none, some}
+use lib.Dec.{ltb}
 use lib.ListN.{length}
 use Rattle.doubles.specs.Double.{Double, plusZero}
 use Rattle.refusal.specs.declared.Fault.{Fault}
@@ -11,7 +12,7 @@ use Rattle.refusal.specs.declared.Reason.{Reason}
 use Rattle.refusal.specs.declared.Reason.the-variants.{Call, Row}
 use Rattle.refusal.specs.Refusal.{number}
 use Rattle.refusal.specs.Sizes.{noId}
-use Rattle.refusal.specs.Places.{filled}
+use Rattle.refusal.specs.Places.{overlay, filled}
 use Rattle.rows.specs.Columns.{Columns, rowsOf}
 use Rattle.build.specs.Names.{names}
 use Rattle.build.specs.Rules.{tokensOf, unigramTrie, unigramScores, wordpieceTrie}
@@ -30,8 +31,7 @@ use Rattle.wordpiece.specs.declared.BuildAnswer as wordpiece
 use Rattle.wordpiece.specs.declared.BuildAnswer.the-variants as wordpiece-is
 use Rattle.wordpiece.specs.Build as from-rows
 use Rattle.pack.specs.Build as pack
-use Rattle.output.specs.Output.{output}
-use Rattle.output.specs.Put.{Put}
+use Rattle.output.specs.Output.{maxOutput, output}
 
 -- 0 where there is no fault, else the paper's number
 abbrev pub status : Option Fault → ℕ
@@ -122,7 +122,8 @@ pub record PackBuiltAs (bytes : List ℕ) (before : Memory) (scoresBefore unknow
   pub columns : after ≡ leaves (pack.packFault bytes before scoresBefore) (holding (pack.trieIn (pack.theKind bytes) bytes) before) (cleared before) before
   pub scores : scoresAfter ≡ leaves (pack.packFault bytes before scoresBefore) (filled plusZero (pack.scoresIn (pack.theKind bytes) bytes) scoresBefore) (zeroScores scoresBefore) scoresBefore
 
--- what the program prints, in a buffer that may be too short for some output: then 2 ^ 32, and nothing is written
+-- what the program prints, over the first places of the buffer, and how many bytes; in a buffer that may be too short for some
+-- output 2 ^ 32, and nothing is written
 pub record PrintedAs (bytes input before : List ℕ) (answer : ℕ) (after : List ℕ) : Type 0 where
-  pub short : length before < 360_459 → (answer ≡ 2 ^ 32) × (after ≡ before)
-  pub printed : 360_459 ≤ length before → Put before 0 (output bytes input) answer after
+  pub answered : answer ≡ cond (ltb (length before) maxOutput) (2 ^ 32) (length (output bytes input))
+  pub left : after ≡ cond (ltb (length before) maxOutput) before (overlay (output bytes input) before)

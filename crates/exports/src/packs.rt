@@ -61,13 +61,13 @@ pub extern "C" fn sk_pack_build(
     )
 }
 
-// All that the program prints for a pack and an input, from the front of the buffer: how many bytes. 2^32, and nothing written, where the buffer
-// has fewer than 360,459 bytes, which are enough for any output.
+// All that the program prints for a pack and an input, from the front of the buffer; past it the buffer is unchanged. Answers
+// how many bytes; or 2^32, and nothing is written, where the buffer has fewer than 360,459, which are enough for any output.
 #[no_mangle]
 pub extern "C" fn sk_print(pack: &[u8], input: &[u8], out: &mut [u8]) -> usize
     ensures { λ r. ⌜ PrintedAs (now (pack .entry)) (now (input .entry)) (now (out .entry)) r (now (out .exit)) ⌝ }
 {
-    if out.len() < 360_459 {
+    if out.len() < output::MAX_OUTPUT {
         return 4_294_967_296;
     }
     output::print(pack, input, out)

@@ -22,7 +22,7 @@ fn main() {
     let p = read_pack(&mut pack);
     let mut input = [0u8; 32_769];
     let n = io::read_full(STDIN_FILENO, &mut input);
-    let mut out = [0u8; 360_459];
+    let mut out = [0u8; output::MAX_OUTPUT];
     let end = output::print(&pack[..p], &input[..n], &mut out);
     io::write_all(STDOUT_FILENO, &out[..end]);
 }

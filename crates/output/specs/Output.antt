@@ -1,5 +1,5 @@
 -- What the program `ids` prints: a function of the bytes of `vocab.pack` and of standard input. Definitions only; assumes nothing.
-use Prim.Native.Nat.{ℕ}
+use Prim.Native.Nat.{ℕ, _+_, _*_}
 use mathlib.Core.Bool.{true, false, cond}
 use mathlib.Core.List.{List, [], _∷_, _++_, flatMap}
 use mathlib.Core.Option.{Option, none, some}
@@ -30,6 +30,10 @@ maxPack = 65_536
 -- "and lines from standard input (at most 32,768 bytes)"
 abbrev pub maxInput : ℕ
 maxInput = 32_768
+
+-- 360,459 bytes, enough for any output: a line takes at most 11 bytes for each of its bytes, LF included
+abbrev pub maxOutput : ℕ
+maxOutput = 11 * maxInput + 11
 
 -- "It lends 4,096 node, edge, slot, path and id places and 8,192 work places." They are zero at first.
 abbrev pub places : List ℕ

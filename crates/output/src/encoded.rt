@@ -15,7 +15,7 @@ ghost use Rattle.output.specs.Put.{Put};
 
 // One line, a word: its ids, or its refusal. Either takes at most 11 bytes for each byte of the line, and 11. `tested` is whether the parts are
 // sound. The id places may hold anything.
-pub fn put_encoded(
+pub(crate) fn put_encoded(
     tested: bool,
     edge_at: &[u32],
     edge_n: &[u16],
@@ -59,7 +59,7 @@ pub fn put_encoded(
 }
 
 // All lines of the input. The parts are tested once, and the lines share the id places.
-pub fn put_encoded_lines(
+pub(crate) fn put_encoded_lines(
     edge_at: &[u32],
     edge_n: &[u16],
     id: &[u32],

@@ -3,10 +3,10 @@ use pack::PackAnswer;
 use refusal::Fault;
 use refusal::Reason;
 
-pub mod encoded;
-pub mod lines;
-pub mod put;
-pub mod segmented;
+mod encoded;
+mod lines;
+mod put;
+mod segmented;
 
 ghost use mathlib.Core.Path.{_≡_};
 ghost use Prim.Native.Nat.{_-_, _≤_};
@@ -15,7 +15,7 @@ ghost use Rattle.text.specs.Span.{TextGiven};
 ghost use Rattle.trie.specs.Trie.{partsOf};
 ghost use Rattle.unigram.specs.Work.{modelOf, pieceWith};
 ghost use Rattle.pack.specs.Pack.{headerOf, stringsOf};
-ghost use Rattle.output.specs.Output.{segmentedLine, encodedLine, linesPrinted, faultOf, outputOf, output};
+ghost use Rattle.output.specs.Output.{segmentedLine, encodedLine, linesPrinted, faultOf, outputOf, output, maxOutput};
 ghost use Rattle.output.specs.Put.{Put};
 ghost use Rattle.output.specs.Cut.{Cuttable, Judged};
 
@@ -23,6 +23,9 @@ ghost use Rattle.output.specs.Cut.{Cuttable, Judged};
 const MAX_PACK: usize = 65_536;
 
 const MAX_INPUT: usize = 32_768;
+
+// As many bytes as any output takes at most: 11 for each byte of input, and 11.
+pub const MAX_OUTPUT: usize = 360_459;
 
 // What a reason says is wrong.
 fn fault_of(r: Reason) -> Fault
@@ -58,7 +61,8 @@ fn print_segmented(
     input: &[u8],
     out: &mut [u8],
 ) -> usize
-    requires { ⌜ Cuttable nodes (now «edge_at») (now «edge_n») (now id) (now byte) (now to) × (nodes ≤ length (now score)) × (360_459 ≤ length (now out)) ⌝ }
+    requires { ⌜ Cuttable nodes (now «edge_at») (now «edge_n») (now id) (now byte) (now to)
+        × (nodes ≤ length (now score)) × (maxOutput ≤ length (now out)) ⌝ }
     ensures { λ r.
         ⌜ Put (now (out .entry)) 0
         (linesPrinted (segmentedLine (modelOf (take nodes (now («edge_at» .entry))) (take nodes (now («edge_n» .entry))) (take nodes (now (id .entry)))
@@ -99,7 +103,7 @@ fn print_encoded(
     input: &[u8],
     out: &mut [u8],
 ) -> usize
-    requires { ⌜ Cuttable nodes (now «edge_at») (now «edge_n») (now id) (now byte) (now to) × (360_459 ≤ length (now out)) ⌝ }
+    requires { ⌜ Cuttable nodes (now «edge_at») (now «edge_n») (now id) (now byte) (now to) × (maxOutput ≤ length (now out)) ⌝ }
     ensures { λ r.
         ⌜ Put (now (out .entry)) 0
         (linesPrinted (encodedLine (partsOf (take nodes (now («edge_at» .entry))) (take nodes (now («edge_n» .entry))) (take nodes (now (id .entry)))
@@ -138,7 +142,8 @@ fn print_built(
     input: &[u8],
     out: &mut [u8],
 ) -> usize
-    requires { ⌜ Judged (now pack) answer (now «edge_at») (now «edge_n») (now id) (now score) (now byte) (now to) × (360_459 ≤ length (now out)) ⌝ }
+    requires { ⌜ Judged (now pack) answer (now «edge_at») (now «edge_n») (now id) (now score) (now byte) (now to)
+        × (maxOutput ≤ length (now out)) ⌝ }
     ensures { λ r. ⌜ Put (now (out .entry)) 0 (outputOf (now (pack .entry)) (now (input .entry))) r (now (out .exit)) ⌝ }
 {
     match answer {
@@ -185,9 +190,10 @@ fn print_built(
     }
 }
 
-// All that the program prints for a pack and an input, from the front of the buffer: at most 360,459 bytes.
+// All that the program prints for a pack and an input, from the front of the buffer; past it the buffer is unchanged. Answers
+// how many bytes. For callers that know that there is room for any output.
 pub fn print(pack: &[u8], input: &[u8], out: &mut [u8]) -> usize
-    requires { ⌜ 360_459 ≤ length (now out) ⌝ }
+    requires { ⌜ maxOutput ≤ length (now out) ⌝ }
     ensures { λ r. ⌜ Put (now (out .entry)) 0 (output (now (pack .entry)) (now (input .entry))) r (now (out .exit)) ⌝ }
 {
     if MAX_PACK < pack.len() {

@@ -5,7 +5,7 @@ ghost use lib.ListN.{length, drop};
 ghost use Rattle.output.specs.Lines.{untilLf};
 
 // Where the line ends that begins at `from`: at its LF, or at the end of the input.
-pub fn line_end(input: &[u8], from: usize) -> usize
+pub(crate) fn line_end(input: &[u8], from: usize) -> usize
     requires { ⌜ from ≤ length (now input) ⌝ }
     ensures { λ r. ⌜ r ≡ from + untilLf (drop from (now (input .entry))) ⌝ }
 {

@@ -7,7 +7,7 @@ ghost use Rattle.output.specs.Lines.{decimal, spaced, printedIds, printe
 ghost use Rattle.output.specs.Put.{Put};
 
 // A number in decimal.
-pub fn put_number(out: &mut [u8], at: usize, n: u32) -> usize
+pub(crate) fn put_number(out: &mut [u8], at: usize, n: u32) -> usize
     requires { ⌜ at + length (decimal n) ≤ length (now out) ⌝ }
     ensures { λ r. ⌜ Put (now (out .entry)) at (decimal n) r (now (out .exit)) ⌝ }
 {
@@ -21,7 +21,7 @@ pub fn put_number(out: &mut [u8], at: usize, n: u32) -> usize
 }
 
 // One byte.
-pub fn put_byte(out: &mut [u8], at: usize, b: u8) -> usize
+pub(crate) fn put_byte(out: &mut [u8], at: usize, b: u8) -> usize
     requires { ⌜ at < length (now out) ⌝ }
     ensures { λ r. ⌜ Put (now (out .entry)) at (b ∷ []) r (now (out .exit)) ⌝ }
 {
@@ -30,7 +30,7 @@ pub fn put_byte(out: &mut [u8], at: usize, b: u8) -> usize
 }
 
 // The bytes of a text.
-pub fn put_text(out: &mut [u8], at: usize, text: &[u8]) -> usize
+pub(crate) fn put_text(out: &mut [u8], at: usize, text: &[u8]) -> usize
     requires { ⌜ at + length (now text) ≤ length (now out) ⌝ }
     ensures { λ r. ⌜ Put (now (out .entry)) at (now (text .entry)) r (now (out .exit)) ⌝ }
 {
@@ -44,7 +44,7 @@ pub fn put_text(out: &mut [u8], at: usize, text: &[u8]) -> usize
 }
 
 // A number after one space.
-pub fn put_spaced(out: &mut [u8], at: usize, n: u32) -> usize
+pub(crate) fn put_spaced(out: &mut [u8], at: usize, n: u32) -> usize
     requires { ⌜ at + 11 ≤ length (now out) ⌝ }
     ensures { λ r. ⌜ Put (now (out .entry)) at (0x20 ∷ decimal n) r (now (out .exit)) × (r ≤ at + 11) ⌝ }
 {
@@ -53,7 +53,7 @@ pub fn put_spaced(out: &mut [u8], at: usize, n: u32) -> usize
 }
 
 // The numbers, each after one space. A u32 has at most ten digits.
-pub fn put_numbers(out: &mut [u8], at: usize, numbers: &[u32]) -> usize
+pub(crate) fn put_numbers(out: &mut [u8], at: usize, numbers: &[u32]) -> usize
     requires { ⌜ at + 11 * length (now numbers) ≤ length (now out) ⌝ }
     ensures { λ r. ⌜ Put (now (out .entry)) at (spaced (now (numbers .entry))) r (now (out .exit)) × (r ≤ at + 11 * length (now (numbers .entry))) ⌝ }
 {
@@ -67,7 +67,7 @@ pub fn put_numbers(out: &mut [u8], at: usize, numbers: &[u32]) -> usize
 }
 
 // The line of a comment's ids: how many there are, and each.
-pub fn put_ids(out: &mut [u8], at: usize, ids: &[u32]) -> usize
+pub(crate) fn put_ids(out: &mut [u8], at: usize, ids: &[u32]) -> usize
     requires { ⌜ at + 11 * length (now ids) + 11 ≤ length (now out) ⌝ }
     requires { ⌜ length (now ids) < 2 ^ 32 ⌝ }
     ensures { λ r. ⌜ Put (now (out .entry)) at (printedIds (now (ids .entry))) r (now (out .exit)) × (r ≤ at + 11 * length (now (ids .entry)) + 11) ⌝ }
@@ -78,7 +78,7 @@ pub fn put_ids(out: &mut [u8], at: usize, ids: &[u32]) -> usize
 }
 
 // The line of the first n of some id places.
-pub fn put_first(out: &mut [u8], at: usize, places: &[u32], n: usize) -> usize
+pub(crate) fn put_first(out: &mut [u8], at: usize, places: &[u32], n: usize) -> usize
     requires { ⌜ (at + 11 * n + 11 ≤ length (now out)) × (n ≤ length (now places)) × (n < 2 ^ 32) ⌝ }
     ensures { λ r. ⌜ Put (now (out .entry)) at (printedIds (take n (now (places .entry)))) r (now (out .exit)) × (r ≤ at + 11 * n + 11) ⌝ }
 {
@@ -86,7 +86,7 @@ pub fn put_first(out: &mut [u8], at: usize, places: &[u32], n: usize) -> usize
 }
 
 // The line of a refusal, after what was refused. A refusal's number has at most two digits.
-pub fn put_refusal(out: &mut [u8], at: usize, what: &[u8], f: Fault) -> usize
+pub(crate) fn put_refusal(out: &mut [u8], at: usize, what: &[u8], f: Fault) -> usize
     requires { ⌜ at + length (now what) + 11 ≤ length (now out) ⌝ }
     ensures { λ r. ⌜ Put (now (out .entry)) at (printedRefusal (now (what .entry)) f) r (now (out .exit)) × (r ≤ at + length (now (what .entry)) + 11) ⌝ }
 {

@@ -18,7 +18,7 @@ ghost use Rattle.output.specs.Lent.{Lent};
 
 // One line, a text: its ids, or its refusal. Either takes at most 11 bytes for each byte of the line, and 11. `tested` is whether the parts are
 // sound. The scratch may hold anything: what a line before it left there has no effect.
-pub fn put_segmented(
+pub(crate) fn put_segmented(
     tested: bool,
     edge_at: &[u32],
     edge_n: &[u16],
@@ -70,7 +70,7 @@ pub fn put_segmented(
 }
 
 // All lines of the input. The parts are tested once, and the lines share the scratch.
-pub fn put_segmented_lines(
+pub(crate) fn put_segmented_lines(
     edge_at: &[u32],
     edge_n: &[u16],
     id: &[u32],
