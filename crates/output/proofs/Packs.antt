@@ -19,7 +19,7 @@ use Rattle.refusal.specs.Sizes.{maxTable}
 use Rattle.refusal.proofs.Tests.{not-found}
 use Rattle.text.specs.Ascii.{ascii}
 use Rattle.text.specs.Text.{wellFormed}
-use Rattle.text.specs.Span.{spanOf, spanFault, givenFor, TextGiven}
+use Rattle.text.specs.Span.{spanOf, spanFault, givenFor}
 use Rattle.trie.specs.Trie.{Trie, partsOf}
 use Rattle.trie.proofs.Every.{first, second}
 use Rattle.rows.specs.declared.Kind.{Kind}
@@ -38,7 +38,7 @@ use Rattle.pack.proofs.Determinacy as determined
 use Rattle.pack.proofs.BuiltPacks as packs
 use Rattle.output.specs.Lines.{printedRefusal}
 use Rattle.output.specs.Output.{maxPack, places, lentMemory, scorePlaces, segmentedLine, encodedLine, printedLine, linesPrinted, faultOf, outputOf, output}
-use Rattle.output.specs.Cut.{Cuttable, Judged}
+use Rattle.output.specs.Cut.{PrefixGiven, Cuttable, Judged}
 
 -- ---- a pack that is too large
 
@@ -225,14 +225,14 @@ module _ (pack edgeAt edgeN id : List ℕ) (scores : List Float) (byte to : List
         ∙ not-found (ltb (length strings) (off + len)) fault.Span _ (le-ltb (length strings) (off + len) inside)
         ∙ not-found (not (wellFormed (spanOf strings off len))) fault.Text none (ap not text)
 
-    prefix-is : {prefix : List ℕ} → TextGiven (stringsOf pack) off len prefix → prefix ≡ prefixOf pack
+    prefix-is : {prefix : List ℕ} → PrefixGiven pack off len prefix → prefix ≡ prefixOf pack
     unfolding givenFor
     prefix-is g =
-        g .gave ∙ ap (λ (o : Option Fault). givenFor o (spanOf (stringsOf pack) off len)) prefix-fine
+        g ∙ ap (λ (o : Option Fault). givenFor o (spanOf (stringsOf pack) off len)) prefix-fine
         ∙ packs.wordpiece-prefix pack lentMemory left′ scorePlaces doubles′ n unknown most off len good (j .built)
 
     pub judged-wordpiece :
-        {prefix : List ℕ} (input : List ℕ) → TextGiven (stringsOf pack) off len prefix
+        {prefix : List ℕ} (input : List ℕ) → PrefixGiven pack off len prefix
         → linesPrinted (encodedLine (partsOf (take n edgeAt) (take n edgeN) (take n id) (take (n - 1) byte) (take (n - 1) to)) unknown most prefix) input
         ≡ outputOf pack input
     unfolding printedLine

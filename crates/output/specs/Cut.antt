@@ -1,14 +1,20 @@
--- A trie in the first places of lent columns. Definitions only; assumes nothing.
+-- A pack's prefix, and a trie in the first places of lent columns. Definitions only; assumes nothing.
 use mathlib.Core.List.{List, map}
 use Prim.Native.Nat.{ℕ, _-_, _≤_}
 use mathlib.Core.Path.{_≡_}
 use lib.Ieee.{Float}
 use lib.ListN.{length}
 use Rattle.doubles.specs.Units.{units}
+use Rattle.text.specs.Span.{spanOf, spanFault, givenFor}
 use Rattle.build.specs.Memory.{memory}
 use Rattle.pack.specs.declared.PackAnswer.{PackAnswer}
+use Rattle.pack.specs.Pack.{stringsOf}
 use Rattle.pack.specs.Build.{PackBuilt}
 use Rattle.output.specs.Output.{lentMemory, scorePlaces}
+
+-- what the span check gives of a pack's strings
+abbrev pub PrefixGiven : List ℕ → ℕ → ℕ → List ℕ → Type 0
+PrefixGiven pack off len prefix = let strings = stringsOf pack in prefix ≡ givenFor (spanFault strings off len) (spanOf strings off len)
 
 -- the columns have places for n nodes, of which there is at least the root, and their edges
 pub record Cuttable (n : ℕ) (edgeAt edgeN id byte to : List ℕ) : Type 0 where

@@ -11,13 +11,12 @@ mod segmented;
 ghost use mathlib.Core.Path.{_≡_};
 ghost use Prim.Native.Nat.{_-_, _≤_};
 ghost use lib.ListN.{length, take};
-ghost use Rattle.text.specs.Span.{TextGiven};
 ghost use Rattle.trie.specs.Trie.{partsOf};
 ghost use Rattle.unigram.specs.Work.{modelOf, pieceWith};
-ghost use Rattle.pack.specs.Pack.{headerOf, stringsOf};
+ghost use Rattle.pack.specs.Pack.{headerOf};
 ghost use Rattle.output.specs.Output.{segmentedLine, encodedLine, linesPrinted, faultOf, outputOf, output, maxOutput};
 ghost use Rattle.output.specs.Put.{Put};
-ghost use Rattle.output.specs.Cut.{Cuttable, Judged};
+ghost use Rattle.output.specs.Cut.{PrefixGiven, Cuttable, Judged};
 
 // The largest pack and the most input, in bytes.
 const MAX_PACK: usize = 65_536;
@@ -40,7 +39,7 @@ fn fault_of(r: Reason) -> Fault
 // A pack's prefix: the part of its strings.
 fn prefix_of<'a>(pack: &'a [u8], off: u32, len: u32) -> &'a [u8]
     requires { ⌜ (36 ≤ length (now pack)) × (headerOf (now pack) .stringsOff ≤ length (now pack)) ⌝ }
-    ensures { λ r. ⌜ TextGiven (stringsOf (now (pack .entry))) off len (now r) ⌝ }
+    ensures { λ r. ⌜ PrefixGiven (now (pack .entry)) off len (now r) ⌝ }
 {
     let start = pack::header::word(pack, 12) as usize;
     let strings = &pack[start..];

@@ -24,7 +24,7 @@ fn is_same(a: &[u8], b: &[u8]) -> bool {
 
 // Whether the program prints this.
 fn agrees(pack: &[u8], input: &[u8], right: &[u8]) -> bool {
-    let mut out = [0u8; 360_459];
+    let mut out = [0u8; output::MAX_OUTPUT];
     let n = output::print(pack, input, &mut out);
     is_same(&out[..n], right)
 }

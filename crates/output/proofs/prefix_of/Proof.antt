@@ -1,11 +1,11 @@
 -- `output::prefix_of` meets its contract: the strings begin where the header's fourth word says. Assumes nothing.
-use mathlib.Core.Path.{_≡_, sym, ap, _∙_, subst}
+use mathlib.Core.Path.{_≡_, ap, _∙_}
 use mathlib.Core.List.{List}
 use Prim.Native.Nat.{ℕ, _≤_, _-_}
 use native.Mathlib.Omega.{arith}
 use lib.ListN.{length, take, drop, length-drop}
 use lib.Seq.{take-all}
-use Rattle.text.specs.Span.{TextGiven}
+use Rattle.text.specs.Span.{spanOf, spanFault, givenFor}
 use Rattle.pack.specs.Pack.{headerOf, stringsOf}
 use borrow.Author.Needs.{needs}
 use Rattle.output.proofs.prefix_of.Statement.{statement}
@@ -47,8 +47,8 @@ returns : tie.Need-returns
 returns c =
     let w = c .before .before in
     let a = w .before .before .args in
-    subst (λ (strings : List ℕ). TextGiven strings (a .off) (a .len) (c .text .result .now)) (strings-are (a .pack .now) (w .word .result) (start-is w))
-    (c .text .ensures)
+    let given : List ℕ → List ℕ = λ strings. givenFor (spanFault strings (a .off) (a .len)) (spanOf strings (a .off) (a .len)) in
+    c .text .ensures .gave ∙ ap given (strings-are (a .pack .now) (w .word .result) (start-is w))
 
 pub prefix-of-spec : {M : Type 1} → statement M
 prefix-of-spec =
