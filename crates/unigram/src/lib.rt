@@ -86,9 +86,6 @@ fn cut(
     if ids.len() < characters {
         return SegmentAnswer::Refused(Fault::Ids);
     }
-    if text.len() == 0 {
-        return SegmentAnswer::Ids(0);
-    }
     SegmentAnswer::Ids(checked::segment(
         edge_at,
         edge_n,
