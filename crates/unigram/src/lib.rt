@@ -2,10 +2,10 @@
 use refusal::Fault;
 
 pub mod checked;
-pub mod lattice;
-pub mod path;
-pub mod runs;
-pub mod slots;
+mod lattice;
+mod path;
+mod runs;
+mod slots;
 
 ghost use mathlib.Core.Path.{_≡_};
 ghost use mathlib.Core.Bool.{_&&_, _||_};
