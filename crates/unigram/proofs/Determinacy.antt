@@ -1,5 +1,6 @@
--- The promise of `segment` fixes what it answers and what it leaves: each field is an equation with a value of the inputs. The score column is
--- promised by its units, and the format has one value for each, so the columns themselves are fixed. Assumes nothing.
+-- The promise of `segment` fixes what it answers and what it leaves: each field is an equation with a value of the inputs. The
+-- score column is promised by its units, and the format has one value for each, so the columns themselves are fixed. Assumes
+-- nothing.
 use mathlib.Core.Path.{_≡_, refl, sym, ap, _∙_}
 use mathlib.Core.Logic.{_↔_}
 use Prim.Native.Nat.{ℕ}

@@ -1,4 +1,5 @@
--- `segment`: which test gives which fault, and the promise from the fault, from an empty text, or from the cutting. Assumes nothing.
+-- `segment`: which test gives which fault, what is tested where there is none, and the promise from the fault, from an empty
+-- text, or from the cutting. Assumes nothing.
 use mathlib.Core.Path.{_≡_, refl, sym, ap, subst, _∙_}
 use mathlib.Core.Bool.{Bool, true, false, not, _&&_, _||_, cond}
 use mathlib.Core.List.{List, [], _∷_, map}

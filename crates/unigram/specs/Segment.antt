@@ -71,8 +71,8 @@ segmentLeaves (some f) m s b = b
 unfoldable pub slotIn : Scratch → ℕ → Slot
 slotIn b j = record { start = getD (b .start) j noId; id = getD (b .id) j noId; score = getD (b .score) j plusZero }
 
--- The records followed back from j: the pieces of the start that stands at j, then the piece that ends at j, with the id that stands there.
--- The second argument bounds how many; j is enough.
+-- The records followed back from j: the pieces of the start that stands at j, then the piece that ends at j, with the id that
+-- stands there. The second argument bounds how many; j is enough.
 unfoldable pub followedIn : Scratch → ℕ → ℕ → List Step
 followedIn b zero j = []
 followedIn b (suc n) zero = []
@@ -80,10 +80,10 @@ followedIn b (suc n) (suc j) =
     let r = slotIn b (suc j) in
     followedIn b n (r .start) ++ (record { end = suc j; id = r .id } ∷ [])
 
--- Demand 3, of the slots that stand when the call has ended: "the record at every boundary come to holds the greatest left-to-right rounded
--- sum of any allowed cutting before it, names the last piece of such a cutting (the earliest start among equals), and the records followed back
--- cover every byte once", with at most one piece a character. The pieces are those that these slots give, so `chain`, `score`, `cover` and `few`
--- are of what the records say.
+-- Demand 3, of the slots that stand when the call has ended: "the record at every boundary come to holds the greatest
+-- left-to-right rounded sum of any allowed cutting before it, names the last piece of such a cutting (the earliest start among
+-- equals), and the records followed back cover every byte once", with at most one piece a character. The pieces are those that
+-- these slots give (`followed`), so `chain`, `score`, `cover` and `few` are of what the records say.
 pub record RecordLaw (m : Model) (s : List ℕ) (after : Scratch) : Type 0 where
   pub best : (j : ℕ) → 0 < j → j ≤ length s → T (boundary s j) → Best (pieceOf m s) j (slotIn after j)
   pub followed : followedIn after (length s) (length s) ≡ piecesOf m s

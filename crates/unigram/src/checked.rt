@@ -10,9 +10,9 @@ ghost use Rattle.unigram.specs.Segment.{Segmented};
 ghost use Rattle.unigram.specs.Work.{modelOf, pieceWith};
 ghost use Rattle.unigram.specs.Core.{scratchOf, Prepared, Cut};
 
-// Nothing is refused here: the parts are sound, the text is well-formed and within the limit, and there are enough places. The ids of the best
-// cutting go to the first id places, the ends of its pieces to the first path places, the records to the slots; an empty text writes nothing.
-// Answers how many ids there are.
+// Nothing is refused here: the parts are sound, the text is well-formed and within the limit, and there are enough places. The
+// ids of the best cutting go to the first id places, the ends of its pieces to the first path places, the records to the slots;
+// an empty text writes nothing. Answers how many ids there are.
 pub fn segment(
     edge_at: &[u32],
     edge_n: &[u16],

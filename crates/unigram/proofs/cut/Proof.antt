@@ -1,4 +1,5 @@
--- `unigram::cut` meets its contract: refused with 9 or 10 exactly where the places are too few, else the cutting. Assumes nothing.
+-- `unigram::cut` meets its contract: refused with 9 or 10 exactly where the places are too few, else the cutting. Assumes
+-- nothing.
 use mathlib.Core.Path.{_≡_, sym, ap, _∙_}
 use mathlib.Core.Bool.{false, _&&_, _||_}
 use mathlib.Core.List.{List, [], _∷_}

@@ -1,5 +1,5 @@
--- `unigram::checked::segment` meets its contract: nothing for an empty text (`empty-for`), else the records, the path that they give, and the ids
--- merged from it (`cut-of`). Assumes nothing.
+-- `unigram::checked::segment` meets its contract: nothing for an empty text (`empty-for`), else the records, the path that they
+-- give, and the ids merged from it (`cut-of`). Assumes nothing.
 use mathlib.Core.Path.{_≡_, sym}
 use mathlib.Core.List.{map}
 use Prim.Native.Nat.{_≤_}
