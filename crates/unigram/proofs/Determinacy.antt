@@ -23,7 +23,9 @@ pub segmented-once : {m : Model} {s : List ℕ} {b : Scratch} {a₁ a₂ : Segme
 segmented-once p q = (p .answered ∙ sym (q .answered), p .left ∙ sym (q .left))
 
 -- the same of `checked::segment`
-pub cut-once : {m : Model} {s : List ℕ} {b : Scratch} {n₁ n₂ : ℕ} {b₁ b₂ : Scratch} → Cut m s b b₁ n₁ → Cut m s b b₂ n₂ → (n₁ ≡ n₂) × (b₁ ≡ b₂)
+pub cut-once :
+    {m : Model} {s : List ℕ} {b : Scratch} {n₁ n₂ : ℕ} {b₁ b₂ : Scratch} → Cut m s b b₁ n₁ → Cut m s b b₂ n₂
+    → (n₁ ≡ n₂) × (b₁ ≡ b₂)
 cut-once p q = (p .count ∙ sym (q .count), p .left ∙ sym (q .left))
 
 -- Lent columns that are one as a scratch are one, the scores as the f64 that stand there. Every `&[f64]` is held.
@@ -38,7 +40,10 @@ module _ {a b c d a′ b′ c′ d′ : List ℕ} (x x′ : List Float) (held : 
   )
 
   -- so `segment`, met twice on the same columns, has one answer and leaves the same in each
-  pub segment-once : {m : Model} {s : List ℕ} {before : Scratch} {r r′ : SegmentAnswer} → Segmented m s before r (scratchOf a b x c d) → Segmented m s before r′ (scratchOf a′ b′ x′ c′ d′) → (r ≡ r′) × (a ≡ a′) × (b ≡ b′) × (x ≡ x′) × (c ≡ c′) × (d ≡ d′)
+  pub segment-once :
+      {m : Model} {s : List ℕ} {before : Scratch} {r r′ : SegmentAnswer} → Segmented m s before r (scratchOf a b x c d)
+      → Segmented m s before r′ (scratchOf a′ b′ x′ c′ d′)
+      → (r ≡ r′) × (a ≡ a′) × (b ≡ b′) × (x ≡ x′) × (c ≡ c′) × (d ≡ d′)
   segment-once p q =
       let once = segmented-once p q in
       let left = scratch-once (once .1) in

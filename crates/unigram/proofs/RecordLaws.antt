@@ -48,20 +48,25 @@ none-shown : Slot
 none-shown = record { start = noId; id = noId; score = plusZero }
 
 -- slots that hold the records, followed back, give the records' pieces
-module _ {boundary : ℕ → Bool} {end : ℕ} {P : ℕ → ℕ → Option Piece} (g : Pieces boundary end P) (b : Scratch) (holds : (j : ℕ) → 0 < j → j ≤ end → slotIn b j ≡ shown (best P j j)) where
-  pub slots-followed : (n j : ℕ) → j ≤ n → j ≤ end → boundary j ≡ true → followedIn b n j ≡ followed P n j
-  unfolding followedIn shown
-  slots-followed zero zero l inside at = sym (followed-first g 0)
-  slots-followed (suc n) zero l inside at = sym (followed-first g (suc n))
-  slots-followed zero (suc j) l inside at = absurd (omega arith)
-  slots-followed (suc n) (suc j) l inside at =
-      let w = filled g (suc j) (omega arith) inside at in
-      let r = w .0 in
-      let s = w .2 in
-      let from = g .from (r .start) (suc j) (s .piece) (s .is) in
-      ap (λ (q : Slot). followedIn b n (q .start) ++ (piece-to (suc j) (q .id) ∷ [])) (holds (suc j) (omega arith) inside ∙ ap shown (w .1))
-      ∙ ap (λ (es : List Step). es ++ (piece-to (suc j) (r .id) ∷ [])) (slots-followed n (r .start) (omega (arith, s .below)) (omega (arith, s .below)) from)
-      ∙ sym (followed-more g n (suc j) r (w .1))
+module _
+    {boundary : ℕ → Bool} {end : ℕ} {P : ℕ → ℕ → Option Piece} (g : Pieces boundary end P) (b : Scratch)
+    (holds : (j : ℕ) → 0 < j → j ≤ end → slotIn b j ≡ shown (best P j j))
+  where
+    pub slots-followed : (n j : ℕ) → j ≤ n → j ≤ end → boundary j ≡ true → followedIn b n j ≡ followed P n j
+    unfolding followedIn shown
+    slots-followed zero zero l inside at = sym (followed-first g 0)
+    slots-followed (suc n) zero l inside at = sym (followed-first g (suc n))
+    slots-followed zero (suc j) l inside at = absurd (omega arith)
+    slots-followed (suc n) (suc j) l inside at =
+        let w = filled g (suc j) (omega arith) inside at in
+        let r = w .0 in
+        let s = w .2 in
+        let from = g .from (r .start) (suc j) (s .piece) (s .is) in
+        let slot : slotIn b (suc j) ≡ r = holds (suc j) (omega arith) inside ∙ ap shown (w .1) in
+        let below : r .start ≤ n = omega (arith, s .below) in
+        ap (λ (q : Slot). followedIn b n (q .start) ++ (piece-to (suc j) (q .id) ∷ [])) slot
+        ∙ ap (λ (es : List Step). es ++ (piece-to (suc j) (r .id) ∷ [])) (slots-followed n (r .start) below (omega (arith, s .below)) from)
+        ∙ sym (followed-more g n (suc j) r (w .1))
 
 -- the pieces are no more than the characters
 pub pieces-few : (m : Model) (s : List ℕ) → wellFormed s ≡ true → SoundScored (m .trie) (m .score) (m .unknown .score) → length (piecesOf m s) ≤ characters s

@@ -106,12 +106,14 @@ module _ (m : Model) (s : List ℕ) (b : Scratch) where
   unfolding segmentLeaves idsOf
   empty-for ready e =
       let stays : segmentLeaves none m s b ≡ b = ap (λ (t : Bool). cond t b (written m s b)) (eq-eqb (length s) 0 e) in
+      let merging = merged-few (λ i j. idOf (m .trie) (part s i j)) (m .unknown .id) 0 (piecesOf m s) in
       record {
         left = sym stays;
-        count = omega (arith, merged-few (λ i j. idOf (m .trie) (part s i j)) (m .unknown .id) 0 (piecesOf m s), pieces-few m s (ready .well) (ready .sound), characters-le s);
+        count = omega (arith, merging, pieces-few m s (ready .well) (ready .sound), characters-le s);
         law = subst (RecordLaw m s) stays (record-law m s b (ready .well) (ready .sound));
       }
 
+  -- what the cutting leaves is what is promised
   pub cut-for : {after : Scratch} {n : ℕ} → segmentFault m s b ≡ none → Cut m s b after n → Segmented m s b (Ids n) after
   unfolding segmentAnswer
   cut-for {after} {n} free c =
@@ -177,7 +179,10 @@ short-is s starts ids scores path places =
     ap (λ (n : ℕ). ltb 0 (length s) && (anyBelow (length s + 1) (length starts ∷ length ids ∷ n ∷ []) || ltb (length path) (characters s))) (length-map scores units)
 
 -- what the cutting rests on: an empty text asks for no slots, and has no characters
-pub prepared-for : {m : Model} {s : List ℕ} (starts ids : List ℕ) (scores : List Float) (path places : List ℕ) → Ready m s → shortScratch s (scratchOf starts ids scores path places) ≡ false → characters s ≤ length places → Prepared m s starts ids scores path places
+pub prepared-for :
+    {m : Model} {s : List ℕ} (starts ids : List ℕ) (scores : List Float) (path places : List ℕ) → Ready m s
+    → shortScratch s (scratchOf starts ids scores path places) ≡ false → characters s ≤ length places
+    → Prepared m s starts ids scores path places
 prepared-for {m} {s} starts ids scores path places ready enough room =
     let n = length s in
     let test = sym (short-is s starts ids scores path places) ∙ enough in

@@ -9,6 +9,7 @@ use lib.Seq.{length-take-le}
 use Rattle.unigram.specs.Pieces.{Model, piecesOf}
 use Rattle.unigram.specs.Work.{modelOf, pieceWith}
 use Rattle.unigram.specs.Slots.{Inside}
+use Rattle.unigram.specs.Segment.{Scratch}
 use Rattle.unigram.specs.Core.{scratchOf}
 use Rattle.unigram.proofs.Refusing.{empty-for}
 use Rattle.unigram.proofs.Segmenting.{falls, ends-few, front-is, mergeable, cut-of}
@@ -38,6 +39,9 @@ recorded c = c .before .before .before .before .before .before .before .before
 abbrev traced : tie.After-merge-arg → tie.After-trace
 traced c = c .before .before .before
 
+abbrev columns : tie.Start → Scratch
+columns c = let a = c .args in scratchOf (a .start .now) (a .slot-id .now) (a .slot-score .now) (a .path .now) (a .ids .now)
+
 abbrev model : tie.Start → Model
 model c =
     let a = c .args in
@@ -57,14 +61,15 @@ fits c =
     omega (arith, c .trace .ensures .1, ends-few (e .pre .ready) (f .fill .ensures), e .pre .path, c .trace .kept .1 .1 .0)
 
 -- a text that is not empty has its slots
-inside : (c : tie.Else1) → let a = start (c .before) .args in Inside (a .start .now) (a .slot-id .now) (a .slot-score .now) (length (a .text .now))
+inside :
+    (c : tie.Else1) → let a = start (c .before) .args in
+    Inside (a .start .now) (a .slot-id .now) (a .slot-score .now) (length (a .text .now))
 inside c = start (c .before) .pre .slots (omega (arith, c .if1 .left))
 
 returns : tie.Need-returns
 returns c =
     let e = start (c .before) in
-    let a = e .args in
-    empty-for (model e) (a .text .now) (scratchOf (a .start .now) (a .slot-id .now) (a .slot-score .now) (a .path .now) (a .ids .now)) (e .pre .ready) (c .if1 .taken)
+    empty-for (model e) (e .args .text .now) (columns e) (e .pre .ready) (c .if1 .taken)
 
 fill-requires : tie.Need-fill-requires
 fill-requires c κs = let t = c .before .before .before in (start (t .before) .pre .ready, inside t)
