@@ -17,13 +17,13 @@ use Rattle.refusal.specs.Sizes.{noId}
 use Rattle.text.specs.Text.{wellFormed, boundary, characters}
 use Rattle.text.proofs.Boundaries.{boundary-end}
 use Rattle.trie.specs.Sound.{SoundScored}
-use Rattle.unigram.specs.Cuttings.{Piece, Slot, Best}
-use Rattle.unigram.specs.Records.{best, shown, recordsFrom}
+use Rattle.unigram.specs.Cuttings.{Piece, Slot, Best, Step}
+use Rattle.unigram.specs.Records.{best, shown, recordsFrom, followed}
 use Rattle.unigram.specs.Pieces.{Model, pieceOf, piecesOf}
-use Rattle.unigram.specs.Segment.{Scratch, written, segmentLeaves, slotIn, RecordLaw}
+use Rattle.unigram.specs.Segment.{Scratch, written, segmentLeaves, slotIn, followedIn, RecordLaw}
 use Rattle.unigram.proofs.Working.{Pieces}
 use Rattle.unigram.proofs.Best.{is-true, filled, is-best, score-of, same-slot}
-use Rattle.unigram.proofs.Following.{chained, adds, covers, few}
+use Rattle.unigram.proofs.Following.{piece-to, followed-first, followed-more, chained, adds, covers, few}
 use Rattle.unigram.proofs.Given.{given, piece-rises}
 
 module _ (P : ℕ → ℕ → Option Piece) where
@@ -46,6 +46,27 @@ column-at f rs xs k d l =
 
 none-shown : Slot
 none-shown = record { start = noId; id = noId; score = plusZero }
+
+-- slots that hold the records, followed back, give the records' pieces
+module _
+    {boundary : ℕ → Bool} {end : ℕ} {P : ℕ → ℕ → Option Piece} (g : Pieces boundary end P) (b : Scratch)
+    (holds : (j : ℕ) → 0 < j → j ≤ end → slotIn b j ≡ shown (best P j j))
+  where
+    pub slots-followed : (n j : ℕ) → j ≤ n → j ≤ end → boundary j ≡ true → followedIn b n j ≡ followed P n j
+    unfolding followedIn shown
+    slots-followed zero zero l inside at = sym (followed-first g 0)
+    slots-followed (suc n) zero l inside at = sym (followed-first g (suc n))
+    slots-followed zero (suc j) l inside at = absurd (omega arith)
+    slots-followed (suc n) (suc j) l inside at =
+        let w = filled g (suc j) (omega arith) inside at in
+        let r = w .0 in
+        let s = w .2 in
+        let from = g .from (r .start) (suc j) (s .piece) (s .is) in
+        let slot : slotIn b (suc j) ≡ r = holds (suc j) (omega arith) inside ∙ ap shown (w .1) in
+        let below : r .start ≤ n = omega (arith, s .below) in
+        ap (λ (q : Slot). followedIn b n (q .start) ++ (piece-to (suc j) (q .id) ∷ [])) slot
+        ∙ ap (λ (es : List Step). es ++ (piece-to (suc j) (r .id) ∷ [])) (slots-followed n (r .start) below (omega (arith, s .below)) from)
+        ∙ sym (followed-more g n (suc j) r (w .1))
 
 -- the pieces are no more than the characters
 pub pieces-few : (m : Model) (s : List ℕ) → wellFormed s ≡ true → SoundScored (m .trie) (m .score) (m .unknown .score) → length (piecesOf m s) ≤ characters s
@@ -82,6 +103,7 @@ module _ (m : Model) (s : List ℕ) (b : Scratch) where
           best = λ j l inside t.
               let w = filled g j l inside (is-true (boundary s j) t) in
               subst (Best P j) (sym (holds j l inside ∙ ap shown (w .1))) (is-best g j (w .0) inside (w .1));
+          followed = slots-followed g after holds n n all all (boundary-end s);
           chain = chained g n n all all (boundary-end s);
           score = λ l.
               let w = filled g n l all (boundary-end s) in

@@ -1,7 +1,9 @@
--- `segment`: which test gives which fault, and the promise from the fault, from an empty text, or from the cutting. Assumes nothing.
+-- `segment`: which test gives which fault, what is tested where there is none, and the promise from the fault, from an empty
+-- text, or from the cutting. Assumes nothing.
 use mathlib.Core.Path.{_≡_, refl, sym, ap, subst, _∙_}
 use mathlib.Core.Bool.{Bool, true, false, not, _&&_, _||_, cond}
 use mathlib.Core.List.{List, [], _∷_, map}
+use mathlib.Core.Logic.{⊎-elim}
 use mathlib.Core.Option.{Option, none, some}
 use Prim.Native.Nat.{ℕ, _+_, _≤_, _<_}
 use native.Mathlib.Omega.{arith}
@@ -21,12 +23,13 @@ use Rattle.trie.specs.Trie.{idOf}
 use Rattle.trie.specs.Sound.{soundScored, SoundScored}
 use Rattle.trie.proofs.SoundParts.{scored-of, of-scored}
 use Rattle.build.specs.Memory.{anyBelow}
+use Rattle.scored.proofs.Lists.{below-or}
 use Rattle.unigram.specs.declared.SegmentAnswer.{SegmentAnswer}
 use Rattle.unigram.specs.declared.SegmentAnswer.the-variants.{Ids, Refused}
 use Rattle.unigram.specs.Pieces.{Model, piecesOf, idsOf}
 use Rattle.unigram.specs.Segment.{Scratch, shortScratch, segmentFault, segmentAnswer, written, segmentLeaves, RecordLaw, Segmented}
 use Rattle.unigram.specs.Work.{Ready}
-use Rattle.unigram.specs.Core.{scratchOf, Cut}
+use Rattle.unigram.specs.Core.{scratchOf, Prepared, Cut}
 use Rattle.unigram.proofs.Working.{true-false}
 use Rattle.unigram.proofs.Merging.{merged-few}
 use Rattle.unigram.proofs.RecordLaws.{pieces-few, record-law}
@@ -98,33 +101,27 @@ module _ (m : Model) (s : List ℕ) (b : Scratch) where
         law = λ h. absurd (let z : _≡_ {A = ℕ} 0 1 = cc in omega arith);
       }
 
-  module _ (ready : Ready m s) (free : segmentFault m s b ≡ none) where
-    law-left : (after : Scratch) → segmentLeaves none m s b ≡ after → RecordLaw m s after
-    law-left after e = subst (RecordLaw m s) e (record-law m s b (ready .well) (ready .sound))
+  -- an empty text has no ids, and nothing is written
+  pub empty-for : Ready m s → length s ≡ 0 → Cut m s b b 0
+  unfolding segmentLeaves idsOf
+  empty-for ready e =
+      let stays : segmentLeaves none m s b ≡ b = ap (λ (t : Bool). cond t b (written m s b)) (eq-eqb (length s) 0 e) in
+      let merging = merged-few (λ i j. idOf (m .trie) (part s i j)) (m .unknown .id) 0 (piecesOf m s) in
+      record {
+        left = sym stays;
+        count = omega (arith, merging, pieces-few m s (ready .well) (ready .sound), characters-le s);
+        law = subst (RecordLaw m s) stays (record-law m s b (ready .well) (ready .sound));
+      }
 
-    -- an empty text has no ids, and nothing is written
-    pub empty-for : length s ≡ 0 → Segmented m s b (Ids 0) b
-    unfolding segmentAnswer segmentLeaves idsOf
-    empty-for e =
-        let stays : segmentLeaves none m s b ≡ b = ap (λ (t : Bool). cond t b (written m s b)) (eq-eqb (length s) 0 e) in
-        let few : length (idsOf m s) ≡ 0 =
-        omega (arith, merged-few (λ i j. idOf (m .trie) (part s i j)) (m .unknown .id) 0 (piecesOf m s), pieces-few m s (ready .well) (ready .sound), characters-le s)
-        in
-        record {
-          answered = ap Ids (sym few) ∙ sym (ap (λ (o : Option Fault). segmentAnswer o (length (idsOf m s))) free);
-          left = sym (ap (λ (o : Option Fault). segmentLeaves o m s b) free ∙ stays);
-          law = λ h. law-left b stays;
-        }
-
-    pub cut-for : {after : Scratch} {n : ℕ} → (length s ≡ 0 → ⊥) → Cut m s b after n → Segmented m s b (Ids n) after
-    unfolding segmentAnswer segmentLeaves
-    cut-for {after} {n} some-text c =
-        let stays : segmentLeaves none m s b ≡ after = ap (λ (t : Bool). cond t b (written m s b)) (ne-eqb (length s) 0 some-text) ∙ sym (c .left) in
-        record {
-          answered = ap Ids (c .count) ∙ sym (ap (λ (o : Option Fault). segmentAnswer o (length (idsOf m s))) free);
-          left = sym (ap (λ (o : Option Fault). segmentLeaves o m s b) free ∙ stays);
-          law = λ h. c .law;
-        }
+  -- what the cutting leaves is what is promised
+  pub cut-for : {after : Scratch} {n : ℕ} → segmentFault m s b ≡ none → Cut m s b after n → Segmented m s b (Ids n) after
+  unfolding segmentAnswer
+  cut-for {after} {n} free c =
+      record {
+        answered = ap Ids (c .count) ∙ sym (ap (λ (o : Option Fault). segmentAnswer o (length (idsOf m s))) free);
+        left = c .left ∙ sym (ap (λ (o : Option Fault). segmentLeaves o m s b) free);
+        law = λ h. c .law;
+      }
 
 -- ---- too little scratch
 
@@ -180,3 +177,21 @@ pub short-is : (s starts ids : List ℕ) (scores : List Float) (path places : Li
 unfolding shortScratch
 short-is s starts ids scores path places =
     ap (λ (n : ℕ). ltb 0 (length s) && (anyBelow (length s + 1) (length starts ∷ length ids ∷ n ∷ []) || ltb (length path) (characters s))) (length-map scores units)
+
+-- what the cutting rests on: an empty text asks for no slots, and has no characters
+pub prepared-for :
+    {m : Model} {s : List ℕ} (starts ids : List ℕ) (scores : List Float) (path places : List ℕ) → Ready m s
+    → shortScratch s (scratchOf starts ids scores path places) ≡ false → characters s ≤ length places
+    → Prepared m s starts ids scores path places
+prepared-for {m} {s} starts ids scores path places ready enough room =
+    let n = length s in
+    let test = sym (short-is s starts ids scores path places) ∙ enough in
+    let all : 0 < n → (n < length starts) × (n < length ids) × (n < length scores) × (characters s ≤ length path) =
+    λ h. enough-room n (characters s) (length starts) (length ids) (length scores) (length path) h test
+    in
+    record {
+      ready = ready;
+      slots = λ h. record { start = all h .0; id = all h .1; score = all h .2 };
+      path = ⊎-elim (λ (h : 0 < n). all h .3) (λ (h : n ≤ 0). omega (arith, characters-le s)) (below-or 0 n);
+      ids = room;
+    }

@@ -1,12 +1,13 @@
 -- The whole cutting: columns that hold the records place by place are the columns of `written`; the path they give is that of the pieces; the ids
 -- merged from it are the text's. Assumes nothing.
 use mathlib.Core.Path.{_≡_, refl, sym, ap, subst, _∙_}
-use mathlib.Core.Bool.{Bool, true, false}
+use mathlib.Core.Bool.{Bool, true, false, cond}
 use mathlib.Core.List.{List, [], _∷_, _++_, map}
 use mathlib.Core.Logic.{_⊎_, inl, inr, ⊎-elim}
 use mathlib.Core.Option.{Option, none, some}
 use Prim.Native.Nat.{ℕ, zero, suc, _+_, _-_, _≤_, _<_}
 use native.Mathlib.Omega.{arith}
+use borrow.Author.Tests.{ne-eqb}
 use lib.Ieee.{Float}
 use lib.ListN.{length, getD, take, drop, length-map, List·getD-append}
 use lib.Seq.{ext-getD, length-front, length-take-le, getD-append-add, getD-drop, take-at, take-length}
@@ -25,7 +26,7 @@ use Rattle.unigram.specs.Slots.{Slots, slotsOf, slotAt, Inside}
 use Rattle.unigram.specs.Work.{Holds, Ready, Recorded}
 use Rattle.unigram.specs.Tracing.{endsFrom, Falling, Traced}
 use Rattle.unigram.specs.Merge.{stepsAt, Ends, partId, Mergeable, Merged}
-use Rattle.unigram.specs.Segment.{Scratch, written, slotIn, RecordLaw}
+use Rattle.unigram.specs.Segment.{Scratch, written, segmentLeaves, slotIn, RecordLaw}
 use Rattle.unigram.specs.Core.{scratchOf, Prepared, Cut}
 use Rattle.scored.proofs.Lists.{below-or}
 use Rattle.unigram.proofs.Working.{Pieces, settled-le}
@@ -155,22 +156,24 @@ module _ {m : Model} {s : List ℕ} (ready : Ready m s) {starts ids : List ℕ} 
       }
 
   pub cut-of :
-      {path path′ places places′ front : List ℕ} {count : ℕ} → length starts′ ≡ length starts → length ids′ ≡ length ids → length scores′ ≡ length scores
+      {path path′ places places′ front : List ℕ} {count : ℕ} → (length s ≡ 0 → ⊥) → length starts′ ≡ length starts → length ids′ ≡ length ids → length scores′ ≡ length scores
       → Traced starts′ (length s) path path′ → front ≡ map (λ e. e .end) (piecesOf m s) → Merged (m .trie) (m .unknown .id) s ids′ front places places′ count
       → Cut m s (scratchOf starts ids scores path places) (scratchOf starts′ ids′ scores′ path′ places′) count
-  unfolding written slotAt slotIn
-  cut-of {path} {path′} {places} {places′} {front} {count} level-start level-id level-score t e g =
+  unfolding written segmentLeaves slotAt slotIn
+  cut-of {path} {path′} {places} {places′} {front} {count} some-text level-start level-id level-score t e g =
       let all : merged (partId (m .trie) s) (m .unknown .id) none 0 (stepsAt ids′ front) ≡ idsOf m s =
       ap (λ (u : List ℕ). merged (partId (m .trie) s) (m .unknown .id) none 0 (stepsAt ids′ u)) e ∙ ids-are ready r
       in
+      let before = scratchOf starts ids scores path places in
       record {
         left =
-            same-scratch (scratchOf starts′ ids′ scores′ path′ places′) (written m s (scratchOf starts ids scores path places))
+            same-scratch (scratchOf starts′ ids′ scores′ path′ places′) (written m s before)
             (column-is ready r (λ q. q .start) noId starts starts′ level-start (inside .start) (λ k. refl) (λ k. refl))
             (column-is ready r (λ q. q .id) noId ids ids′ level-id (inside .id) (λ k. refl) (λ k. refl))
             (column-is ready r (λ q. q .score) plusZero (map units scores) (map units scores′) (length-map scores′ units ∙ level-score ∙ sym (length-map scores units)) (omega (arith, inside .score, length-map scores units)) (λ k. refl) (λ k. refl))
             (t .path ∙ ap (λ (u : List ℕ). overlay u path) (path-is ready r))
-            (g .ids ∙ ap (λ (u : List ℕ). overlay u places) all);
+            (g .ids ∙ ap (λ (u : List ℕ). overlay u places) all)
+            ∙ sym (ap (λ (t : Bool). cond t before (written m s before)) (ne-eqb (length s) 0 some-text));
         count = g .count ∙ ap length all;
-        law = law-of m s (scratchOf starts ids scores path places) (ready .well) (ready .sound) (scratchOf starts′ ids′ scores′ path′ places′) (λ j p l. slot-holds ready r j l);
+        law = law-of m s before (ready .well) (ready .sound) (scratchOf starts′ ids′ scores′ path′ places′) (λ j p l. slot-holds ready r j l);
       }

@@ -1,7 +1,8 @@
 -- What the cutting of a text rests on, once all has been tested, and what it leaves. Definitions only; assumes nothing.
 use mathlib.Core.Path.{_≡_}
-use Prim.Native.Nat.{ℕ, _≤_}
+use Prim.Native.Nat.{ℕ, _≤_, _<_}
 use mathlib.Core.List.{List, map}
+use mathlib.Core.Option.{none}
 use lib.Ieee.{Float}
 use lib.ListN.{length}
 use Rattle.doubles.specs.Units.{units}
@@ -9,21 +10,21 @@ use Rattle.text.specs.Text.{characters}
 use Rattle.unigram.specs.Pieces.{Model, idsOf}
 use Rattle.unigram.specs.Slots.{Inside}
 use Rattle.unigram.specs.Work.{Ready}
-use Rattle.unigram.specs.Segment.{Scratch, written, RecordLaw}
+use Rattle.unigram.specs.Segment.{Scratch, segmentLeaves, RecordLaw}
 
 -- the lent columns
 abbrev pub scratchOf : List ℕ → List ℕ → List Float → List ℕ → List ℕ → Scratch
 scratchOf start id score path ids = record { start = start; id = id; score = map units score; path = path; ids = ids }
 
--- all that can be refused has been tested
+-- all that can be refused has been tested; an empty text asks for no slots
 pub record Prepared (m : Model) (s starts slotIds : List ℕ) (scores : List Float) (paths places : List ℕ) : Type 0 where
   pub ready : Ready m s
-  pub slots : Inside starts slotIds scores (length s)
+  pub slots : 0 < length s → Inside starts slotIds scores (length s)
   pub path : characters s ≤ length paths
   pub ids : characters s ≤ length places
 
--- "After success", and the record law of demand 3
+-- "After success", "Empty text writes nothing", and the record law of demand 3
 pub record Cut (m : Model) (s : List ℕ) (before after : Scratch) (r : ℕ) : Type 0 where
-  pub left : after ≡ written m s before
+  pub left : after ≡ segmentLeaves none m s before
   pub count : r ≡ length (idsOf m s)
   pub law : RecordLaw m s after

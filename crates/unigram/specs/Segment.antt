@@ -1,8 +1,8 @@
 -- What `unigram::segment` promises. Definitions only; assumes nothing.
 use mathlib.Core.Path.{_≡_}
-use Prim.Native.Nat.{ℕ, _+_, _≤_, _<_}
+use Prim.Native.Nat.{ℕ, zero, suc, _+_, _≤_, _<_}
 use mathlib.Core.Bool.{Bool, not, _&&_, _||_, cond}
-use mathlib.Core.List.{List, [], _∷_, map}
+use mathlib.Core.List.{List, [], _∷_, _++_, map}
 use mathlib.Core.Option.{Option, none, some}
 use lib.Dec.{T, ltb, eqb}
 use lib.ListN.{length, getD}
@@ -17,7 +17,7 @@ use Rattle.trie.specs.Sound.{soundScored}
 use Rattle.build.specs.Memory.{anyBelow}
 use Rattle.unigram.specs.declared.SegmentAnswer.{SegmentAnswer}
 use Rattle.unigram.specs.declared.SegmentAnswer.the-variants.{Ids, Refused}
-use Rattle.unigram.specs.Cuttings.{Slot, Best, Chain, joined, added}
+use Rattle.unigram.specs.Cuttings.{Slot, Best, Step, Chain, joined, added}
 use Rattle.unigram.specs.Records.{recordsFrom}
 use Rattle.unigram.specs.Pieces.{Model, pieceOf, piecesOf, idsOf}
 
@@ -71,11 +71,22 @@ segmentLeaves (some f) m s b = b
 unfoldable pub slotIn : Scratch → ℕ → Slot
 slotIn b j = record { start = getD (b .start) j noId; id = getD (b .id) j noId; score = getD (b .score) j plusZero }
 
--- Demand 3, of the slots that stand when the call has ended: "the record at every boundary come to holds the greatest left-to-right rounded
--- sum of any allowed cutting before it, names the last piece of such a cutting (the earliest start among equals), and the records followed back
--- cover every byte once", with at most one piece a character.
+-- The records followed back from j: the pieces of the start that stands at j, then the piece that ends at j, with the id that
+-- stands there. The second argument bounds how many; j is enough.
+unfoldable pub followedIn : Scratch → ℕ → ℕ → List Step
+followedIn b zero j = []
+followedIn b (suc n) zero = []
+followedIn b (suc n) (suc j) =
+    let r = slotIn b (suc j) in
+    followedIn b n (r .start) ++ (record { end = suc j; id = r .id } ∷ [])
+
+-- Demand 3, of the slots that stand when the call has ended: "the record at every boundary come to holds the greatest
+-- left-to-right rounded sum of any allowed cutting before it, names the last piece of such a cutting (the earliest start among
+-- equals), and the records followed back cover every byte once", with at most one piece a character. The pieces are those that
+-- these slots give (`followed`), so `chain`, `score`, `cover` and `few` are of what the records say.
 pub record RecordLaw (m : Model) (s : List ℕ) (after : Scratch) : Type 0 where
   pub best : (j : ℕ) → 0 < j → j ≤ length s → T (boundary s j) → Best (pieceOf m s) j (slotIn after j)
+  pub followed : followedIn after (length s) (length s) ≡ piecesOf m s
   pub chain : Chain (pieceOf m s) 0 (piecesOf m s) (length s)
   pub score : 0 < length s → added (pieceOf m s) plusZero 0 (piecesOf m s) ≡ slotIn after (length s) .score
   pub cover : joined s 0 (piecesOf m s) ≡ s

@@ -10,8 +10,9 @@ ghost use Rattle.unigram.specs.Segment.{Segmented};
 ghost use Rattle.unigram.specs.Work.{modelOf, pieceWith};
 ghost use Rattle.unigram.specs.Core.{scratchOf, Prepared, Cut};
 
-// Nothing is refused here: the parts are sound, the text is well-formed and within the limit, and there are enough places. The ids of the best
-// cutting go to the first id places, the ends of its pieces to the first path places, the records to the slots. Answers how many ids there are.
+// Nothing is refused here: the parts are sound, the text is well-formed and within the limit, and there are enough places. The
+// ids of the best cutting go to the first id places, the ends of its pieces to the first path places, the records to the slots;
+// an empty text writes nothing. Answers how many ids there are.
 pub fn segment(
     edge_at: &[u32],
     edge_n: &[u16],
@@ -31,6 +32,9 @@ pub fn segment(
     requires { ⌜ Prepared (modelOf (now «edge_at») (now «edge_n») (now id) (now score) (now byte) (now to) (pieceWith unknown «unknown_score»)) (now text) (now start) (now «slot_id») (now «slot_score») (now path) (now ids) ⌝ }
     ensures { λ r. ⌜ Cut (modelOf (now («edge_at» .entry)) (now («edge_n» .entry)) (now (id .entry)) (now (score .entry)) (now (byte .entry)) (now (to .entry)) (pieceWith unknown «unknown_score»)) (now (text .entry)) (scratchOf (now (start .entry)) (now («slot_id» .entry)) (now («slot_score» .entry)) (now (path .entry)) (now (ids .entry))) (scratchOf (now (start .exit)) (now («slot_id» .exit)) (now («slot_score» .exit)) (now (path .exit)) (now (ids .exit))) r ⌝ }
 {
+    if text.len() == 0 {
+        return 0;
+    }
     crate::lattice::fill(
         edge_at,
         edge_n,

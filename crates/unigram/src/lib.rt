@@ -2,10 +2,10 @@
 use refusal::Fault;
 
 pub mod checked;
-pub mod lattice;
-pub mod path;
-pub mod runs;
-pub mod slots;
+mod lattice;
+mod path;
+mod runs;
+mod slots;
 
 ghost use mathlib.Core.Path.{_≡_};
 ghost use mathlib.Core.Bool.{_&&_, _||_};
@@ -85,9 +85,6 @@ fn cut(
     }
     if ids.len() < characters {
         return SegmentAnswer::Refused(Fault::Ids);
-    }
-    if text.len() == 0 {
-        return SegmentAnswer::Ids(0);
     }
     SegmentAnswer::Ids(checked::segment(
         edge_at,

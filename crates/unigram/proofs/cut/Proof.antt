@@ -1,20 +1,20 @@
--- `unigram::cut` meets its contract: refused with 9 or 10 exactly where the places are too few, nothing for an empty text, else the cutting.
--- Assumes nothing.
-use mathlib.Core.Path.{_≡_, refl, sym, ap, _∙_}
-use mathlib.Core.Bool.{Bool, true, false, _&&_, _||_}
+-- `unigram::cut` meets its contract: refused with 9 or 10 exactly where the places are too few, else the cutting. Assumes
+-- nothing.
+use mathlib.Core.Path.{_≡_, sym, ap, _∙_}
+use mathlib.Core.Bool.{false, _&&_, _||_}
 use mathlib.Core.List.{List, [], _∷_}
 use mathlib.Core.Option.{none}
-use Prim.Native.Nat.{ℕ, _+_, _≤_, _<_}
+use Prim.Native.Nat.{ℕ, _+_}
 use native.Mathlib.Omega.{arith}
 use lib.Dec.{ltb}
 use lib.ListN.{length}
 use Rattle.text.specs.Text.{characters}
 use Rattle.build.specs.Memory.{anyBelow}
 use Rattle.unigram.specs.Pieces.{Model}
-use Rattle.unigram.specs.Work.{modelOf, pieceWith, Ready}
+use Rattle.unigram.specs.Work.{modelOf, pieceWith}
 use Rattle.unigram.specs.Segment.{Scratch, shortScratch, segmentFault}
-use Rattle.unigram.specs.Core.{scratchOf, Prepared}
-use Rattle.unigram.proofs.Refusing.{fault-scratch, fault-ids, fault-none, refused-for, empty-for, cut-for, short-is, enough-room}
+use Rattle.unigram.specs.Core.{scratchOf}
+use Rattle.unigram.proofs.Refusing.{fault-scratch, fault-ids, fault-none, refused-for, cut-for, short-is, prepared-for}
 use borrow.Author.Needs.{needs}
 use Rattle.unigram.proofs.cut.Statement.{statement}
 use Rattle.unigram.proofs.cut.Tie as tie
@@ -27,7 +27,7 @@ entry c = c .before .before .before .before .before .before .before .before .bef
 abbrev counted : tie.Else2 → tie.After-characters
 counted c = c .before .before .before
 
-abbrev asked : tie.After-segment-arg5 → tie.Else3
+abbrev asked : tie.After-segment-arg5 → tie.Else2
 asked c = c .before .before .before .before .before
 
 abbrev begun : tie.Else2 → tie.Start
@@ -57,13 +57,16 @@ short c =
     ∙ ap (λ (n : ℕ). ltb 0 (length (text e)) && (anyBelow (length (text e) + 1) (length (a .start .now) ∷ length (a .slot-id .now) ∷ length (a .slot-score .now) ∷ []) || ltb (length (a .path .now)) n)) (sym (w .characters .ensures))
     ∙ sym (c .short-scratch .ensures)
 
+-- it is enough
+enough : (c : tie.Else2) → let e = begun c in shortScratch (text e) (columns e) ≡ false
+enough c = let t = c .before in short (t .before) ∙ t .if1 .left
+
 -- nothing is refused
 free : (c : tie.Else2) → let e = begun c in segmentFault (model e) (text e) (columns e) ≡ none
 free c =
-    let t = c .before in
-    let w = t .before .before in
+    let w = counted c in
     let e = begun c in
-    fault-none (model e) (text e) (columns e) (e .pre) (short (t .before) ∙ t .if1 .left) (omega (arith, c .if2 .left, w .characters .ensures))
+    fault-none (model e) (text e) (columns e) (e .pre) (enough c) (omega (arith, c .if2 .left, w .characters .ensures))
 
 characters-requires : tie.Need-characters-requires
 characters-requires c κs = search needs
@@ -83,28 +86,13 @@ returns-2 c =
     let e = entry w in
     refused-for (model e) (text e) (columns e) (fault-ids (model e) (text e) (columns e) (e .pre) (short (t .before) ∙ t .if1 .left) (omega (arith, c .if2 .taken, w .characters .ensures)))
 
-returns-3 : tie.Need-returns-3
-returns-3 c =
-    let t = c .before in
-    let e = begun t in
-    empty-for (model e) (text e) (columns e) (e .pre) (free t) (c .if3 .taken)
-
 segment-requires : tie.Need-segment-requires
 segment-requires c κs =
-    let u = asked c in
-    let t = u .before in
+    let t = asked c in
     let w = counted t in
     let e = begun t in
     let a = e .args in
-    let many = w .characters .ensures in
-    let test = t .before .before .short-scratch .ensures in
-    let room = enough-room (length (text e)) (w .characters .result) (length (a .start .now)) (length (a .slot-id .now)) (length (a .slot-score .now)) (length (a .path .now)) (omega (arith, u .if3 .left)) (sym test ∙ t .before .if1 .left) in
-    record {
-      ready = e .pre;
-      slots = record { start = room .0; id = room .1; score = room .2 };
-      path = omega (arith, room .3, many);
-      ids = omega (arith, t .if2 .left, many);
-    }
+    prepared-for (a .start .now) (a .slot-id .now) (a .slot-score .now) (a .path .now) (a .ids .now) (e .pre) (enough t) (omega (arith, t .if2 .left, w .characters .ensures))
 
 same-length : tie.Need-same-length
 same-length c = search needs
@@ -121,13 +109,12 @@ same-length-4 c = search needs
 same-length-5 : tie.Need-same-length-5
 same-length-5 c = search needs
 
-returns-4 : tie.Need-returns-4
-returns-4 c =
+returns-3 : tie.Need-returns-3
+returns-3 c =
     let g = cutting c in
-    let u = asked (g .before) in
-    let t = u .before in
+    let t = asked (g .before) in
     let e = begun t in
-    cut-for (model e) (text e) (columns e) (e .pre) (free t) (u .if3 .left) (g .segment .ensures)
+    cut-for (model e) (text e) (columns e) (free t) (g .segment .ensures)
 
 pub cut-spec : {M : Type 1} → statement M
 cut-spec =
@@ -137,11 +124,10 @@ cut-spec =
     short-scratch-requires
     returns
     returns-2
-    returns-3
     segment-requires
     same-length
     same-length-2
     same-length-3
     same-length-4
     same-length-5
-    returns-4)
+    returns-3)

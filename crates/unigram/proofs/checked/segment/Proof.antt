@@ -1,20 +1,32 @@
--- `unigram::checked::segment` meets its contract: the records, the path that they give, and the ids merged from it (`cut-of`). Assumes nothing.
-use mathlib.Core.Path.{_≡_, refl, sym, ap, subst, _∙_}
-use mathlib.Core.List.{List, map}
-use Prim.Native.Nat.{ℕ, _≤_, _<_}
+-- `unigram::checked::segment` meets its contract: nothing for an empty text (`empty-for`), else the records, the path that they
+-- give, and the ids merged from it (`cut-of`). Assumes nothing.
+use mathlib.Core.Path.{_≡_, sym}
+use mathlib.Core.List.{map}
+use Prim.Native.Nat.{_≤_}
 use native.Mathlib.Omega.{arith}
 use lib.ListN.{length, take}
 use lib.Seq.{length-take-le}
 use Rattle.unigram.specs.Pieces.{Model, piecesOf}
 use Rattle.unigram.specs.Work.{modelOf, pieceWith}
+use Rattle.unigram.specs.Slots.{Inside}
+use Rattle.unigram.specs.Segment.{Scratch}
+use Rattle.unigram.specs.Core.{scratchOf}
+use Rattle.unigram.proofs.Refusing.{empty-for}
 use Rattle.unigram.proofs.Segmenting.{falls, ends-few, front-is, mergeable, cut-of}
 use borrow.Author.Needs.{needs}
 use Rattle.unigram.proofs.checked.segment.Statement.{statement}
 use Rattle.unigram.proofs.checked.segment.Tie as tie
 
--- the function's start, from after the records are filled
+-- the function's start
+abbrev start : tie.After-slice-known5 → tie.Start
+start c = c .before .before .before .before .before .before .before .before .before .before .before .before
+
+-- from after the records are filled: where the text is found not empty, and the start
+abbrev some-text : tie.After-fill → tie.Else1
+some-text c = c .before .before .before .before
+
 abbrev entry : tie.After-fill → tie.Start
-entry c = c .before .before .before .before .before .before .before .before .before .before .before .before .before .before .before .before
+entry c = start (some-text c .before)
 
 -- the records, from after the path is traced
 abbrev filled : tie.After-trace → tie.After-fill
@@ -26,6 +38,9 @@ recorded c = c .before .before .before .before .before .before .before .before
 -- the path, from where its first places are lent
 abbrev traced : tie.After-merge-arg → tie.After-trace
 traced c = c .before .before .before
+
+abbrev columns : tie.Start → Scratch
+columns c = let a = c .args in scratchOf (a .start .now) (a .slot-id .now) (a .slot-score .now) (a .path .now) (a .ids .now)
 
 abbrev model : tie.Start → Model
 model c =
@@ -45,14 +60,25 @@ fits c =
     let e = entry f in
     omega (arith, c .trace .ensures .1, ends-few (e .pre .ready) (f .fill .ensures), e .pre .path, c .trace .kept .1 .1 .0)
 
+-- a text that is not empty has its slots
+inside :
+    (c : tie.Else1) → let a = start (c .before) .args in
+    Inside (a .start .now) (a .slot-id .now) (a .slot-score .now) (length (a .text .now))
+inside c = start (c .before) .pre .slots (omega (arith, c .if1 .left))
+
+returns : tie.Need-returns
+returns c =
+    let e = start (c .before) in
+    empty-for (model e) (e .args .text .now) (columns e) (e .pre .ready) (c .if1 .taken)
+
 fill-requires : tie.Need-fill-requires
-fill-requires c κs = search needs
+fill-requires c κs = let t = c .before .before .before in (start (t .before) .pre .ready, inside t)
 
 trace-requires : tie.Need-trace-requires
 trace-requires c κs =
     let f = recorded c in
     let e = entry f in
-    (falls (e .pre .ready) (f .fill .ensures) (omega (arith, f .fill .kept .1 .1 .1 .1 .1 .1 .1 .1 .1 .0, e .pre .slots .start)), omega (arith, ends-few (e .pre .ready) (f .fill .ensures), e .pre .path))
+    (falls (e .pre .ready) (f .fill .ensures) (omega (arith, f .fill .kept .1 .1 .1 .1 .1 .1 .1 .1 .1 .0, inside (some-text f) .start)), omega (arith, ends-few (e .pre .ready) (f .fill .ensures), e .pre .path))
 
 slice-reshare-prefix-merge : tie.Need-slice-reshare-prefix-merge
 slice-reshare-prefix-merge c = fits (traced c)
@@ -66,7 +92,7 @@ merge-requires c κs =
     let f = filled t in
     let e = entry f in
     let l = f .fill .last .1 .1 .1 .1 .1 .1 .1 .1 .1 in
-    mergeable (e .pre .ready) (l .0) (l .1 .0) (l .1 .1 .0) (e .pre .slots) (f .fill .ensures) (front t) (f .fill .kept .1 .1 .1 .1 .1 .1 .1 .1 .1 .1 .0) (e .pre .ids)
+    mergeable (e .pre .ready) (l .0) (l .1 .0) (l .1 .1 .0) (inside (some-text f)) (f .fill .ensures) (front t) (f .fill .kept .1 .1 .1 .1 .1 .1 .1 .1 .1 .1 .0) (e .pre .ids)
 
 same-length : tie.Need-same-length
 same-length c = search needs
@@ -83,20 +109,21 @@ same-length-4 c = search needs
 same-length-5 : tie.Need-same-length-5
 same-length-5 c = search needs
 
-returns : tie.Need-returns
-returns c =
+returns-2 : tie.Need-returns-2
+returns-2 c =
     let g = c .before .before in
     let m = g .before in
     let t = traced (m .before .before) in
     let f = filled t in
     let e = entry f in
     let l = f .fill .last .1 .1 .1 .1 .1 .1 .1 .1 .1 in
-    cut-of (e .pre .ready) (l .0) (l .1 .0) (l .1 .1 .0) (e .pre .slots) (f .fill .ensures) (f .fill .kept .1 .1 .1 .1 .1 .1 .1 .1 .1 .0) (f .fill .kept .1 .1 .1 .1 .1 .1 .1 .1 .1 .1 .0) (f .fill .kept .1 .1 .1 .1 .1 .1 .1 .1 .1 .1 .1 .0) (t .trace .ensures .0) (front t) (g .merge .ensures)
+    cut-of (e .pre .ready) (l .0) (l .1 .0) (l .1 .1 .0) (inside (some-text f)) (f .fill .ensures) (some-text f .if1 .left) (f .fill .kept .1 .1 .1 .1 .1 .1 .1 .1 .1 .0) (f .fill .kept .1 .1 .1 .1 .1 .1 .1 .1 .1 .1 .0) (f .fill .kept .1 .1 .1 .1 .1 .1 .1 .1 .1 .1 .1 .0) (t .trace .ensures .0) (front t) (g .merge .ensures)
 
 pub segment-spec : {M : Type 1} → statement M
 segment-spec =
     tie.close
     (tie.spec
+    returns
     fill-requires
     trace-requires
     slice-reshare-prefix-merge
@@ -107,4 +134,4 @@ segment-spec =
     same-length-3
     same-length-4
     same-length-5
-    returns)
+    returns-2)
