@@ -46,7 +46,7 @@ static void text(void) {
     CHECK(sk_valid_up_to(TEXT("a\xc3\xa9\xff")) == 3);
     CHECK(sk_char_len('a') == 1 && sk_char_len(0xc3) == 2 && sk_char_len(0xf4) == 4 && sk_char_len(0x80) == 0);
     CHECK(sk_is_boundary(TEXT("\xc3\xa9"), 2) && !sk_is_boundary(TEXT("\xc3\xa9"), 1));
-    CHECK(sk_characters(TEXT("a\xc3\xa9")) == 2 && sk_characters(TEXT("a\xff")) == 0);
+    CHECK(sk_characters(TEXT("a\xc3\xa9")) == 2 && SK_REFUSED(sk_characters(TEXT("a\xff"))) == SK_TEXT);
     CHECK(sk_text(TEXT("a\xff"), 0, 1) == SK_FINE && sk_text(TEXT("a\xff"), 0, 2) == SK_TEXT);
     CHECK(sk_text_len(TEXT("ab"), 1, 1) == 1 && sk_text_len(TEXT("ab"), 1, 2) == 0);
 }
@@ -69,7 +69,11 @@ static void bare_trie(void) {
     CHECK(SK_REFUSED(sk_segment(MODEL, TEXT("a"), SLOTS, path, 1, NO)) == SK_IDS);
     CHECK(sk_segment(MODEL, TEXT("a"), SLOTS, path, 1, ids, 1) == 1);
     CHECK(ids[0] == 9 && ids[1] == 5 && path[0] == 1 && start[0] == SK_NONE && start[1] == 0 && slot_score[1] == -10.0);
-    /* the trie is sound, as tested above; the text is ASCII, and the places are enough */
+    /* the trie is sound, as tested above; an empty text writes nothing, and asks for no places */
+    start[0] = path[0] = ids[0] = 6;
+    CHECK(sk_segment_checked(MODEL, NO, NO, NO, NO, NO, NO) == 0);
+    CHECK(sk_segment_checked(MODEL, NO, SLOTS, path, 1, ids, 1) == 0 && start[0] == 6 && path[0] == 6 && ids[0] == 6);
+    /* the text is ASCII, and the places are enough */
     CHECK(sk_segment_checked(MODEL, TEXT("b"), SLOTS, path, 1, ids, 1) == 1 && ids[0] == 9 && ids[1] == 5);
     CHECK(sk_encode(at, 1, n, 1, id, 1, NO, NO, 3, 100, NO, NO, NO) == 0);
     CHECK(SK_REFUSED(sk_encode(at, 1, n, 1, id, 1, NO, NO, 3, 100, NO, TEXT("a"), NO)) == SK_IDS);

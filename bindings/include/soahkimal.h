@@ -65,7 +65,7 @@ enum sk_fault {
 
 #define SK_ABSENT (UINT64_C(1) << 32)
 
-/* The refusal number of sk_segment, sk_encode, sk_exact or sk_exact_unscored; 0 where there is none. */
+/* The refusal number of sk_characters, sk_segment, sk_encode, sk_exact or sk_exact_unscored; 0 where there is none. */
 static inline uint32_t SK_REFUSED(uint64_t answer) { return answer < SK_ABSENT ? 0 : (uint32_t)(answer - SK_ABSENT); }
 
 /* Whether a look-up found an id, which then is the answer. */
@@ -93,7 +93,7 @@ bool sk_is_boundary(
     const uint8_t *s, size_t s_length,
     size_t i);
 
-/* How many characters a text has; 0 for what is no text. */
+/* How many characters a text has. Refused 1, 4: an empty text has 0, and what is no text is refused. */
 size_t sk_characters(
     const uint8_t *s, size_t s_length);
 
@@ -241,9 +241,9 @@ size_t sk_segment(
     uint32_t *ids, size_t ids_length);
 
 /* The same without a test and without a refusal. Before the call all of this has been tested, or the call is undefined:
- * sk_sound_scored is true of the trie; text_length is at most SK_MAX_TEXT and sk_valid_up_to(text) is text_length; each
- * slot column has more than text_length places; path and ids have a place for each character (text_length is enough).
- * An empty text has no ids here too, but its slot 0 is written as empty. */
+ * sk_sound_scored is true of the trie; text_length is at most SK_MAX_TEXT and sk_valid_up_to(text) is text_length; unless
+ * the text is empty each slot column has more than text_length places; path and ids have a place for each character
+ * (text_length is enough). An empty text writes nothing here too. */
 size_t sk_segment_checked(
     const uint32_t *edge_at, size_t edge_at_length,
     const uint16_t *edge_n, size_t edge_n_length,
@@ -291,8 +291,8 @@ size_t sk_encode_checked(
 
 /* ---- The program */
 
-/* All that the program `ids` prints for a pack and an input, from the front of out: how many bytes. What the places
- * past them hold afterwards is not promised. A refused pack or input is printed as such. SK_ABSENT, and nothing
+/* All that the program `ids` prints for a pack and an input, from the front of out: how many bytes. The
+ * places past them are unchanged. A refused pack or input is printed as such. SK_ABSENT, and nothing
  * written, where out_length is below SK_PRINT_ROOM. The call needs about 230,000 bytes of stack. */
 size_t sk_print(
     const uint8_t *pack, size_t pack_length,

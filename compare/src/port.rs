@@ -93,8 +93,14 @@ pub fn is_boundary(s: &[u8], i: usize) -> bool {
     unsafe { c::sk_is_boundary(s.as_ptr(), s.len(), i) }
 }
 
-pub fn characters(s: &[u8]) -> usize {
-    unsafe { c::sk_characters(s.as_ptr(), s.len()) }
+/// How many characters a text has, or the number of its fault.
+pub fn characters(s: &[u8]) -> Result<usize, u32> {
+    count(unsafe { c::sk_characters(s.as_ptr(), s.len()) })
+}
+
+/// A count, or the number of a refusal.
+fn count(n: usize) -> Result<usize, u32> {
+    n.checked_sub(1 << 32).map_or(Ok(n), |number| Err(number as u32))
 }
 
 /// 0, or the number of the span's fault.
@@ -120,7 +126,7 @@ pub fn encode(p: &Parts, g: Given, word: &[u8], ids: &mut [u32]) -> Result<usize
     let (u, m, pre) = (g.unknown, g.max_chars, g.prefix);
     let (w, out) = ((word.as_ptr(), word.len()), (ids.as_mut_ptr(), ids.len()));
     let n = call!(sk_encode(p.edge_at, p.edge_n, p.id, p.byte, p.to; u, m, pre.as_ptr(), pre.len(), w.0, w.1, out.0, out.1));
-    n.checked_sub(1 << 32).map_or(Ok(n), |number| Err(number as u32))
+    count(n)
 }
 
 /// The columns that `segment` is lent.
@@ -139,7 +145,7 @@ pub fn segment(p: &Parts, unknown: u32, text: &[u8], b: &mut Scratch) -> Result<
         unknown, p.unknown_score, text.as_ptr(), text.len(),
         b.start.as_mut_ptr(), b.start.len(), b.slot_id.as_mut_ptr(), b.slot_id.len(),
         b.slot_score.as_mut_ptr(), b.slot_score.len(), b.path.as_mut_ptr(), b.path.len(), b.ids.as_mut_ptr(), b.ids.len()));
-    n.checked_sub(1 << 32).map_or(Ok(n), |number| Err(number as u32))
+    count(n)
 }
 
 /// The columns that a build is lent; WordPiece leaves the scores alone.
@@ -217,12 +223,13 @@ pub fn build(kind: Kind, rows: &Rows, b: &mut Lent) -> Result<(u32, u64), Refusa
     }
 }
 
-/// What the program prints. A buffer that is too short is left alone.
+/// What the program prints. A buffer that is too short is left alone, and so are the places past the text.
 pub fn print(pack: &[u8], input: &[u8]) -> Vec<u8> {
     let mut out = vec![0xA5u8; 360_459];
     let short = call!(sk_print(pack, input; out.as_mut_ptr(), 360_458));
     assert!(short == 1 << 32 && out.iter().all(|&b| b == 0xA5), "a short buffer is left alone");
     let n = call!(sk_print(pack, input; out.as_mut_ptr(), out.len()));
+    assert!(out[n..].iter().all(|&b| b == 0xA5), "the places past the text are left alone");
     out.truncate(n);
     out
 }

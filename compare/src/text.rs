@@ -43,8 +43,14 @@ fn valid_up_to(s: &[u8]) -> usize {
 /// One byte list: how far it is text; and, where it is, its characters and boundaries.
 fn bytes_alike(t: &mut Tally, s: &[u8]) {
     t.check(port::valid_up_to(s) == valid_up_to(s), || format!("valid_up_to {s:02x?}"));
-    let Ok(text) = str::from_utf8(s) else { return };
-    t.check(port::characters(s) == text.chars().count(), || format!("characters {s:02x?}"));
+    let text = str::from_utf8(s);
+    let count = match text {
+        _ if 65_536 < s.len() => Err(1),
+        Ok(text) => Ok(text.chars().count()),
+        Err(_) => Err(4),
+    };
+    t.check(port::characters(s) == count, || format!("characters {s:02x?}"));
+    let Ok(text) = text else { return };
     for i in 0..=s.len() + 1 {
         t.check(port::is_boundary(s, i) == text.is_char_boundary(i), || format!("is_boundary {s:02x?} {i}"));
     }
@@ -93,7 +99,7 @@ fn scalars() -> bool {
     for c in '\0'..=char::MAX {
         count += 1;
         let s = c.encode_utf8(&mut buffer).as_bytes();
-        t.check(port::valid_up_to(s) == s.len() && port::characters(s) == 1, || format!("{c:?}"));
+        t.check(port::valid_up_to(s) == s.len() && port::characters(s) == Ok(1), || format!("{c:?}"));
         t.check(port::char_len(s[0]) == s.len(), || format!("char_len {c:?}"));
         for n in 1..s.len() {
             t.check(port::valid_up_to(&s[..n]) == 0, || format!("{c:?} cut at {n}"));

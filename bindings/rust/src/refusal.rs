@@ -120,7 +120,7 @@ pub(crate) fn found(answer: u64) -> Result<Option<u32>, Refusal> {
     }
 }
 
-/// The answer of `sk_encode`: how many ids.
+/// A count: of ids, or of characters.
 pub(crate) fn count(answer: usize) -> Result<usize, Refusal> {
     match answer.checked_sub(1 << 32) {
         None => Ok(answer),

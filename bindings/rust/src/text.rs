@@ -1,5 +1,6 @@
 //! What text is: RFC 3629.
 
+use crate::refusal;
 use crate::{Fault, Refusal};
 
 /// The most bytes of a text or word.
@@ -20,9 +21,9 @@ pub fn is_boundary(s: &[u8], i: usize) -> bool {
     unsafe { call!(sk_is_boundary([s], i)) }
 }
 
-/// How many characters a text has; 0 for what is no text.
-pub fn characters(s: &[u8]) -> usize {
-    unsafe { call!(sk_characters([s])) }
+/// How many characters a text has. Refused 1, 4: what is no text is not taken for an empty one.
+pub fn characters(s: &[u8]) -> Result<usize, Refusal> {
+    refusal::count(unsafe { call!(sk_characters([s])) })
 }
 
 /// The `len` bytes of the table from `off` on, which are text. Refused 1 (the table), 2, 4.

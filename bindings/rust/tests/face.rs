@@ -93,10 +93,12 @@ fn text_4() {
         assert_eq!(refused(wordpiece().encode(s)), (4, None));
         assert_eq!(refused(wordpiece().exact(s)), (4, None));
         assert_eq!(refused(text::span(s, 0, s.len() as u32)), (4, None));
-        assert_eq!((text::valid_up_to(s), text::characters(s)), (0, 0));
+        assert_eq!((text::valid_up_to(s), refused(text::characters(s))), (0, (4, None)));
     }
     // a length above the limit comes before bytes that are no text
     assert_eq!(refused(unigram().segment(&[0xff; 65_537])), (1, None));
+    assert_eq!(refused(text::characters(&[0xff; 65_537])), (1, None));
+    assert_eq!(text::characters(&[b'a'; 65_536]), Ok(65_536));
 }
 
 #[test]
@@ -215,7 +217,7 @@ fn empty_inputs() {
     let none: [(&str, u32); 0] = [];
     let bare = WordPiece::from_rows(&none, 3, 100, &[]).unwrap();
     assert_eq!((bare.encode(&[]).unwrap(), bare.encode(b"xy").unwrap()), (vec![], vec![3]));
-    assert_eq!((text::valid_up_to(&[]), text::characters(&[])), (0, 0));
+    assert_eq!((text::valid_up_to(&[]), text::characters(&[])), (0, Ok(0)));
     assert_eq!((text::is_boundary(&[], 0), text::is_boundary(&[], 1)), (true, false));
     assert_eq!(text::span(&[], 0, 0), Ok([].as_slice()));
 }

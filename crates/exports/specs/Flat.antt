@@ -1,7 +1,7 @@
 -- Answers as numbers, for callers in other languages. Definitions only; assumes nothing.
 use mathlib.Core.Path.{_≡_}
 use Prim.Native.Nat.{ℕ, _+_, _*_, _^_}
-use mathlib.Core.Bool.{cond}
+use mathlib.Core.Bool.{not, cond}
 use mathlib.Core.List.{List, [], _∷_}
 use mathlib.Core.Option.{Option, none, some}
 use lib.Dec.{ltb}
@@ -10,14 +10,15 @@ use Rattle.doubles.specs.Double.{Double, plusZero}
 use Rattle.refusal.specs.declared.Fault.{Fault}
 use Rattle.refusal.specs.declared.Reason.{Reason}
 use Rattle.refusal.specs.declared.Reason.the-variants.{Call, Row}
-use Rattle.refusal.specs.Refusal.{number}
-use Rattle.refusal.specs.Sizes.{noId}
+use Rattle.refusal.specs.declared.Fault.the-variants as fault
+use Rattle.refusal.specs.Refusal.{number, refuse}
+use Rattle.refusal.specs.Sizes.{maxText, noId, above}
 use Rattle.refusal.specs.Places.{overlay, filled}
 use Rattle.rows.specs.Columns.{Columns, rowsOf}
 use Rattle.build.specs.Names.{names}
 use Rattle.build.specs.Rules.{tokensOf, unigramTrie, unigramScores, wordpieceTrie}
 use Rattle.build.specs.Memory.{Memory, cleared, holding, zeroScores, leaves}
-use Rattle.text.specs.Text.{wellFormed, characters}
+use Rattle.text.specs.Text.{wellFormed}
 use Rattle.trie.specs.declared.LookupAnswer.{LookupAnswer}
 use Rattle.trie.specs.declared.LookupAnswer.the-variants.{Found, Absent, Refused}
 use Rattle.unigram.specs.declared.SegmentAnswer.{SegmentAnswer}
@@ -38,9 +39,14 @@ abbrev pub status : Option Fault → ℕ
 status none = 0
 status (some f) = number f
 
--- how many characters a text has; 0 for what is no text
-abbrev pub charactersOf : List ℕ → ℕ
-charactersOf s = cond (wellFormed s) (characters s) 0
+-- of a text by itself: 1, then 4
+abbrev pub textFault : List ℕ → Option Fault
+textFault s = refuse (above maxText (length s)) fault.Size (refuse (not (wellFormed s)) fault.Text none)
+
+-- a count, which is below 2 ^ 32; or 2 ^ 32 and the number of the fault
+abbrev pub countNumber : Option Fault → ℕ → ℕ
+countNumber none n = n
+countNumber (some f) n = 2 ^ 32 + number f
 
 -- a look-up: the id, which is below 2 ^ 32; 2 ^ 32 for none; or that and the number of the fault
 abbrev pub lookupNumber : LookupAnswer → ℕ

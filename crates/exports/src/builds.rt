@@ -10,7 +10,7 @@ ghost use Rattle.exports.specs.Flat.{reasonNumber, fromRowsNumber, FromR
 ghost use Rattle.scored.specs.Build.{told};
 
 // The reason as one number.
-pub fn reason_number(r: Reason) -> u64
+pub(crate) fn reason_number(r: Reason) -> u64
     ensures { λ n. ⌜ n ≡ reasonNumber r ⌝ }
 {
     match r {
@@ -68,7 +68,7 @@ pub extern "C" fn sk_from_rows(
 }
 
 // A score in the first of the lent places, if there is one.
-pub fn put_score(places: &mut [f64], x: f64)
+pub(crate) fn put_score(places: &mut [f64], x: f64)
     ensures { λ _. ⌜ map units (now (places .exit)) ≡ withFirst (units x) (map units (now (places .entry))) ⌝ }
 {
     if 0 < places.len() {

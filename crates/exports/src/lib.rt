@@ -1,5 +1,7 @@
 // The calls for other languages. A slice passes as a pointer and a length, an answer as numbers. A caller outside Rattle is checked by nothing:
 // it passes what the parameters' types say.
+use refusal::Fault;
+use text::MAX_TEXT;
 use text::SpanAnswer;
 use trie::LookupAnswer;
 use unigram::SegmentAnswer;
@@ -10,9 +12,11 @@ pub mod packs;
 
 ghost use mathlib.Core.Path.{_≡_};
 ghost use mathlib.Core.List.{map};
+ghost use Prim.Native.Nat.{_+_, _^_};
 ghost use lib.ListN.{length};
 ghost use Rattle.doubles.specs.Units.{units};
-ghost use Rattle.text.specs.Text.{lengthOf, validUpTo, boundary};
+ghost use Rattle.refusal.specs.Refusal.{number};
+ghost use Rattle.text.specs.Text.{lengthOf, validUpTo, boundary, characters};
 ghost use Rattle.text.specs.Span.{spanFault, spanOf, givenFor};
 ghost use Rattle.trie.specs.Trie.{partsOf, idOf};
 ghost use Rattle.trie.specs.Sound.{sound, soundScored};
@@ -23,7 +27,7 @@ ghost use Rattle.wordpiece.specs.Pieces.{idsOf};
 ghost use Rattle.wordpiece.specs.Encode.{encodeFault, encodeAnswer, encodeLeaves};
 ghost use Rattle.wordpiece.specs.Checked.{Ready};
 ghost use Rattle.refusal.specs.Places.{overlay};
-ghost use Rattle.exports.specs.Flat.{status, charactersOf, lookupNumber, encodeNumber, segmentNumber, SegmentedAs};
+ghost use Rattle.exports.specs.Flat.{status, textFault, countNumber, lookupNumber, encodeNumber, segmentNumber, SegmentedAs};
 
 // The length of the longest prefix made of whole well-formed characters.
 #[no_mangle]
@@ -49,13 +53,23 @@ pub extern "C" fn sk_is_boundary(s: &[u8], i: usize) -> bool
     text::utf8::is_boundary(s, i)
 }
 
-// How many characters a text has; 0 for what is no text.
+// A refusal as one number.
+fn refused(f: Fault) -> usize
+    ensures { λ r. ⌜ r ≡ 2 ^ 32 + number f ⌝ }
+{
+    4_294_967_296 + refusal::number(f) as usize
+}
+
+// How many characters a text has, or 2^32 and 1 or 4: what is no text is not taken for an empty one.
 #[no_mangle]
 pub extern "C" fn sk_characters(s: &[u8]) -> usize
-    ensures { λ r. ⌜ r ≡ charactersOf (now (s .entry)) ⌝ }
+    ensures { λ r. ⌜ r ≡ countNumber (textFault (now (s .entry))) (characters (now (s .entry))) ⌝ }
 {
+    if MAX_TEXT < s.len() {
+        return refused(Fault::Size);
+    }
     if text::utf8::valid_up_to(s) < s.len() {
-        return 0;
+        return refused(Fault::Text);
     }
     text::checked::characters(s)
 }
@@ -158,7 +172,7 @@ fn encode_number(a: EncodeAnswer) -> usize
 {
     match a {
         EncodeAnswer::Ids(n) => n,
-        EncodeAnswer::Refused(f) => 4_294_967_296 + refusal::number(f) as usize,
+        EncodeAnswer::Refused(f) => refused(f),
     }
 }
 
@@ -229,7 +243,7 @@ fn segment_number(a: SegmentAnswer) -> usize
 {
     match a {
         SegmentAnswer::Ids(n) => n,
-        SegmentAnswer::Refused(f) => 4_294_967_296 + refusal::number(f) as usize,
+        SegmentAnswer::Refused(f) => refused(f),
     }
 }
 

@@ -44,7 +44,7 @@ pub fn word(bytes: &[u8], at: usize) -> u32
 }
 
 // The header of a file that is long enough for one.
-pub fn read_header(bytes: &[u8]) -> Header
+pub(crate) fn read_header(bytes: &[u8]) -> Header
     requires { ⌜ 36 ≤ length (now bytes) ⌝ }
     ensures { λ r. ⌜ headerIs r ≡ headerOf (now (bytes .entry)) ⌝ }
 {
@@ -125,7 +125,7 @@ fn kind_laid_out(bytes: &[u8], h: Header) -> Layout
 }
 
 // The kind of a file with this header.
-pub fn layout_of(bytes: &[u8], h: Header) -> Layout
+pub(crate) fn layout_of(bytes: &[u8], h: Header) -> Layout
     requires { ⌜ (36 ≤ length (now bytes)) × (headerIs h ≡ headerOf (now bytes)) ⌝ }
     ensures { λ r. ⌜ kindIn r ≡ kindOf (now (bytes .entry)) ⌝ }
 {

@@ -9,8 +9,10 @@ pub mod utf8;
 ghost use mathlib.Core.Path.{_≡_};
 ghost use Rattle.text.specs.Span.{outside, endFault, spanFault, TextAnswered, PartGiven, NothingGiven};
 
-// The largest string table, in bytes.
+// The largest string table and the longest text or word, in bytes.
 pub const MAX_TABLE: usize = 16_777_216;
+
+pub const MAX_TEXT: usize = 65_536;
 
 // What the call beside `text` answers: an empty part may be an accepted span.
 pub enum SpanAnswer {

@@ -1,5 +1,6 @@
 -- Looking a byte up among edges whose bytes rise strictly. Places that do not hold the byte may be left out in front (`seek-skip`) or behind
--- (`seek-cut`); where bytes rise, one byte in the middle says which half that is. So the search by halves is the scan. Assumes nothing.
+-- (`seek-cut`); where bytes rise, one byte in between says which side that is. So a step that looks at three edges and keeps one of the four
+-- parts between them is the scan. Assumes nothing.
 use mathlib.Core.Path.{_≡_, refl, sym, ap, _∙_}
 use mathlib.Core.Bool.{Bool, true, false, cond}
 use mathlib.Core.List.{List}

@@ -1,6 +1,7 @@
 // Trie parts in lent columns: soundness, steps and walks, and looking a string up.
 use checked::NodeId;
 use refusal::Fault;
+use text::MAX_TEXT;
 
 pub mod checked;
 pub mod soundness;
@@ -13,9 +14,6 @@ ghost use Rattle.doubles.specs.Units.{units};
 ghost use Rattle.trie.specs.Trie.{partsOf};
 ghost use Rattle.trie.specs.Sound.{sound, soundScored, Sound};
 ghost use Rattle.trie.specs.Lookup.{LookedUp};
-
-// The longest text, in bytes.
-const MAX_TEXT: usize = 65_536;
 
 // What a look-up answers.
 pub enum LookupAnswer {

@@ -1,6 +1,7 @@
 // The cutting of a text, for layers above that have tested the parts, or all.
 use crate::SegmentAnswer;
 use refusal::Fault;
+use text::MAX_TEXT;
 ghost use mathlib.Core.Path.{_≡_};
 ghost use mathlib.Core.List.{map};
 ghost use Rattle.doubles.specs.Units.{units};
@@ -85,7 +86,7 @@ pub fn segment_tested(
     requires { ⌜ tested ≡ soundScored (partsOf (now «edge_at») (now «edge_n») (now id) (now byte) (now to)) (map units (now score)) (units «unknown_score») ⌝ }
     ensures { λ r. ⌜ Segmented (modelOf (now («edge_at» .entry)) (now («edge_n» .entry)) (now (id .entry)) (now (score .entry)) (now (byte .entry)) (now (to .entry)) (pieceWith unknown «unknown_score»)) (now (text .entry)) (scratchOf (now (start .entry)) (now («slot_id» .entry)) (now («slot_score» .entry)) (now (path .entry)) (now (ids .entry))) r (scratchOf (now (start .exit)) (now («slot_id» .exit)) (now («slot_score» .exit)) (now (path .exit)) (now (ids .exit))) ⌝ }
 {
-    if crate::MAX_TEXT < text.len() {
+    if MAX_TEXT < text.len() {
         return SegmentAnswer::Refused(Fault::Size);
     }
     if !tested {

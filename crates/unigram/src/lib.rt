@@ -17,9 +17,6 @@ ghost use Rattle.unigram.specs.Work.{modelOf, pieceWith, Ready};
 ghost use Rattle.unigram.specs.Segment.{Segmented};
 ghost use Rattle.unigram.specs.Core.{scratchOf};
 
-// The longest text, in bytes.
-const MAX_TEXT: usize = 65_536;
-
 // What `segment` answers: how many ids it wrote, or why it wrote nothing.
 pub enum SegmentAnswer {
     Ids(usize),

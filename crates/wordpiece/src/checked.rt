@@ -67,7 +67,7 @@ fn piece_to(i: usize, end: usize, id: u32) -> Match
 
 // The longest piece of w from i, after what the node of the walk spells. The loop keeps the best piece as two numbers, its end (i while there is
 // none) and its id: a `Match` would go through memory in each turn.
-pub fn longest(
+pub(crate) fn longest(
     edge_at: &[u32],
     edge_n: &[u16],
     id: &[u32],

@@ -4,6 +4,7 @@ use refusal::Fault;
 use refusal::Reason;
 use rows::Kind;
 use rows::columns::RowsAnswer;
+use text::MAX_TEXT;
 
 pub mod checked;
 
@@ -19,9 +20,7 @@ ghost use Rattle.wordpiece.specs.Build as promise;
 ghost use Rattle.wordpiece.specs.Encode.{encodeFault, Encoded};
 ghost use Rattle.wordpiece.specs.Checked.{faultIn};
 
-// The longest word and the longest prefix, in bytes.
-const MAX_TEXT: usize = 65_536;
-
+// The longest prefix, in bytes.
 const MAX_PREFIX: usize = 64;
 
 // What `from_rows` answers: how many nodes the trie has, or why nothing was built.
