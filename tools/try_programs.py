@@ -6,6 +6,9 @@
 What is proved is the source. That the compiler keeps its meaning is not, so it is tried: `rt try` runs each program on
 the interpreter, compiled at -O0 and at -O3, and compiled with the compiler's assumptions checked, and each must write
 what is stored. `replay` is run on its first cases alone: the interpreter ends after ten million steps.
+
+`slices` calls `sliced::build_rows`, over slices of rows. It has no proof, so it is no crate of the repository: it stands in
+tests/slices, and is one in the copied folder alone.
 """
 
 import shutil
@@ -16,9 +19,10 @@ import tempfile
 from pathlib import Path
 
 ROOT = Path(__file__).resolve().parent.parent
-# Each program, and how many of the four ways run it: `ids` opens a file, which the interpreter can't.
-PROGRAMS = {"sums": 4, "ids": 3, "replay": 4}
+# Each program, and how many of the four ways run it: `ids` and `slices` open a file, which the interpreter can't.
+PROGRAMS = {"sums": 4, "ids": 3, "replay": 4, "slices": 3}
 CASES = 16
+SLICES = "slices: refusal text doubles trie rows build scored sliced io libc os\n"
 
 
 def first_cases(stored, count):
@@ -37,6 +41,19 @@ def lay_out(copy):
     stored = (replay / "stdin").read_bytes()
     (replay / "stdin").write_bytes(first_cases(stored, CASES))
     (replay / "stdout").write_text(f"{CASES} agree\n0 differ\n")
+    add_slices(copy)
+
+
+def add_slices(copy):
+    """The program of tests/slices as a crate, with the file that it opens and what it must print."""
+    kept, slices = ROOT / "tests" / "slices", copy / "crates" / "slices"
+    for part in ("src", "data"):
+        (slices / part).mkdir(parents=True)
+    shutil.copy(kept / "main.txt", slices / "src" / "main.rt")
+    shutil.copy(kept / "lists.bin", slices / "data")
+    shutil.copy(kept / "stdout", slices)
+    with open(copy / "crates.txt", "a") as lines:
+        lines.write(SLICES)
 
 
 def main():

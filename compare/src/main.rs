@@ -2,6 +2,7 @@
 //!
 //!   compare examples                           the paper's examples on the Rust
 //!   compare sums [--print]                     the stored sums are the Rust's; or prints them
+//!   compare slices [--print]                   the stored row lists are the Rust's and the paper's; or prints them
 //!   compare definitions [SEED..] [--cases N]   small random cases, the definitions computed by the checker
 //!
 //! Built with the feature `port`, which links the compiled port:
@@ -28,17 +29,16 @@ mod bench;
 mod builds;
 mod definitions;
 mod examples;
-#[cfg(feature = "port")]
 mod large;
 #[cfg(feature = "port")]
 mod packs;
 #[cfg(feature = "port")]
 mod port;
 mod random;
-#[cfg(feature = "port")]
 mod rows;
 #[cfg(feature = "port")]
 mod segments;
+mod slices;
 mod small;
 mod sums;
 #[cfg(feature = "port")]
@@ -64,6 +64,10 @@ fn main() -> ExitCode {
             true
         }
         Some("sums") => sums::stored(root),
+        Some("slices") if args.get(1).is_some_and(|w| w == "--print") => {
+            std::io::Write::write_all(&mut std::io::stdout(), &slices::stored_bytes()).is_ok()
+        }
+        Some("slices") => slices::stored(root),
         Some("definitions") => definitions_command(root, &args[1..]),
         #[cfg(feature = "port")]
         Some("text") => text::run(seed, quick),
@@ -122,7 +126,7 @@ fn main() -> ExitCode {
         }
         _ => {
             eprintln!(
-                "usage: compare examples | sums [--print] | definitions [SEED..] [--cases N] | text [SEED] [--quick] | tries [SEED] [--quick] | wordpieces [SEED] [--quick] | segments [SEED] [--quick] | builds [SEED] [--quick] | packs [SEED] [--quick] [--print] | print PACK | all [SEED] [--quick] | bench | bench-text | bench-tries | bench-wordpieces | bench-segments | bench-builds"
+                "usage: compare examples | sums [--print] | slices [--print] | definitions [SEED..] [--cases N] | text [SEED] [--quick] | tries [SEED] [--quick] | wordpieces [SEED] [--quick] | segments [SEED] [--quick] | builds [SEED] [--quick] | packs [SEED] [--quick] [--print] | print PACK | all [SEED] [--quick] | bench | bench-text | bench-tries | bench-wordpieces | bench-segments | bench-builds"
             );
             return ExitCode::from(2);
         }
@@ -133,9 +137,10 @@ fn main() -> ExitCode {
 /// Every comparison over the compiled port, and a table of them: in minutes, with --quick in seconds.
 #[cfg(feature = "port")]
 fn all(root: &Path, seed: u64, quick: bool) -> bool {
-    let each: [(&str, &dyn Fn() -> bool); 8] = [
+    let each: [(&str, &dyn Fn() -> bool); 9] = [
         ("the paper's examples", &examples::run),
         ("the stored sums", &|| sums::stored(root)),
+        ("the stored row lists", &|| slices::stored(root)),
         ("text", &|| text::run(seed, quick)),
         ("tries", &|| tries::run(seed, quick)),
         ("builds", &|| builds::run(seed, quick)),
