@@ -31,12 +31,17 @@ module _ {a b c d a′ b′ c′ d′ : List ℕ} (x x′ : List Float) (held : 
   pub segmented-once :
       {m : Model} {s : List ℕ} {before : Scratch} {r r′ : ℕ} → SegmentedAs m s before r (scratchOf a b x c d)
       → SegmentedAs m s before r′ (scratchOf a′ b′ x′ c′ d′) → (r ≡ r′) × (a ≡ a′) × (b ≡ b′) × (x ≡ x′) × (c ≡ c′) × (d ≡ d′)
-  segmented-once p q = (p .answered ∙ sym (q .answered), scratch-once x x′ held held′ (p .left ∙ sym (q .left)))
+  segmented-once p q =
+      let left = scratch-once x x′ held held′ (p .left ∙ sym (q .left)) in
+      (p .answered ∙ sym (q .answered), left .0, left .1, left .2, left .3, left .4)
 
   pub segmented-checked-once :
       {m : Model} {s : List ℕ} {before : Scratch} {r r′ : ℕ} → Cut m s before (scratchOf a b x c d) r
       → Cut m s before (scratchOf a′ b′ x′ c′ d′) r′ → (r ≡ r′) × (a ≡ a′) × (b ≡ b′) × (x ≡ x′) × (c ≡ c′) × (d ≡ d′)
-  segmented-checked-once p q = let once = cut-once p q in (once .0, scratch-once x x′ held held′ (once .1))
+  segmented-checked-once p q =
+      let once = cut-once p q in
+      let left = scratch-once x x′ held held′ (once .1) in
+      (once .0, left .0, left .1, left .2, left .3, left .4)
 
 -- `sk_from_rows`
 pub from-rows-once :
