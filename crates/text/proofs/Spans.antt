@@ -127,6 +127,10 @@ module _ {fault : Option Fault} {table : RefT (List ℕ)} {off len : ℕ} {a b :
 
 -- ---- the part
 
+-- a part that ends where it starts is empty
+pub nothing-taken : (s : List ℕ) (at : ℕ) → take (at - at) (drop at s) ≡ []
+nothing-taken s at = let e : at - at ≡ 0 = omega arith in rw e
+
 -- the empty part in front is what is given of a span with a fault
 pub nothing-given :
     {table part : RefT (List ℕ)} {off len : ℕ} (fault : Option Fault) (f : Fault) → fault ≡ some f → NothingGiven table part

@@ -2,6 +2,7 @@
 use mathlib.Core.Path.{refl}
 use native.Mathlib.Nat.{zero-add}
 use borrow.Author.Needs.{needs}
+use Rattle.text.proofs.Spans.{nothing-taken}
 use Rattle.text.proofs.nothing.Statement.{statement}
 use Rattle.text.proofs.nothing.Tie as tie
 
@@ -15,7 +16,7 @@ part-result-end : tie.Need-part-result-end
 part-result-end c = search needs
 
 returns : tie.Need-returns
-returns c = record { gave = refl; block = refl; stands = zero-add (c .before .args .tab .ptr .1) }
+returns c = record { gave = search nothing-taken; block = refl; stands = zero-add (c .before .args .tab .ptr .1) }
 
 pub nothing-spec : {M : Type 1} → statement M
 nothing-spec = tie.close (tie.spec sub-result part-result-start part-result-end returns)
