@@ -45,7 +45,7 @@ fn enter_row(
         (valueGiven first (now (ids .entry)) i) r ⌝ }
 {
     let v = value(first, ids, i);
-    let token = text::span(tab, off[i], len[i]);
+    let token = text::checked::span(tab, off[i], len[i]);
     enter_token(token, first, v, edge_n, id, work, room, n)
 }
 

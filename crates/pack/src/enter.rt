@@ -62,7 +62,7 @@ fn enter_row(
         (valueOf (firstOf kind) i (rowAt kind (now (bytes .entry)) (rowStart i))) r ⌝ }
 {
     let row = row_at(kind, bytes, HEADER + ROW * i);
-    let token = text::span(strings, row.off, row.len);
+    let token = text::checked::span(strings, row.off, row.len);
     let worth = row.worth;
     let v = value(worth, i);
     let first = keeps_first(kind);

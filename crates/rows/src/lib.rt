@@ -79,7 +79,7 @@ pub fn row_fault(kind: Kind, tab: &[u8], row: Row) -> RowAnswer
     if MAX_TOKEN < len {
         return RowAnswer::Bad(Fault::Token);
     }
-    let token = text::span(tab, off, len);
+    let token = text::checked::span(tab, off, len);
     if text::utf8::valid_up_to(token) < token.len() {
         return RowAnswer::Bad(Fault::Text);
     }

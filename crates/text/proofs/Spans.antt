@@ -20,7 +20,7 @@ use Rattle.refusal.proofs.Tests.{passed}
 use Rattle.text.specs.declared.SpanAnswer.{SpanAnswer}
 use Rattle.text.specs.declared.SpanAnswer.the-variants.{Accepted, Refused}
 use Rattle.text.specs.Text.{validUpTo, wellFormed}
-use Rattle.text.specs.Span.{spanOf, endFault, spanFault, answerOf, givenFor, startFor, TextAnswered, PartGiven, NothingGiven}
+use Rattle.text.specs.Span.{spanOf, spanFault, answerOf, givenFor, startFor, TextAnswered, PartGiven, NothingGiven}
 use Rattle.text.proofs.Valid.{valid-le}
 
 -- ---- which fault
@@ -143,23 +143,7 @@ nothing-given {table} {part} {off} {len} fault f e n =
       stands = n .stands ∙ sym (ap (λ (o : Option Fault). table .ptr .1 + startFor o off) e ∙ add-zero (table .ptr .1));
     }
 
--- the span itself, for an accepted one
-pub span-given : (fault : Option Fault) → fault ≡ none → (bytes : List ℕ) (off : ℕ) → (givenFor fault bytes ≡ bytes) × (startFor fault off ≡ off)
-unfolding givenFor startFor
-span-given fault e bytes off = (ap (λ (o : Option Fault). givenFor o bytes) e, ap (λ (o : Option Fault). startFor o off) e)
-
--- a span that ends inside the table has no fault of its end
-pub inside-end : (tab : List ℕ) (off len : ℕ) → off + len ≤ length tab → endFault tab off len ≡ none
-unfolding endFault
-inside-end tab off len h = rw (le-ltb (length tab) (off + len) h)
-
-pub outside-end : (tab : List ℕ) (off len : ℕ) → length tab < off + len → endFault tab off len ≡ some Span
-unfolding endFault
-outside-end tab off len h = rw (lt-ltb (length tab) (off + len) h)
-
--- what is given of a span that ends inside the table: its bytes
-pub inside-given :
-    {table part : RefT (List ℕ)} {off len : ℕ} → PartGiven (endFault (table .now) off len) table off len part
-    → off + len ≤ length (table .now) → part .now ≡ spanOf (table .now) off len
-inside-given {table = table} {off = off} {len = len} g h =
-    g .gave ∙ span-given (endFault (table .now) off len) (inside-end (table .now) off len h) (spanOf (table .now) off len) off .0
+-- what is given of a span without a fault: its bytes
+pub bytes-given : {table part : RefT (List ℕ)} {off len : ℕ} → PartGiven none table off len part → part .now ≡ spanOf (table .now) off len
+unfolding givenFor
+bytes-given g = g .gave

@@ -23,11 +23,6 @@ spanOf tab off len = take len (drop off tab)
 abbrev pub outside : List ℕ → ℕ → ℕ → Bool
 outside tab off len = ltb (length tab) (off + len)
 
--- of a span that need not be text: 2 alone
-unfoldable pub endFault : List ℕ → ℕ → ℕ → Option Fault
-unfolding refuse
-endFault tab off len = refuse (outside tab off len) Span none
-
 -- "A span is tested in the order 1 (the table), 2, 4."
 unfoldable pub spanFault : List ℕ → ℕ → ℕ → Option Fault
 unfolding refuse wellFormed

@@ -7,7 +7,7 @@ mod runs;
 pub mod utf8;
 
 ghost use mathlib.Core.Path.{_≡_};
-ghost use Rattle.text.specs.Span.{outside, endFault, spanFault, TextAnswered, PartGiven, NothingGiven};
+ghost use Rattle.text.specs.Span.{outside, spanFault, TextAnswered, PartGiven, NothingGiven};
 
 // The largest string table and the longest text or word, in bytes.
 pub const MAX_TABLE: usize = 16_777_216;
@@ -35,18 +35,6 @@ fn nothing<'a>(tab: &'a [u8]) -> &'a [u8]
     &tab[start..start]
 }
 
-// The part of the table that a span is, text or not; the empty part at the table's start where it passes the end.
-pub fn span<'a>(tab: &'a [u8], off: u32, len: u32) -> &'a [u8]
-    ensures { λ r. ⌜ PartGiven (endFault (now (tab .entry)) off len) (tab .entry) off len r ⌝ }
-{
-    if is_outside(tab, off, len) {
-        return nothing(tab);
-    }
-    let start = off as usize;
-    let end = start + len as usize;
-    &tab[start..end]
-}
-
 // Whether a span is text: the size of the table is tested, then the span's end, then its bytes.
 pub fn text_answer(tab: &[u8], off: u32, len: u32) -> SpanAnswer
     ensures { λ r. ⌜ TextAnswered (now (tab .entry)) off len r ⌝ }
@@ -57,7 +45,7 @@ pub fn text_answer(tab: &[u8], off: u32, len: u32) -> SpanAnswer
     if is_outside(tab, off, len) {
         return SpanAnswer::Refused(Fault::Span);
     }
-    let part = span(tab, off, len);
+    let part = checked::span(tab, off, len);
     if utf8::valid_up_to(part) < part.len() {
         return SpanAnswer::Refused(Fault::Text);
     }
@@ -72,5 +60,5 @@ pub fn text<'a>(tab: &'a [u8], off: u32, len: u32) -> &'a [u8]
     if let SpanAnswer::Refused(_) = answer {
         return nothing(tab);
     }
-    span(tab, off, len)
+    checked::span(tab, off, len)
 }

@@ -7,7 +7,7 @@ use borrow.Author.Needs.{needs}
 use borrow.Author.Tests.{ltb-true, ltb-false}
 use lib.ListN.{length}
 use Rattle.text.specs.Text.{validUpTo}
-use Rattle.text.proofs.Spans.{inside-given}
+use Rattle.text.proofs.Spans.{bytes-given}
 use Rattle.rows.specs.declared.Kind.{Kind}
 use Rattle.rows.specs.Rows.{rowIs, worthIs, tokenOf, worthFault, rowFault}
 use Rattle.rows.proofs.RowFaults.{token-length, fault-span, fault-token, fault-text, fault-worth}
@@ -35,7 +35,7 @@ inside c = ltb-false _ _ (sym (c .before .is-outside .ensures) ∙ c .if1 .left)
 module _ (c : tie.After-valid-up-to) where
   token-is : c .before .span .result .now ≡ tokenOf (begun c .args .tab .now) (rowIs (begun c .args .row))
   unfolding rowIs
-  token-is = inside-given (c .before .span .ensures) (inside (ended (sized c)))
+  token-is = bytes-given (c .before .span .ensures)
 
   valid-is : c .valid-up-to .result ≡ validUpTo (tokenOf (begun c .args .tab .now) (rowIs (begun c .args .row)))
   valid-is = c .valid-up-to .ensures ∙ ap validUpTo token-is
@@ -72,7 +72,7 @@ returns-2 c =
     sym (fault-token (a .kind) (a .tab .now) (rowIs (a .row)) (inside (c .before)) (omega arith))
 
 span-requires : tie.Need-span-requires
-span-requires c κs = search needs
+span-requires c κs = inside (ended c)
 
 valid-up-to-requires : tie.Need-valid-up-to-requires
 valid-up-to-requires c κs = search needs

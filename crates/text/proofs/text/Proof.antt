@@ -5,7 +5,7 @@ use mathlib.Core.Option.{Option, none}
 use borrow.Author.Needs.{needs}
 use Rattle.refusal.specs.declared.Fault.{Fault}
 use Rattle.text.specs.Span.{spanFault}
-use Rattle.text.proofs.Spans.{nothing-given, inside-end, refused-fault, accepted-none, accepted-inside}
+use Rattle.text.proofs.Spans.{nothing-given, refused-fault, accepted-none, accepted-inside}
 use Rattle.text.proofs.text.Statement.{statement}
 use Rattle.text.proofs.text.Tie as tie
 
@@ -40,14 +40,10 @@ enum-told-2 : tie.Need-enum-told-2
 enum-told-2 c = search needs
 
 span-requires : tie.Need-span-requires
-span-requires c κs = search needs
+span-requires c κs = let a = start (c .before .before) .args in accepted-inside (a .tab .now) (a .off) (a .len) (accepted c)
 
 returns-2 : tie.Need-returns-2
-returns-2 c =
-    let a = start (c .before .before .before) .args in
-    let none-found = accepted (c .before) in
-    let ended = inside-end (a .tab .now) (a .off) (a .len) (accepted-inside (a .tab .now) (a .off) (a .len) none-found) in
-    rw (none-found ∙ sym ended) (c .span .ensures)
+returns-2 c = rw (accepted (c .before)) (c .span .ensures)
 
 pub text-spec : {M : Type 1} → statement M
 text-spec =

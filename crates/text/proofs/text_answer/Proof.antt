@@ -7,7 +7,7 @@ use borrow.Author.Tests.{ltb-true, ltb-false}
 use lib.ListN.{length}
 use Rattle.text.specs.Text.{validUpTo}
 use Rattle.text.specs.Span.{spanOf, answerOf}
-use Rattle.text.proofs.Spans.{fault-size, fault-span, fault-text, fault-none, span-length, inside-given}
+use Rattle.text.proofs.Spans.{fault-size, fault-span, fault-text, fault-none, span-length, bytes-given}
 use Rattle.text.proofs.text_answer.Statement.{statement}
 use Rattle.text.proofs.text_answer.Tie as tie
 
@@ -26,7 +26,7 @@ inside c = ltb-false _ _ (sym (c .before .is-outside .ensures) ∙ c .if2 .left)
 part-is-span :
     (c : tie.After-valid-up-to)
     → c .before .span .result .now ≡ spanOf (start (tested c .before) .args .tab .now) (start (tested c .before) .args .off) (start (tested c .before) .args .len)
-part-is-span c = inside-given (c .before .span .ensures) (inside (tested c))
+part-is-span c = bytes-given (c .before .span .ensures)
 
 -- how far it is text, and how long it is
 valid-is :
@@ -51,7 +51,7 @@ returns-2 c =
     record { answered = sym (ap answerOf (fault-span (a .tab .now) (a .off) (a .len) (omega arith) passes)) }
 
 span-requires : tie.Need-span-requires
-span-requires c κs = search needs
+span-requires c κs = inside c
 
 valid-up-to-requires : tie.Need-valid-up-to-requires
 valid-up-to-requires c κs = search needs

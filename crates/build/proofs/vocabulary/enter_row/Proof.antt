@@ -1,7 +1,7 @@
 -- `build::vocabulary::enter_row` meets its contract: it reads the row and enters its token, which lies inside the table. Assumes nothing.
 use native.Mathlib.Omega.{arith}
 use borrow.Author.Needs.{needs}
-use Rattle.text.proofs.Spans.{inside-given}
+use Rattle.text.proofs.Spans.{bytes-given}
 use Rattle.build.proofs.Marking.{row-valued}
 use Rattle.build.proofs.vocabulary.enter_row.Statement.{statement}
 use Rattle.build.proofs.vocabulary.enter_row.Tie as tie
@@ -47,7 +47,10 @@ shared-slice-read-span-2 : tie.Need-shared-slice-read-span-2
 shared-slice-read-span-2 c = search needs
 
 span-requires : tie.Need-span-requires
-span-requires c κs = search needs
+span-requires c κs =
+    let v = c .before .before in
+    let s = start (v .before) in
+    s .pre .judged .inside (s .args .i) (s .pre .there)
 
 enter-token-requires : tie.Need-enter-token-requires
 enter-token-requires c κs = search needs
@@ -65,10 +68,7 @@ returns : tie.Need-returns
 returns c =
     let f = called c in
     let g = spanned f in
-    let v = valued g in
-    let s = start (v .before) in
-    row-valued (inside-given (g .span .ensures) (s .pre .judged .inside (s .args .i) (s .pre .there))) (v .value .ensures)
-    (f .enter-token .ensures)
+    row-valued (bytes-given (g .span .ensures)) (valued g .value .ensures) (f .enter-token .ensures)
 
 pub enter-row-spec : {M : Type 1} → statement M
 enter-row-spec =

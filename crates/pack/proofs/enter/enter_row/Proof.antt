@@ -4,7 +4,7 @@ use Prim.Native.Nat.{_+_, _≤_}
 use native.Mathlib.Omega.{arith}
 use borrow.Author.Needs.{needs}
 use lib.ListN.{length}
-use Rattle.text.proofs.Spans.{inside-given}
+use Rattle.text.proofs.Spans.{bytes-given}
 use Rattle.rows.specs.Rows.{Row, rowIs}
 use Rattle.rows.proofs.RowFaults.{fine-inside}
 use Rattle.build.proofs.Marking.{row-valued}
@@ -57,7 +57,7 @@ row-at-requires : tie.Need-row-at-requires
 row-at-requires c κs = let k = c .before .before in let s = k .before .before .before in s .pre .inside
 
 span-requires : tie.Need-span-requires
-span-requires c κs = search needs
+span-requires c κs = inside c
 
 value-requires : tie.Need-value-requires
 value-requires c κs = entry (c .before) .pre .small
@@ -87,7 +87,7 @@ returns c =
     let k = g .before in
     let s = entry k in
     entered-row (s .args .kind) (s .args .bytes .now) (s .args .strings .now) (rowStart (s .args .i)) (s .args .i) (rowIs (k .row-at .result))
-    (row-is k) (first .keeps-first .ensures) (v .value .ensures) (row-valued (inside-given (g .span .ensures) (inside k)) refl (t .enter-token .ensures))
+    (row-is k) (first .keeps-first .ensures) (v .value .ensures) (row-valued (bytes-given (g .span .ensures)) refl (t .enter-token .ensures))
 
 pub enter-row-spec : {M : Type 1} → statement M
 enter-row-spec =
