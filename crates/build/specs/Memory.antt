@@ -6,6 +6,8 @@ use mathlib.Core.Option.{Option, none, some}
 use lib.Dec.{ltb, eqb}
 use lib.ListN.{length}
 use Rattle.doubles.specs.Double.{Double, plusZero}
+use denote.Ref.{RefT, now}
+use Rattle.refusal.specs.Lent.{Lent, was, is}
 use Rattle.refusal.specs.declared.Reason.{Reason}
 use Rattle.refusal.specs.Refusal.{numberOf}
 use Rattle.refusal.specs.Places.{zeroed, filled}
@@ -22,6 +24,17 @@ pub record Memory : Type 0 where
 
 abbrev pub memory : List ℕ → List ℕ → List ℕ → List ℕ → List ℕ → List ℕ → Memory
 memory edgeAt edgeN id byte to work = record { edgeAt = edgeAt; edgeN = edgeN; id = id; byte = byte; to = to; work = work }
+
+-- the same as a contract names the columns: as the call found them, as it left them, and in a `requires`
+abbrev pub memoryWas : Lent ℕ → Lent ℕ → Lent ℕ → Lent ℕ → Lent ℕ → Lent ℕ → Memory
+memoryWas edgeAt edgeN id byte to work = memory (was edgeAt) (was edgeN) (was id) (was byte) (was to) (was work)
+
+abbrev pub memoryIs : Lent ℕ → Lent ℕ → Lent ℕ → Lent ℕ → Lent ℕ → Lent ℕ → Memory
+memoryIs edgeAt edgeN id byte to work = memory (is edgeAt) (is edgeN) (is id) (is byte) (is to) (is work)
+
+abbrev pub memoryNow :
+    RefT (List ℕ) → RefT (List ℕ) → RefT (List ℕ) → RefT (List ℕ) → RefT (List ℕ) → RefT (List ℕ) → Memory
+memoryNow edgeAt edgeN id byte to work = memory (now edgeAt) (now edgeN) (now id) (now byte) (now to) (now work)
 
 -- one of the lent columns, by its length, has fewer than n places
 unfoldable pub anyBelow : ℕ → List ℕ → Bool

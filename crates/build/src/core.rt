@@ -6,8 +6,9 @@ ghost use mathlib.Core.Path.{_≡_};
 ghost use Prim.Native.Nat.{min};
 ghost use Rattle.build.specs.Given.{given};
 ghost use Rattle.build.specs.Held.{Judged};
-ghost use Rattle.build.specs.Memory.{memory};
+ghost use Rattle.build.specs.Memory.{memoryIs, memoryNow, memoryWas};
 ghost use Rattle.build.specs.Core.{roomOf, RoomFor, BuiltOf};
+ghost use Rattle.refusal.specs.Lent.{was};
 
 fn least(a: usize, b: usize) -> usize
     ensures { λ r. ⌜ r ≡ min a b ⌝ }
@@ -24,9 +25,7 @@ pub fn room(
     to: &[u32],
     work: &[u32],
 ) -> usize
-    ensures { λ r.
-        ⌜ r ≡ roomOf (memory (now («edge_at» .entry)) (now («edge_n» .entry)) (now (id .entry)) (now (byte .entry)) (now (to .entry))
-        (now (work .entry))) ⌝ }
+    ensures { λ r. ⌜ r ≡ roomOf (memoryWas «edge_at» «edge_n» id byte to work) ⌝ }
 {
     let nodes = least(
         least(edge_at.len(), edge_n.len()),
@@ -52,13 +51,11 @@ pub fn build(
     work: &mut [u32],
     room: usize,
 ) -> Built
-    requires { ⌜ Judged first (now tab) (now off) (now len) (now ids)
-        × RoomFor room (memory (now «edge_at») (now «edge_n») (now id) (now byte) (now to) (now work)) ⌝ }
+    requires { ⌜ Judged first (now tab) (now off) (now len) (now ids) × RoomFor room
+        (memoryNow «edge_at» «edge_n» id byte to work) ⌝ }
     ensures { λ r.
-        ⌜ BuiltOf first (now (tab .entry)) (given (now (off .entry)) (now (len .entry)) (now (ids .entry))) room
-        (memory (now («edge_at» .entry)) (now («edge_n» .entry)) (now (id .entry)) (now (byte .entry)) (now (to .entry)) (now (work .entry)))
-        (memory (now («edge_at» .exit)) (now («edge_n» .exit)) (now (id .exit)) (now (byte .exit)) (now (to .exit)) (now (work .exit)))
-        r ⌝ }
+        ⌜ BuiltOf first (was tab) (given (was off) (was len) (was ids)) room
+        (memoryWas «edge_at» «edge_n» id byte to work) (memoryIs «edge_at» «edge_n» id byte to work) r ⌝ }
 {
     let n = enter_rows(first, tab, off, len, ids, edge_n, id, work, room);
     finish(edge_at, edge_n, id, byte, to, work, room, n)

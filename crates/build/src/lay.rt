@@ -3,6 +3,7 @@
 use crate::zero::zero8;
 use crate::zero::zero32;
 ghost use Rattle.build.specs.Laying.{ChildrenReady, ChildrenLaid, NodeReady, NodeLaid, AllReady, AllLaid, OutReady, LaidOut};
+ghost use Rattle.refusal.specs.Lent.{is, was};
 
 // The edges of `node`, from edge number `from` on: the edge number after them.
 fn lay_children(
@@ -14,9 +15,7 @@ fn lay_children(
     from: usize,
 ) -> usize
     requires { ⌜ ChildrenReady (now «edge_n») (now work) (now byte) (now to) node from ⌝ }
-    ensures { λ r.
-        ⌜ ChildrenLaid (now («edge_n» .entry)) (now (work .entry)) (now (byte .entry)) (now (to .entry)) (now (byte .exit)) (now (to .exit))
-        node from r ⌝ }
+    ensures { λ r. ⌜ ChildrenLaid (was «edge_n») (was work) (was byte) (was to) (is byte) (is to) node from r ⌝ }
 {
     let mut at = from;
     let mut k = work[2 * node] as usize;
@@ -41,8 +40,8 @@ fn lay_node(
 ) -> usize
     requires { ⌜ NodeReady (now «edge_at») (now «edge_n») (now byte) (now to) (now work) node from ⌝ }
     ensures { λ r.
-        ⌜ NodeLaid (now («edge_at» .entry)) (now («edge_n» .entry)) (now (byte .entry)) (now (to .entry)) (now (work .entry))
-        (now («edge_at» .exit)) (now («edge_n» .exit)) (now (byte .exit)) (now (to .exit)) node from r ⌝ }
+        ⌜ NodeLaid (was «edge_at») (was «edge_n») (was byte) (was to) (was work) (is «edge_at») (is «edge_n»)
+        (is byte) (is to) node from r ⌝ }
 {
     let end = lay_children(edge_n, byte, to, work, node, from);
     edge_at[node] = from as u32;
@@ -61,8 +60,8 @@ fn lay_all(
 )
     requires { ⌜ AllReady (now «edge_at») (now «edge_n») (now byte) (now to) (now work) n ⌝ }
     ensures { λ _.
-        ⌜ AllLaid (now («edge_at» .entry)) (now («edge_n» .entry)) (now (byte .entry)) (now (to .entry)) (now (work .entry))
-        (now («edge_at» .exit)) (now («edge_n» .exit)) (now (byte .exit)) (now (to .exit)) n ⌝ }
+        ⌜ AllLaid (was «edge_at») (was «edge_n») (was byte) (was to) (was work) (is «edge_at») (is «edge_n») (is byte)
+        (is to) n ⌝ }
 {
     let mut at: usize = 0;
     let mut k: usize = 0;
@@ -83,8 +82,8 @@ pub fn lay_out(
 )
     requires { ⌜ OutReady (now «edge_at») (now «edge_n») (now byte) (now to) (now work) n ⌝ }
     ensures { λ _.
-        ⌜ LaidOut (now («edge_at» .entry)) (now («edge_n» .entry)) (now (byte .entry)) (now (to .entry)) (now (work .entry))
-        (now («edge_at» .exit)) (now («edge_n» .exit)) (now (byte .exit)) (now (to .exit)) (now (work .exit)) n ⌝ }
+        ⌜ LaidOut (was «edge_at») (was «edge_n») (was byte) (was to) (was work) (is «edge_at») (is «edge_n») (is byte)
+        (is to) (is work) n ⌝ }
 {
     zero32(edge_at);
     zero8(byte);

@@ -3,14 +3,14 @@
 use crate::NO_ID;
 ghost use mathlib.Core.Path.{_≡_};
 ghost use Prim.Native.Nat.{_+_, _*_, _≤_, _<_};
-ghost use lib.ListN.{length, getD, set};
 ghost use Rattle.build.specs.Held.{Chained, Sought, Linkable, NodeLinked, Enterable, ByteEntered};
+ghost use Rattle.refusal.specs.Lent.{is, was};
 
 // The work place whose link leads to the first child of `node` by b or a later byte: the node's own, or that of the child before.
 // Bytes rise along the links, so the walk ends.
 pub fn seek(edge_n: &[u16], work: &[u32], node: usize, b: u8) -> usize
     requires { ⌜ Chained (now «edge_n») (now work) node ⌝ }
-    ensures { λ r. ⌜ Sought (now («edge_n» .entry)) (now (work .entry)) node b r ⌝ }
+    ensures { λ r. ⌜ Sought (was «edge_n») (was work) node b r ⌝ }
 {
     let byte = b as u16;
     let mut at = 2 * node;
@@ -29,9 +29,7 @@ pub fn seek(edge_n: &[u16], work: &[u32], node: usize, b: u8) -> usize
 // Node n, by the byte b, behind the link at `at`. It leads on to what that led to, and has no id yet and no child.
 pub fn link(edge_n: &mut [u16], id: &mut [u32], work: &mut [u32], at: usize, n: usize, b: u8)
     requires { ⌜ Linkable (now «edge_n») (now id) (now work) at n ⌝ }
-    ensures { λ _.
-        ⌜ NodeLinked (now («edge_n» .entry)) (now (id .entry)) (now (work .entry))
-        (now («edge_n» .exit)) (now (id .exit)) (now (work .exit)) at n b ⌝ }
+    ensures { λ _. ⌜ NodeLinked (was «edge_n») (was id) (was work) (is «edge_n») (is id) (is work) at n b ⌝ }
 {
     let next = work[at];
     work[2 * n] = 0;
@@ -59,8 +57,8 @@ pub fn child(
 ) -> Reached
     requires { ⌜ Enterable (now «edge_n») (now id) (now work) room (from .node) (from .n) ⌝ }
     ensures { λ r.
-        ⌜ ByteEntered (now («edge_n» .entry)) (now (id .entry)) (now (work .entry))
-        (now («edge_n» .exit)) (now (id .exit)) (now (work .exit)) room (from .node) (from .n) b (r .node) (r .n) ⌝ }
+        ⌜ ByteEntered (was «edge_n») (was id) (was work) (is «edge_n») (is id) (is work) room (from .node) (from .n) b
+        (r .node) (r .n) ⌝ }
 {
     let n = from.n;
     let at = seek(edge_n, work, from.node, b);

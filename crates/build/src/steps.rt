@@ -11,13 +11,14 @@ ghost use Prim.Native.Nat.{_<_};
 ghost use lib.ListN.{length, set};
 ghost use Rattle.refusal.specs.Sizes.{noId};
 ghost use Rattle.build.specs.Held.{Roomy, Started};
-ghost use Rattle.build.specs.Memory.{memory};
+ghost use Rattle.build.specs.Memory.{memoryIs, memoryNow, memoryWas};
 ghost use Rattle.build.specs.Core.{Finishable, Finished};
+ghost use Rattle.refusal.specs.Lent.{is, was};
 
 // The root, alone: it has no id and no child.
 fn plant(id: &mut [u32], work: &mut [u32])
     requires { ⌜ (0 < length (now id)) × (0 < length (now work)) ⌝ }
-    ensures { λ _. ⌜ (now (id .exit) ≡ set (now (id .entry)) 0 noId) × (now (work .exit) ≡ set (now (work .entry)) 0 0) ⌝ }
+    ensures { λ _. ⌜ (is id ≡ set (was id) 0 noId) × (is work ≡ set (was work) 0 0) ⌝ }
 {
     id[0] = NO_ID;
     work[0] = 0;
@@ -26,7 +27,7 @@ fn plant(id: &mut [u32], work: &mut [u32])
 // The root, alone, in columns that may hold anything: how many nodes there are, 1. That is more than `room` where there is none for it.
 pub fn start(edge_n: &mut [u16], id: &mut [u32], work: &mut [u32], room: usize) -> usize
     requires { ⌜ Roomy room (now «edge_n») (now id) (now work) ⌝ }
-    ensures { λ r. ⌜ Started (now («edge_n» .exit)) (now (id .exit)) (now (work .exit)) room r ⌝ }
+    ensures { λ r. ⌜ Started (is «edge_n») (is id) (is work) room r ⌝ }
 {
     zero16(edge_n);
     zero32(id);
@@ -48,12 +49,10 @@ pub fn finish(
     room: usize,
     n: usize,
 ) -> Built
-    requires { ⌜ Finishable room (memory (now «edge_at») (now «edge_n») (now id) (now byte) (now to) (now work)) n ⌝ }
+    requires { ⌜ Finishable room (memoryNow «edge_at» «edge_n» id byte to work) n ⌝ }
     ensures { λ r.
-        ⌜ Finished room
-        (memory (now («edge_at» .entry)) (now («edge_n» .entry)) (now (id .entry)) (now (byte .entry)) (now (to .entry)) (now (work .entry)))
-        (memory (now («edge_at» .exit)) (now («edge_n» .exit)) (now (id .exit)) (now (byte .exit)) (now (to .exit)) (now (work .exit)))
-        n r ⌝ }
+        ⌜ Finished room (memoryWas «edge_at» «edge_n» id byte to work) (memoryIs «edge_at» «edge_n» id byte to work) n
+        r ⌝ }
 {
     if room < n {
         clear(edge_at, edge_n, id, byte, to, work);

@@ -6,6 +6,7 @@ ghost use mathlib.Core.Path.{_≡_};
 ghost use Prim.Native.Nat.{_<_};
 ghost use lib.ListN.{length};
 ghost use Rattle.build.specs.Held.{Enterable, TokenEntered, markedIds, RowEntered};
+ghost use Rattle.refusal.specs.Lent.{is, was};
 
 // The token from the root on: its last node, and how many nodes there are. The node is `room` where no room is left.
 fn enter(
@@ -18,8 +19,8 @@ fn enter(
 ) -> Reached
     requires { ⌜ Enterable (now «edge_n») (now id) (now work) room 0 n ⌝ }
     ensures { λ r.
-        ⌜ TokenEntered (now («edge_n» .entry)) (now (id .entry)) (now (work .entry))
-        (now («edge_n» .exit)) (now (id .exit)) (now (work .exit)) room n (now (token .entry)) (r .node) (r .n) ⌝ }
+        ⌜ TokenEntered (was «edge_n») (was id) (was work) (is «edge_n») (is id) (is work) room n (was token) (r .node)
+        (r .n) ⌝ }
 {
     let mut at = Reached { node: 0, n };
     let mut i: usize = 0;
@@ -36,7 +37,7 @@ fn enter(
 // The id v for `node`: always, or where the first id is kept only if it has none yet.
 fn mark(id: &mut [u32], node: usize, first: bool, v: u32)
     requires { ⌜ node < length (now id) ⌝ }
-    ensures { λ _. ⌜ now (id .exit) ≡ markedIds first (now (id .entry)) node v ⌝ }
+    ensures { λ _. ⌜ is id ≡ markedIds first (was id) node v ⌝ }
 {
     if first {
         if id[node] != NO_ID {
@@ -59,8 +60,7 @@ pub fn enter_token(
 ) -> usize
     requires { ⌜ Enterable (now «edge_n») (now id) (now work) room 0 n ⌝ }
     ensures { λ r.
-        ⌜ RowEntered (now («edge_n» .entry)) (now (id .entry)) (now (work .entry))
-        (now («edge_n» .exit)) (now (id .exit)) (now (work .exit)) first room n (now (token .entry)) v r ⌝ }
+        ⌜ RowEntered (was «edge_n») (was id) (was work) (is «edge_n») (is id) (is work) first room n (was token) v r ⌝ }
 {
     if token.len() == 0 {
         return n;

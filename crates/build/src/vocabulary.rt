@@ -11,11 +11,12 @@ ghost use Rattle.build.specs.Names.{names};
 ghost use Rattle.build.specs.Rules.{tokensOf};
 ghost use Rattle.build.specs.Given.{given, rulesFrom, noRule};
 ghost use Rattle.build.specs.Held.{RowEntered, RowDone, Judged, valueGiven, RowReady, Roomy, Planted};
+ghost use Rattle.refusal.specs.Lent.{is, was};
 
 // The id of row i.
 fn value(first: bool, ids: &[u32], i: usize) -> u32
     requires { ⌜ (i < maxRows) × (first ≡ false → i < length (now ids)) ⌝ }
-    ensures { λ r. ⌜ r ≡ valueGiven first (now (ids .entry)) i ⌝ }
+    ensures { λ r. ⌜ r ≡ valueGiven first (was ids) i ⌝ }
 {
     if first {
         return i as u32;
@@ -39,10 +40,8 @@ fn enter_row(
 ) -> usize
     requires { ⌜ RowReady first (now tab) (now off) (now len) (now ids) (now «edge_n») (now id) (now work) room n i ⌝ }
     ensures { λ r.
-        ⌜ RowEntered (now («edge_n» .entry)) (now (id .entry)) (now (work .entry))
-        (now («edge_n» .exit)) (now (id .exit)) (now (work .exit)) first room n
-        (spanOf (now (tab .entry)) (getD (now (off .entry)) i 0) (getD (now (len .entry)) i 0))
-        (valueGiven first (now (ids .entry)) i) r ⌝ }
+        ⌜ RowEntered (was «edge_n») (was id) (was work) (is «edge_n») (is id) (is work) first room n
+        (spanOf (was tab) (getD (was off) i 0) (getD (was len) i 0)) (valueGiven first (was ids) i) r ⌝ }
 {
     let v = value(first, ids, i);
     let token = text::checked::span(tab, off[i], len[i]);
@@ -63,9 +62,8 @@ fn enter_on(
 ) -> usize
     requires { ⌜ Judged first (now tab) (now off) (now len) (now ids) × Planted (now «edge_n») (now id) (now work) room ⌝ }
     ensures { λ r.
-        ⌜ RowDone (names (tokensOf (now (tab .entry)) (given (now (off .entry)) (now (len .entry)) (now (ids .entry)))))
-        (rulesFrom first (now (tab .entry)) noRule 0 (given (now (off .entry)) (now (len .entry)) (now (ids .entry))))
-        room (now («edge_n» .exit)) (now (id .exit)) (now (work .exit)) r ⌝ }
+        ⌜ RowDone (names (tokensOf (was tab) (given (was off) (was len) (was ids)))) (rulesFrom first (was tab) noRule 0
+        (given (was off) (was len) (was ids))) room (is «edge_n») (is id) (is work) r ⌝ }
 {
     let mut n: usize = 1;
     let mut i: usize = 0;
@@ -93,9 +91,8 @@ pub fn enter_rows(
 ) -> usize
     requires { ⌜ Judged first (now tab) (now off) (now len) (now ids) × Roomy room (now «edge_n») (now id) (now work) ⌝ }
     ensures { λ r.
-        ⌜ RowDone (names (tokensOf (now (tab .entry)) (given (now (off .entry)) (now (len .entry)) (now (ids .entry)))))
-        (rulesFrom first (now (tab .entry)) noRule 0 (given (now (off .entry)) (now (len .entry)) (now (ids .entry))))
-        room (now («edge_n» .exit)) (now (id .exit)) (now (work .exit)) r ⌝ }
+        ⌜ RowDone (names (tokensOf (was tab) (given (was off) (was len) (was ids)))) (rulesFrom first (was tab) noRule 0
+        (given (was off) (was len) (was ids))) room (is «edge_n») (is id) (is work) r ⌝ }
 {
     let n = start(edge_n, id, work, room);
     if room < n {

@@ -1,10 +1,11 @@
 // Lent places made zero.
 ghost use mathlib.Core.Path.{_≡_};
 ghost use Rattle.refusal.specs.Places.{zeroed};
-ghost use Rattle.build.specs.Memory.{memory, cleared};
+ghost use Rattle.build.specs.Memory.{cleared, memoryIs, memoryWas};
+ghost use Rattle.refusal.specs.Lent.{is, was};
 
 pub fn zero8(s: &mut [u8])
-    ensures { λ _. ⌜ now (s .exit) ≡ zeroed 0 (now (s .entry)) ⌝ }
+    ensures { λ _. ⌜ is s ≡ zeroed 0 (was s) ⌝ }
 {
     let mut i: usize = 0;
     while i < s.len() {
@@ -14,7 +15,7 @@ pub fn zero8(s: &mut [u8])
 }
 
 pub fn zero16(s: &mut [u16])
-    ensures { λ _. ⌜ now (s .exit) ≡ zeroed 0 (now (s .entry)) ⌝ }
+    ensures { λ _. ⌜ is s ≡ zeroed 0 (was s) ⌝ }
 {
     let mut i: usize = 0;
     while i < s.len() {
@@ -24,7 +25,7 @@ pub fn zero16(s: &mut [u16])
 }
 
 pub fn zero32(s: &mut [u32])
-    ensures { λ _. ⌜ now (s .exit) ≡ zeroed 0 (now (s .entry)) ⌝ }
+    ensures { λ _. ⌜ is s ≡ zeroed 0 (was s) ⌝ }
 {
     let mut at: usize = 0;
     while at < s.len() {
@@ -43,8 +44,7 @@ pub fn clear(
     work: &mut [u32],
 )
     ensures { λ _.
-        ⌜ memory (now («edge_at» .exit)) (now («edge_n» .exit)) (now (id .exit)) (now (byte .exit)) (now (to .exit)) (now (work .exit))
-        ≡ cleared (memory (now («edge_at» .entry)) (now («edge_n» .entry)) (now (id .entry)) (now (byte .entry)) (now (to .entry)) (now (work .entry))) ⌝ }
+        ⌜ memoryIs «edge_at» «edge_n» id byte to work ≡ cleared (memoryWas «edge_at» «edge_n» id byte to work) ⌝ }
 {
     zero32(edge_at);
     zero16(edge_n);

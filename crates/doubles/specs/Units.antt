@@ -2,8 +2,9 @@
 -- that is a whole number for every value that the format holds. Definitions only; assumes nothing.
 use Prim.Native.Nat.{_*_, _/_}
 use mathlib.Core.Bool.{Bool, true, _&&_}
-use mathlib.Core.List.{List, [], _∷_}
+use mathlib.Core.List.{List, [], _∷_, map}
 use lib.Ieee.{Float, nan, inf, fin, up, down, fits, binary64}
+use Rattle.refusal.specs.Lent.{Lent, was, is}
 use Rattle.doubles.specs.Double.{Double, notANumber, infinite, finite, one}
 
 unfoldable pub units : Float → Double
@@ -19,3 +20,10 @@ held x = fits binary64 x
 unfoldable pub allHeld : List Float → Bool
 allHeld [] = true
 allHeld (x ∷ xs) = held x && allHeld xs
+
+-- a lent column of scores, as doubles: what it held, and what it holds
+abbrev pub scoresWas : Lent Float → List Double
+scoresWas x = map units (was x)
+
+abbrev pub scoresIs : Lent Float → List Double
+scoresIs x = map units (is x)

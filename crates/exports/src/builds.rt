@@ -2,12 +2,12 @@
 // the low ones the row, or 4,294,967,295 where it names none.
 use refusal::Reason;
 ghost use mathlib.Core.Path.{_≡_};
-ghost use mathlib.Core.List.{map};
-ghost use Rattle.doubles.specs.Units.{units};
-ghost use Rattle.rows.specs.Answers.{columns};
-ghost use Rattle.build.specs.Memory.{memory};
+ghost use Rattle.doubles.specs.Units.{units, scoresIs, scoresWas};
+ghost use Rattle.rows.specs.Answers.{columns, columnsWas};
+ghost use Rattle.build.specs.Memory.{memoryIs, memoryWas};
 ghost use Rattle.exports.specs.Flat.{reasonNumber, fromRowsNumber, FromRowsAs, toldNumber, toldScore, withFirst, BuiltAs};
 ghost use Rattle.scored.specs.Build.{told};
+ghost use Rattle.refusal.specs.Lent.{was};
 
 // The reason as one number.
 pub(crate) fn reason_number(r: Reason) -> u64
@@ -46,10 +46,9 @@ pub extern "C" fn sk_from_rows(
     work: &mut [u32],
 ) -> u64
     ensures { λ r.
-        ⌜ FromRowsAs (now (tab .entry)) (columns (now (off .entry)) (now (len .entry)) (now (scored .entry)) (now (score .entry)) (now (id .entry)))
-        (memory (now («edge_at» .entry)) (now («edge_n» .entry)) (now («node_id» .entry)) (now (byte .entry)) (now (to .entry)) (now (work .entry)))
-        r
-        (memory (now («edge_at» .exit)) (now («edge_n» .exit)) (now («node_id» .exit)) (now (byte .exit)) (now (to .exit)) (now (work .exit))) ⌝ }
+        ⌜ FromRowsAs (was tab) (columnsWas off len scored score id)
+        (memoryWas «edge_at» «edge_n» «node_id» byte to work) r (memoryIs «edge_at» «edge_n» «node_id» byte to work)
+        ⌝ }
 {
     from_rows_number(wordpiece::from_rows(
         tab,
@@ -69,7 +68,7 @@ pub extern "C" fn sk_from_rows(
 
 // A score in the first of the lent places, if there is one.
 pub(crate) fn put_score(places: &mut [f64], x: f64)
-    ensures { λ _. ⌜ map units (now (places .exit)) ≡ withFirst (units x) (map units (now (places .entry))) ⌝ }
+    ensures { λ _. ⌜ scoresIs places ≡ withFirst (units x) (scoresWas places) ⌝ }
 {
     if 0 < places.len() {
         places[0] = x;
@@ -78,7 +77,8 @@ pub(crate) fn put_score(places: &mut [f64], x: f64)
 
 // An answer of `build` as one number, and its unknown score in the first of the lent places.
 fn built_number(a: scored::BuildAnswer, unknown_score: &mut [f64]) -> u64
-    ensures { λ n. ⌜ (n ≡ toldNumber (told a)) × (map units (now («unknown_score» .exit)) ≡ toldScore (told a) (map units (now («unknown_score» .entry)))) ⌝ }
+    ensures { λ n.
+        ⌜ (n ≡ toldNumber (told a)) × (scoresIs «unknown_score» ≡ toldScore (told a) (scoresWas «unknown_score»)) ⌝ }
 {
     match a {
         scored::BuildAnswer::Built(s) => {
@@ -108,12 +108,9 @@ pub extern "C" fn sk_build(
     unknown_score: &mut [f64],
 ) -> u64
     ensures { λ r.
-        ⌜ BuiltAs (now (tab .entry)) (columns (now (off .entry)) (now (len .entry)) (now (scored .entry)) (now (score .entry)) (now (id .entry)))
-        (memory (now («edge_at» .entry)) (now («edge_n» .entry)) (now («node_id» .entry)) (now (byte .entry)) (now (to .entry)) (now (work .entry)))
-        (map units (now («node_score» .entry))) (map units (now («unknown_score» .entry)))
-        r
-        (memory (now («edge_at» .exit)) (now («edge_n» .exit)) (now («node_id» .exit)) (now (byte .exit)) (now (to .exit)) (now (work .exit)))
-        (map units (now («node_score» .exit))) (map units (now («unknown_score» .exit))) ⌝ }
+        ⌜ BuiltAs (was tab) (columnsWas off len scored score id) (memoryWas «edge_at» «edge_n» «node_id» byte to work)
+        (scoresWas «node_score») (scoresWas «unknown_score») r (memoryIs «edge_at» «edge_n» «node_id» byte to work)
+        (scoresIs «node_score») (scoresIs «unknown_score») ⌝ }
 {
     built_number(
         scored::build(

@@ -11,28 +11,28 @@ pub mod builds;
 pub mod packs;
 
 ghost use mathlib.Core.Path.{_≡_};
-ghost use mathlib.Core.List.{map};
 ghost use Prim.Native.Nat.{_+_, _^_};
 ghost use lib.ListN.{length};
-ghost use Rattle.doubles.specs.Units.{units};
+ghost use Rattle.doubles.specs.Units.{units, scoresWas};
 ghost use Rattle.refusal.specs.Refusal.{number};
 ghost use Rattle.text.specs.Text.{lengthOf, validUpTo, boundary, characters};
 ghost use Rattle.text.specs.Span.{spanFault, spanOf, givenFor};
-ghost use Rattle.trie.specs.Trie.{partsOf, idOf};
+ghost use Rattle.trie.specs.Trie.{idOf, parts, partsNow};
 ghost use Rattle.trie.specs.Sound.{sound, soundScored};
 ghost use Rattle.trie.specs.Lookup.{lookupFault, lookupAnswer};
-ghost use Rattle.unigram.specs.Work.{modelOf, pieceWith};
-ghost use Rattle.unigram.specs.Core.{scratchOf, Prepared, Cut};
+ghost use Rattle.unigram.specs.Work.{model, modelNow};
+ghost use Rattle.unigram.specs.Core.{Prepared, Cut, scratchIs, scratchWas};
 ghost use Rattle.wordpiece.specs.Pieces.{idsOf};
 ghost use Rattle.wordpiece.specs.Encode.{encodeFault, encodeAnswer, encodeLeaves};
 ghost use Rattle.wordpiece.specs.Checked.{Ready};
 ghost use Rattle.refusal.specs.Places.{overlay};
 ghost use Rattle.exports.specs.Flat.{status, textFault, countNumber, lookupNumber, encodeNumber, segmentNumber, SegmentedAs};
+ghost use Rattle.refusal.specs.Lent.{is, was};
 
 // The length of the longest prefix made of whole well-formed characters.
 #[no_mangle]
 pub extern "C" fn sk_valid_up_to(s: &[u8]) -> usize
-    ensures { λ r. ⌜ r ≡ validUpTo (now (s .entry)) ⌝ }
+    ensures { λ r. ⌜ r ≡ validUpTo (was s) ⌝ }
 {
     text::utf8::valid_up_to(s)
 }
@@ -48,7 +48,7 @@ pub extern "C" fn sk_char_len(b: u8) -> usize
 // Whether a character begins at i, or the text ends there.
 #[no_mangle]
 pub extern "C" fn sk_is_boundary(s: &[u8], i: usize) -> bool
-    ensures { λ r. ⌜ r ≡ boundary (now (s .entry)) i ⌝ }
+    ensures { λ r. ⌜ r ≡ boundary (was s) i ⌝ }
 {
     text::utf8::is_boundary(s, i)
 }
@@ -63,7 +63,7 @@ fn refused(f: Fault) -> usize
 // How many characters a text has, or 2^32 and 1 or 4: what is no text is not taken for an empty one.
 #[no_mangle]
 pub extern "C" fn sk_characters(s: &[u8]) -> usize
-    ensures { λ r. ⌜ r ≡ countNumber (textFault (now (s .entry))) (characters (now (s .entry))) ⌝ }
+    ensures { λ r. ⌜ r ≡ countNumber (textFault (was s)) (characters (was s)) ⌝ }
 {
     if MAX_TEXT < s.len() {
         return refused(Fault::Size);
@@ -77,7 +77,7 @@ pub extern "C" fn sk_characters(s: &[u8]) -> usize
 // Whether a span of the table is text: 0, or 1, 2 or 4.
 #[no_mangle]
 pub extern "C" fn sk_text(tab: &[u8], off: u32, len: u32) -> u32
-    ensures { λ r. ⌜ r ≡ status (spanFault (now (tab .entry)) off len) ⌝ }
+    ensures { λ r. ⌜ r ≡ status (spanFault (was tab) off len) ⌝ }
 {
     match text::text_answer(tab, off, len) {
         SpanAnswer::Accepted => 0,
@@ -88,7 +88,7 @@ pub extern "C" fn sk_text(tab: &[u8], off: u32, len: u32) -> u32
 // How long the part is that the span check gives back: 0 for a refused span.
 #[no_mangle]
 pub extern "C" fn sk_text_len(tab: &[u8], off: u32, len: u32) -> usize
-    ensures { λ r. ⌜ r ≡ length (givenFor (spanFault (now (tab .entry)) off len) (spanOf (now (tab .entry)) off len)) ⌝ }
+    ensures { λ r. ⌜ r ≡ length (givenFor (spanFault (was tab) off len) (spanOf (was tab) off len)) ⌝ }
 {
     text::text(tab, off, len).len()
 }
@@ -102,7 +102,7 @@ pub extern "C" fn sk_sound(
     byte: &[u8],
     to: &[u32],
 ) -> bool
-    ensures { λ r. ⌜ r ≡ sound (partsOf (now («edge_at» .entry)) (now («edge_n» .entry)) (now (id .entry)) (now (byte .entry)) (now (to .entry))) ⌝ }
+    ensures { λ r. ⌜ r ≡ sound (parts «edge_at» «edge_n» id byte to) ⌝ }
 {
     trie::soundness::sound(edge_at, edge_n, id, byte, to)
 }
@@ -118,7 +118,8 @@ pub extern "C" fn sk_sound_scored(
     to: &[u32],
     unknown_score: f64,
 ) -> bool
-    ensures { λ r. ⌜ r ≡ soundScored (partsOf (now («edge_at» .entry)) (now («edge_n» .entry)) (now (id .entry)) (now (byte .entry)) (now (to .entry))) (map units (now (score .entry))) (units «unknown_score») ⌝ }
+    ensures { λ r.
+        ⌜ r ≡ soundScored (parts «edge_at» «edge_n» id byte to) (scoresWas score) (units «unknown_score») ⌝ }
 {
     trie::soundness::sound_scored(edge_at, edge_n, id, score, byte, to, unknown_score)
 }
@@ -146,7 +147,9 @@ pub extern "C" fn sk_exact(
     unknown_score: f64,
     s: &[u8],
 ) -> u64
-    ensures { λ r. ⌜ (let t = partsOf (now («edge_at» .entry)) (now («edge_n» .entry)) (now (id .entry)) (now (byte .entry)) (now (to .entry)) in r ≡ lookupNumber (lookupAnswer (lookupFault (soundScored t (map units (now (score .entry))) (units «unknown_score»)) (now (s .entry))) (idOf t (now (s .entry))))) ⌝ }
+    ensures { λ r.
+        ⌜ (let t = parts «edge_at» «edge_n» id byte to in r ≡ lookupNumber (lookupAnswer (lookupFault
+        (soundScored t (scoresWas score) (units «unknown_score»)) (was s)) (idOf t (was s)))) ⌝ }
 {
     lookup_number(trie::exact(edge_at, edge_n, id, score, byte, to, unknown_score, s))
 }
@@ -161,7 +164,9 @@ pub extern "C" fn sk_exact_unscored(
     to: &[u32],
     s: &[u8],
 ) -> u64
-    ensures { λ r. ⌜ (let t = partsOf (now («edge_at» .entry)) (now («edge_n» .entry)) (now (id .entry)) (now (byte .entry)) (now (to .entry)) in r ≡ lookupNumber (lookupAnswer (lookupFault (sound t) (now (s .entry))) (idOf t (now (s .entry))))) ⌝ }
+    ensures { λ r.
+        ⌜ (let t = parts «edge_at» «edge_n» id byte to in r ≡ lookupNumber
+        (lookupAnswer (lookupFault (sound t) (was s)) (idOf t (was s)))) ⌝ }
 {
     lookup_number(trie::exact_unscored(edge_at, edge_n, id, byte, to, s))
 }
@@ -190,7 +195,10 @@ pub extern "C" fn sk_encode(
     word: &[u8],
     ids: &mut [u32],
 ) -> usize
-    ensures { λ r. ⌜ (let t = partsOf (now («edge_at» .entry)) (now («edge_n» .entry)) (now (id .entry)) (now (byte .entry)) (now (to .entry)) in let all = idsOf t unknown «max_chars» (now (prefix .entry)) (now (word .entry)) in let fault = encodeFault t (now (prefix .entry)) (now (word .entry)) (now (ids .entry)) in (r ≡ encodeNumber (encodeAnswer fault (length all))) × (now (ids .exit) ≡ encodeLeaves fault all (now (ids .entry)))) ⌝ }
+    ensures { λ r.
+        ⌜ (let t = parts «edge_at» «edge_n» id byte to in let all = idsOf t unknown «max_chars» (was prefix) (was word)
+        in let fault = encodeFault t (was prefix) (was word) (was ids) in (r ≡ encodeNumber (encodeAnswer fault (length all)))
+        × (is ids ≡ encodeLeaves fault all (was ids))) ⌝ }
 {
     encode_number(wordpiece::encode(
         edge_at,
@@ -220,8 +228,10 @@ pub extern "C" fn sk_encode_checked(
     word: &[u8],
     ids: &mut [u32],
 ) -> usize
-    requires { ⌜ Ready (partsOf (now «edge_at») (now «edge_n») (now id) (now byte) (now to)) (now word) (now ids) ⌝ }
-    ensures { λ r. ⌜ (let all = idsOf (partsOf (now («edge_at» .entry)) (now («edge_n» .entry)) (now (id .entry)) (now (byte .entry)) (now (to .entry))) unknown «max_chars» (now (prefix .entry)) (now (word .entry)) in (r ≡ length all) × (now (ids .exit) ≡ overlay all (now (ids .entry)))) ⌝ }
+    requires { ⌜ Ready (partsNow «edge_at» «edge_n» id byte to) (now word) (now ids) ⌝ }
+    ensures { λ r.
+        ⌜ (let all = idsOf (parts «edge_at» «edge_n» id byte to) unknown «max_chars» (was prefix) (was word) in
+        (r ≡ length all) × (is ids ≡ overlay all (was ids))) ⌝ }
 {
     wordpiece::checked::encode(
         edge_at,
@@ -265,7 +275,9 @@ pub extern "C" fn sk_segment(
     path: &mut [u32],
     ids: &mut [u32],
 ) -> usize
-    ensures { λ r. ⌜ SegmentedAs (modelOf (now («edge_at» .entry)) (now («edge_n» .entry)) (now (id .entry)) (now (score .entry)) (now (byte .entry)) (now (to .entry)) (pieceWith unknown «unknown_score»)) (now (text .entry)) (scratchOf (now (start .entry)) (now («slot_id» .entry)) (now («slot_score» .entry)) (now (path .entry)) (now (ids .entry))) r (scratchOf (now (start .exit)) (now («slot_id» .exit)) (now («slot_score» .exit)) (now (path .exit)) (now (ids .exit))) ⌝ }
+    ensures { λ r.
+        ⌜ SegmentedAs (model «edge_at» «edge_n» id score byte to unknown «unknown_score») (was text)
+        (scratchWas start «slot_id» «slot_score» path ids) r (scratchIs start «slot_id» «slot_score» path ids) ⌝ }
 {
     segment_number(unigram::segment(
         edge_at,
@@ -303,8 +315,11 @@ pub extern "C" fn sk_segment_checked(
     path: &mut [u32],
     ids: &mut [u32],
 ) -> usize
-    requires { ⌜ Prepared (modelOf (now «edge_at») (now «edge_n») (now id) (now score) (now byte) (now to) (pieceWith unknown «unknown_score»)) (now text) (now start) (now «slot_id») (now «slot_score») (now path) (now ids) ⌝ }
-    ensures { λ r. ⌜ Cut (modelOf (now («edge_at» .entry)) (now («edge_n» .entry)) (now (id .entry)) (now (score .entry)) (now (byte .entry)) (now (to .entry)) (pieceWith unknown «unknown_score»)) (now (text .entry)) (scratchOf (now (start .entry)) (now («slot_id» .entry)) (now («slot_score» .entry)) (now (path .entry)) (now (ids .entry))) (scratchOf (now (start .exit)) (now («slot_id» .exit)) (now («slot_score» .exit)) (now (path .exit)) (now (ids .exit))) r ⌝ }
+    requires { ⌜ Prepared (modelNow «edge_at» «edge_n» id score byte to unknown «unknown_score») (now text) (now start)
+        (now «slot_id») (now «slot_score») (now path) (now ids) ⌝ }
+    ensures { λ r.
+        ⌜ Cut (model «edge_at» «edge_n» id score byte to unknown «unknown_score») (was text)
+        (scratchWas start «slot_id» «slot_score» path ids) (scratchIs start «slot_id» «slot_score» path ids) r ⌝ }
 {
     unigram::checked::segment(
         edge_at,

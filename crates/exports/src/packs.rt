@@ -3,15 +3,16 @@ use crate::builds::put_score;
 use crate::builds::reason_number;
 use pack::PackAnswer;
 ghost use mathlib.Core.Path.{_≡_};
-ghost use mathlib.Core.List.{map};
-ghost use Rattle.doubles.specs.Units.{units};
-ghost use Rattle.build.specs.Memory.{memory};
+ghost use Rattle.doubles.specs.Units.{scoresIs, scoresWas};
+ghost use Rattle.build.specs.Memory.{memoryIs, memoryWas};
 ghost use Rattle.pack.specs.Build.{told};
 ghost use Rattle.exports.specs.Flat.{packNumber, packScore, PackBuiltAs, PrintedAs};
+ghost use Rattle.refusal.specs.Lent.{is, was};
 
 // An answer of the build as one number, and its unknown score in the first of the lent places.
 fn pack_number(a: PackAnswer, unknown_score: &mut [f64]) -> u64
-    ensures { λ n. ⌜ (n ≡ packNumber (told a)) × (map units (now («unknown_score» .exit)) ≡ packScore (told a) (map units (now («unknown_score» .entry)))) ⌝ }
+    ensures { λ n.
+        ⌜ (n ≡ packNumber (told a)) × (scoresIs «unknown_score» ≡ packScore (told a) (scoresWas «unknown_score»)) ⌝ }
 {
     match a {
         PackAnswer::Unigram {
@@ -48,12 +49,9 @@ pub extern "C" fn sk_pack_build(
     unknown_score: &mut [f64],
 ) -> u64
     ensures { λ r.
-        ⌜ PackBuiltAs (now (bytes .entry))
-        (memory (now («edge_at» .entry)) (now («edge_n» .entry)) (now («node_id» .entry)) (now (byte .entry)) (now (to .entry)) (now (work .entry)))
-        (map units (now («node_score» .entry))) (map units (now («unknown_score» .entry)))
-        r
-        (memory (now («edge_at» .exit)) (now («edge_n» .exit)) (now («node_id» .exit)) (now (byte .exit)) (now (to .exit)) (now (work .exit)))
-        (map units (now («node_score» .exit))) (map units (now («unknown_score» .exit))) ⌝ }
+        ⌜ PackBuiltAs (was bytes) (memoryWas «edge_at» «edge_n» «node_id» byte to work) (scoresWas «node_score»)
+        (scoresWas «unknown_score») r (memoryIs «edge_at» «edge_n» «node_id» byte to work) (scoresIs «node_score»)
+        (scoresIs «unknown_score») ⌝ }
 {
     pack_number(
         pack::build(bytes, edge_at, edge_n, node_id, node_score, byte, to, work),
@@ -65,7 +63,7 @@ pub extern "C" fn sk_pack_build(
 // how many bytes; or 2^32, and nothing is written, where the buffer has fewer than 360,459, which are enough for any output.
 #[no_mangle]
 pub extern "C" fn sk_print(pack: &[u8], input: &[u8], out: &mut [u8]) -> usize
-    ensures { λ r. ⌜ PrintedAs (now (pack .entry)) (now (input .entry)) (now (out .entry)) r (now (out .exit)) ⌝ }
+    ensures { λ r. ⌜ PrintedAs (was pack) (was input) (was out) r (is out) ⌝ }
 {
     if out.len() < output::MAX_OUTPUT {
         return 4_294_967_296;

@@ -7,11 +7,12 @@ ghost use mathlib.Core.Path.{_≡_};
 ghost use mathlib.Core.List.{flatMap};
 ghost use Prim.Native.Nat.{_+_, _*_, _≤_};
 ghost use lib.ListN.{length};
-ghost use Rattle.trie.specs.Trie.{partsOf};
+ghost use Rattle.trie.specs.Trie.{parts, partsNow};
 ghost use Rattle.trie.specs.Sound.{sound};
 ghost use Rattle.output.specs.Lines.{lines};
 ghost use Rattle.output.specs.Output.{encodedLine};
 ghost use Rattle.output.specs.Put.{Put};
+ghost use Rattle.refusal.specs.Lent.{is, was};
 
 // One line, a word: its ids, or its refusal. Either takes at most 11 bytes for each byte of the line, and 11. `tested` is whether the parts are
 // sound. The id places may hold anything.
@@ -30,14 +31,12 @@ pub(crate) fn put_encoded(
     out: &mut [u8],
     at: usize,
 ) -> usize
-    requires { ⌜ tested ≡ sound (partsOf (now «edge_at») (now «edge_n») (now id) (now byte) (now to)) ⌝ }
+    requires { ⌜ tested ≡ sound (partsNow «edge_at» «edge_n» id byte to) ⌝ }
     requires { ⌜ length (now ids) ≡ 4_096 ⌝ }
     requires { ⌜ at + 11 * length (now line) + 11 ≤ length (now out) ⌝ }
     ensures { λ r.
-        ⌜ Put (now (out .entry)) at
-        (encodedLine (partsOf (now («edge_at» .entry)) (now («edge_n» .entry)) (now (id .entry)) (now (byte .entry)) (now (to .entry))) unknown
-        «max_chars» (now (prefix .entry)) (now (line .entry)))
-        r (now (out .exit)) × (r ≤ at + 11 * length (now (line .entry)) + 11) ⌝ }
+        ⌜ Put (was out) at (encodedLine (parts «edge_at» «edge_n» id byte to) unknown «max_chars» (was prefix)
+        (was line)) r (is out) × (r ≤ at + 11 * length (was line) + 11) ⌝ }
 {
     let answer = wordpiece::checked::encode_tested(
         tested,
@@ -73,10 +72,8 @@ pub(crate) fn put_encoded_lines(
 ) -> usize
     requires { ⌜ 11 * length (now input) + 11 ≤ length (now out) ⌝ }
     ensures { λ r.
-        ⌜ Put (now (out .entry)) 0
-        (flatMap (encodedLine (partsOf (now («edge_at» .entry)) (now («edge_n» .entry)) (now (id .entry)) (now (byte .entry)) (now (to .entry))) unknown
-        «max_chars» (now (prefix .entry))) (lines (now (input .entry))))
-        r (now (out .exit)) ⌝ }
+        ⌜ Put (was out) 0 (flatMap (encodedLine (parts «edge_at» «edge_n» id byte to) unknown «max_chars» (was prefix))
+        (lines (was input))) r (is out) ⌝ }
 {
     let tested = trie::soundness::sound(edge_at, edge_n, id, byte, to);
     let mut ids = [0u32; 4096];

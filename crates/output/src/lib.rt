@@ -17,6 +17,7 @@ ghost use Rattle.pack.specs.Pack.{headerOf};
 ghost use Rattle.output.specs.Output.{segmentedLine, encodedLine, linesPrinted, faultOf, outputOf, output, maxOutput};
 ghost use Rattle.output.specs.Put.{Put};
 ghost use Rattle.output.specs.Cut.{PrefixGiven, Cuttable, Judged};
+ghost use Rattle.refusal.specs.Lent.{is, was};
 
 // The largest pack and the most input, in bytes.
 const MAX_PACK: usize = 65_536;
@@ -39,7 +40,7 @@ fn fault_of(r: Reason) -> Fault
 // A pack's prefix: the part of its strings.
 fn prefix_of<'a>(pack: &'a [u8], off: u32, len: u32) -> &'a [u8]
     requires { ⌜ (36 ≤ length (now pack)) × (headerOf (now pack) .stringsOff ≤ length (now pack)) ⌝ }
-    ensures { λ r. ⌜ PrefixGiven (now (pack .entry)) off len (now r) ⌝ }
+    ensures { λ r. ⌜ PrefixGiven (was pack) off len (now r) ⌝ }
 {
     let start = pack::header::word(pack, 12) as usize;
     let strings = &pack[start..];
@@ -63,11 +64,9 @@ fn print_segmented(
     requires { ⌜ Cuttable nodes (now «edge_at») (now «edge_n») (now id) (now byte) (now to)
         × (nodes ≤ length (now score)) × (maxOutput ≤ length (now out)) ⌝ }
     ensures { λ r.
-        ⌜ Put (now (out .entry)) 0
-        (linesPrinted (segmentedLine (modelOf (take nodes (now («edge_at» .entry))) (take nodes (now («edge_n» .entry))) (take nodes (now (id .entry)))
-        (take nodes (now (score .entry))) (take (nodes - 1) (now (byte .entry))) (take (nodes - 1) (now (to .entry))) (pieceWith unknown «unknown_score»)))
-        (now (input .entry)))
-        r (now (out .exit)) ⌝ }
+        ⌜ Put (was out) 0 (linesPrinted (segmentedLine (modelOf (take nodes (was «edge_at»)) (take nodes (was «edge_n»))
+        (take nodes (was id)) (take nodes (was score)) (take (nodes - 1) (was byte)) (take (nodes - 1) (was to))
+        (pieceWith unknown «unknown_score»))) (was input)) r (is out) ⌝ }
 {
     if MAX_INPUT < input.len() {
         return put::put_refusal(out, 0, b"input ", Fault::Size);
@@ -102,12 +101,12 @@ fn print_encoded(
     input: &[u8],
     out: &mut [u8],
 ) -> usize
-    requires { ⌜ Cuttable nodes (now «edge_at») (now «edge_n») (now id) (now byte) (now to) × (maxOutput ≤ length (now out)) ⌝ }
+    requires { ⌜ Cuttable nodes (now «edge_at») (now «edge_n») (now id) (now byte) (now to) ×
+        (maxOutput ≤ length (now out)) ⌝ }
     ensures { λ r.
-        ⌜ Put (now (out .entry)) 0
-        (linesPrinted (encodedLine (partsOf (take nodes (now («edge_at» .entry))) (take nodes (now («edge_n» .entry))) (take nodes (now (id .entry)))
-        (take (nodes - 1) (now (byte .entry))) (take (nodes - 1) (now (to .entry)))) unknown «max_chars» (now (prefix .entry))) (now (input .entry)))
-        r (now (out .exit)) ⌝ }
+        ⌜ Put (was out) 0 (linesPrinted (encodedLine (partsOf (take nodes (was «edge_at»)) (take nodes (was «edge_n»))
+        (take nodes (was id)) (take (nodes - 1) (was byte)) (take (nodes - 1) (was to))) unknown «max_chars» (was prefix))
+        (was input)) r (is out) ⌝ }
 {
     if MAX_INPUT < input.len() {
         return put::put_refusal(out, 0, b"input ", Fault::Size);
@@ -143,7 +142,7 @@ fn print_built(
 ) -> usize
     requires { ⌜ Judged (now pack) answer (now «edge_at») (now «edge_n») (now id) (now score) (now byte) (now to)
         × (maxOutput ≤ length (now out)) ⌝ }
-    ensures { λ r. ⌜ Put (now (out .entry)) 0 (outputOf (now (pack .entry)) (now (input .entry))) r (now (out .exit)) ⌝ }
+    ensures { λ r. ⌜ Put (was out) 0 (outputOf (was pack) (was input)) r (is out) ⌝ }
 {
     match answer {
         PackAnswer::Refused(r) => put::put_refusal(out, 0, b"pack ", fault_of(r)),
@@ -193,7 +192,7 @@ fn print_built(
 // how many bytes. For callers that know that there is room for any output.
 pub fn print(pack: &[u8], input: &[u8], out: &mut [u8]) -> usize
     requires { ⌜ maxOutput ≤ length (now out) ⌝ }
-    ensures { λ r. ⌜ Put (now (out .entry)) 0 (output (now (pack .entry)) (now (input .entry))) r (now (out .exit)) ⌝ }
+    ensures { λ r. ⌜ Put (was out) 0 (output (was pack) (was input)) r (is out) ⌝ }
 {
     if MAX_PACK < pack.len() {
         return put::put_refusal(out, 0, b"pack ", Fault::Size);

@@ -5,11 +5,12 @@ ghost use Prim.Native.Nat.{_+_, _*_, _^_, _≤_, _<_};
 ghost use lib.ListN.{length, take};
 ghost use Rattle.output.specs.Lines.{decimal, spaced, printedIds, printedRefusal};
 ghost use Rattle.output.specs.Put.{Put};
+ghost use Rattle.refusal.specs.Lent.{is, was};
 
 // A number in decimal.
 pub(crate) fn put_number(out: &mut [u8], at: usize, n: u32) -> usize
     requires { ⌜ at + length (decimal n) ≤ length (now out) ⌝ }
-    ensures { λ r. ⌜ Put (now (out .entry)) at (decimal n) r (now (out .exit)) ⌝ }
+    ensures { λ r. ⌜ Put (was out) at (decimal n) r (is out) ⌝ }
 {
     if n < 10 {
         out[at] = 48 + n as u8;
@@ -23,7 +24,7 @@ pub(crate) fn put_number(out: &mut [u8], at: usize, n: u32) -> usize
 // One byte.
 pub(crate) fn put_byte(out: &mut [u8], at: usize, b: u8) -> usize
     requires { ⌜ at < length (now out) ⌝ }
-    ensures { λ r. ⌜ Put (now (out .entry)) at (b ∷ []) r (now (out .exit)) ⌝ }
+    ensures { λ r. ⌜ Put (was out) at (b ∷ []) r (is out) ⌝ }
 {
     out[at] = b;
     at + 1
@@ -32,7 +33,7 @@ pub(crate) fn put_byte(out: &mut [u8], at: usize, b: u8) -> usize
 // The bytes of a text.
 pub(crate) fn put_text(out: &mut [u8], at: usize, text: &[u8]) -> usize
     requires { ⌜ at + length (now text) ≤ length (now out) ⌝ }
-    ensures { λ r. ⌜ Put (now (out .entry)) at (now (text .entry)) r (now (out .exit)) ⌝ }
+    ensures { λ r. ⌜ Put (was out) at (was text) r (is out) ⌝ }
 {
     let mut end = at;
     let mut i: usize = 0;
@@ -46,7 +47,7 @@ pub(crate) fn put_text(out: &mut [u8], at: usize, text: &[u8]) -> usize
 // A number after one space.
 pub(crate) fn put_spaced(out: &mut [u8], at: usize, n: u32) -> usize
     requires { ⌜ at + 11 ≤ length (now out) ⌝ }
-    ensures { λ r. ⌜ Put (now (out .entry)) at (0x20 ∷ decimal n) r (now (out .exit)) × (r ≤ at + 11) ⌝ }
+    ensures { λ r. ⌜ Put (was out) at (0x20 ∷ decimal n) r (is out) × (r ≤ at + 11) ⌝ }
 {
     out[at] = 0x20;
     put_number(out, at + 1, n)
@@ -55,7 +56,7 @@ pub(crate) fn put_spaced(out: &mut [u8], at: usize, n: u32) -> usize
 // The numbers, each after one space. A u32 has at most ten digits.
 pub(crate) fn put_numbers(out: &mut [u8], at: usize, numbers: &[u32]) -> usize
     requires { ⌜ at + 11 * length (now numbers) ≤ length (now out) ⌝ }
-    ensures { λ r. ⌜ Put (now (out .entry)) at (spaced (now (numbers .entry))) r (now (out .exit)) × (r ≤ at + 11 * length (now (numbers .entry))) ⌝ }
+    ensures { λ r. ⌜ Put (was out) at (spaced (was numbers)) r (is out) × (r ≤ at + 11 * length (was numbers)) ⌝ }
 {
     let mut end = at;
     let mut i: usize = 0;
@@ -70,7 +71,7 @@ pub(crate) fn put_numbers(out: &mut [u8], at: usize, numbers: &[u32]) -> usize
 pub(crate) fn put_ids(out: &mut [u8], at: usize, ids: &[u32]) -> usize
     requires { ⌜ at + 11 * length (now ids) + 11 ≤ length (now out) ⌝ }
     requires { ⌜ length (now ids) < 2 ^ 32 ⌝ }
-    ensures { λ r. ⌜ Put (now (out .entry)) at (printedIds (now (ids .entry))) r (now (out .exit)) × (r ≤ at + 11 * length (now (ids .entry)) + 11) ⌝ }
+    ensures { λ r. ⌜ Put (was out) at (printedIds (was ids)) r (is out) × (r ≤ at + 11 * length (was ids) + 11) ⌝ }
 {
     let counted = put_number(out, at, ids.len() as u32);
     let end = put_numbers(out, counted, ids);
@@ -80,7 +81,7 @@ pub(crate) fn put_ids(out: &mut [u8], at: usize, ids: &[u32]) -> usize
 // The line of the first n of some id places.
 pub(crate) fn put_first(out: &mut [u8], at: usize, places: &[u32], n: usize) -> usize
     requires { ⌜ (at + 11 * n + 11 ≤ length (now out)) × (n ≤ length (now places)) × (n < 2 ^ 32) ⌝ }
-    ensures { λ r. ⌜ Put (now (out .entry)) at (printedIds (take n (now (places .entry)))) r (now (out .exit)) × (r ≤ at + 11 * n + 11) ⌝ }
+    ensures { λ r. ⌜ Put (was out) at (printedIds (take n (was places))) r (is out) × (r ≤ at + 11 * n + 11) ⌝ }
 {
     put_ids(out, at, &places[..n])
 }
@@ -88,7 +89,7 @@ pub(crate) fn put_first(out: &mut [u8], at: usize, places: &[u32], n: usize) -> 
 // The line of a refusal, after what was refused. A refusal's number has at most two digits.
 pub(crate) fn put_refusal(out: &mut [u8], at: usize, what: &[u8], f: Fault) -> usize
     requires { ⌜ at + length (now what) + 11 ≤ length (now out) ⌝ }
-    ensures { λ r. ⌜ Put (now (out .entry)) at (printedRefusal (now (what .entry)) f) r (now (out .exit)) × (r ≤ at + length (now (what .entry)) + 11) ⌝ }
+    ensures { λ r. ⌜ Put (was out) at (printedRefusal (was what) f) r (is out) × (r ≤ at + length (was what) + 11) ⌝ }
 {
     let named = put_text(out, at, what);
     let told = put_text(out, named, b"refused");

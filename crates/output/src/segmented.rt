@@ -8,13 +8,14 @@ ghost use mathlib.Core.List.{map, flatMap};
 ghost use Prim.Native.Nat.{_+_, _*_, _≤_};
 ghost use lib.ListN.{length};
 ghost use Rattle.doubles.specs.Units.{units};
-ghost use Rattle.trie.specs.Trie.{partsOf};
+ghost use Rattle.trie.specs.Trie.{partsNow};
 ghost use Rattle.trie.specs.Sound.{soundScored};
-ghost use Rattle.unigram.specs.Work.{modelOf, pieceWith};
+ghost use Rattle.unigram.specs.Work.{model};
 ghost use Rattle.output.specs.Lines.{lines};
 ghost use Rattle.output.specs.Output.{segmentedLine};
 ghost use Rattle.output.specs.Put.{Put};
 ghost use Rattle.output.specs.Lent.{Lent};
+ghost use Rattle.refusal.specs.Lent.{is, was};
 
 // One line, a text: its ids, or its refusal. Either takes at most 11 bytes for each byte of the line, and 11. `tested` is whether the parts are
 // sound. The scratch may hold anything: what a line before it left there has no effect.
@@ -37,14 +38,13 @@ pub(crate) fn put_segmented(
     out: &mut [u8],
     at: usize,
 ) -> usize
-    requires { ⌜ tested ≡ soundScored (partsOf (now «edge_at») (now «edge_n») (now id) (now byte) (now to)) (map units (now score)) (units «unknown_score») ⌝ }
+    requires { ⌜ tested ≡ soundScored (partsNow «edge_at» «edge_n» id byte to) (map units (now score))
+        (units «unknown_score») ⌝ }
     requires { ⌜ Lent (now start) (now «slot_id») (now «slot_score») (now path) (now ids) ⌝ }
     requires { ⌜ at + 11 * length (now line) + 11 ≤ length (now out) ⌝ }
     ensures { λ r.
-        ⌜ Put (now (out .entry)) at
-        (segmentedLine (modelOf (now («edge_at» .entry)) (now («edge_n» .entry)) (now (id .entry)) (now (score .entry)) (now (byte .entry)) (now (to .entry))
-        (pieceWith unknown «unknown_score»)) (now (line .entry)))
-        r (now (out .exit)) × (r ≤ at + 11 * length (now (line .entry)) + 11) ⌝ }
+        ⌜ Put (was out) at (segmentedLine (model «edge_at» «edge_n» id score byte to unknown «unknown_score»)
+        (was line)) r (is out) × (r ≤ at + 11 * length (was line) + 11) ⌝ }
 {
     let answer = unigram::checked::segment_tested(
         tested,
@@ -84,10 +84,8 @@ pub(crate) fn put_segmented_lines(
 ) -> usize
     requires { ⌜ 11 * length (now input) + 11 ≤ length (now out) ⌝ }
     ensures { λ r.
-        ⌜ Put (now (out .entry)) 0
-        (flatMap (segmentedLine (modelOf (now («edge_at» .entry)) (now («edge_n» .entry)) (now (id .entry)) (now (score .entry)) (now (byte .entry))
-        (now (to .entry)) (pieceWith unknown «unknown_score»))) (lines (now (input .entry))))
-        r (now (out .exit)) ⌝ }
+        ⌜ Put (was out) 0 (flatMap (segmentedLine (model «edge_at» «edge_n» id score byte to unknown «unknown_score»))
+        (lines (was input))) r (is out) ⌝ }
 {
     let tested = trie::soundness::sound_scored(edge_at, edge_n, id, score, byte, to, unknown_score);
     let mut start = [0u32; 4096];

@@ -16,10 +16,11 @@ ghost use Rattle.build.specs.Names.{names};
 ghost use Rattle.build.specs.Rules.{tokensOf};
 ghost use Rattle.build.specs.Given.{valueOf, rulesFrom, noRule};
 ghost use Rattle.build.specs.Held.{Roomy, Planted, RowEntered, RowDone};
-ghost use Rattle.build.specs.Memory.{memory};
+ghost use Rattle.build.specs.Memory.{memoryIs, memoryNow, memoryWas};
 ghost use Rattle.build.specs.Core.{RoomFor, BuiltOf};
 ghost use Rattle.pack.specs.Pack.{rowAt, rowsFrom};
 ghost use Rattle.pack.specs.Reading.{rowStart, FineRows, firstOf, valueIn, RowReady};
+ghost use Rattle.refusal.specs.Lent.{is, was};
 
 // Whether a token keeps its first row, not its last.
 fn keeps_first(kind: Kind) -> bool
@@ -56,10 +57,9 @@ fn enter_row(
 ) -> usize
     requires { ⌜ RowReady kind (now bytes) (now strings) (now «edge_n») (now id) (now work) room n i ⌝ }
     ensures { λ r.
-        ⌜ RowEntered (now («edge_n» .entry)) (now (id .entry)) (now (work .entry))
-        (now («edge_n» .exit)) (now (id .exit)) (now (work .exit)) (firstOf kind) room n
-        (tokenOf (now (strings .entry)) (rowAt kind (now (bytes .entry)) (rowStart i)))
-        (valueOf (firstOf kind) i (rowAt kind (now (bytes .entry)) (rowStart i))) r ⌝ }
+        ⌜ RowEntered (was «edge_n») (was id) (was work) (is «edge_n») (is id) (is work) (firstOf kind) room n
+        (tokenOf (was strings) (rowAt kind (was bytes) (rowStart i)))
+        (valueOf (firstOf kind) i (rowAt kind (was bytes) (rowStart i))) r ⌝ }
 {
     let row = row_at(kind, bytes, HEADER + ROW * i);
     let token = text::checked::span(strings, row.off, row.len);
@@ -82,9 +82,8 @@ fn enter_on(
 ) -> usize
     requires { ⌜ FineRows kind (now bytes) (now strings) rows × Planted (now «edge_n») (now id) (now work) room ⌝ }
     ensures { λ r.
-        ⌜ RowDone (names (tokensOf (now (strings .entry)) (rowsFrom kind (now (bytes .entry)) 36 rows)))
-        (rulesFrom (firstOf kind) (now (strings .entry)) noRule 0 (rowsFrom kind (now (bytes .entry)) 36 rows))
-        room (now («edge_n» .exit)) (now (id .exit)) (now (work .exit)) r ⌝ }
+        ⌜ RowDone (names (tokensOf (was strings) (rowsFrom kind (was bytes) 36 rows))) (rulesFrom (firstOf kind) (was strings)
+        noRule 0 (rowsFrom kind (was bytes) 36 rows)) room (is «edge_n») (is id) (is work) r ⌝ }
 {
     let mut n: usize = 1;
     let mut i: usize = 0;
@@ -111,9 +110,8 @@ fn enter_rows(
 ) -> usize
     requires { ⌜ FineRows kind (now bytes) (now strings) rows × Roomy room (now «edge_n») (now id) (now work) ⌝ }
     ensures { λ r.
-        ⌜ RowDone (names (tokensOf (now (strings .entry)) (rowsFrom kind (now (bytes .entry)) 36 rows)))
-        (rulesFrom (firstOf kind) (now (strings .entry)) noRule 0 (rowsFrom kind (now (bytes .entry)) 36 rows))
-        room (now («edge_n» .exit)) (now (id .exit)) (now (work .exit)) r ⌝ }
+        ⌜ RowDone (names (tokensOf (was strings) (rowsFrom kind (was bytes) 36 rows))) (rulesFrom (firstOf kind) (was strings)
+        noRule 0 (rowsFrom kind (was bytes) 36 rows)) room (is «edge_n») (is id) (is work) r ⌝ }
 {
     let n = start(edge_n, id, work, room);
     if room < n {
@@ -136,13 +134,11 @@ pub fn build_rows(
     work: &mut [u32],
     room: usize,
 ) -> Built
-    requires { ⌜ FineRows kind (now bytes) (now strings) rows
-        × RoomFor room (memory (now «edge_at») (now «edge_n») (now id) (now byte) (now to) (now work)) ⌝ }
+    requires { ⌜ FineRows kind (now bytes) (now strings) rows × RoomFor room
+        (memoryNow «edge_at» «edge_n» id byte to work) ⌝ }
     ensures { λ r.
-        ⌜ BuiltOf (firstOf kind) (now (strings .entry)) (rowsFrom kind (now (bytes .entry)) 36 rows) room
-        (memory (now («edge_at» .entry)) (now («edge_n» .entry)) (now (id .entry)) (now (byte .entry)) (now (to .entry)) (now (work .entry)))
-        (memory (now («edge_at» .exit)) (now («edge_n» .exit)) (now (id .exit)) (now (byte .exit)) (now (to .exit)) (now (work .exit)))
-        r ⌝ }
+        ⌜ BuiltOf (firstOf kind) (was strings) (rowsFrom kind (was bytes) 36 rows) room
+        (memoryWas «edge_at» «edge_n» id byte to work) (memoryIs «edge_at» «edge_n» id byte to work) r ⌝ }
 {
     let n = enter_rows(kind, bytes, strings, rows, edge_n, id, work, room);
     finish(edge_at, edge_n, id, byte, to, work, room, n)

@@ -6,14 +6,14 @@ use refusal::Fault;
 use refusal::Reason;
 use rows::Kind;
 ghost use mathlib.Core.Path.{_≡_};
-ghost use mathlib.Core.List.{map};
 ghost use mathlib.Core.Option.{none};
 ghost use Prim.Native.Nat.{_≤_};
 ghost use lib.ListN.{length};
-ghost use Rattle.doubles.specs.Units.{units};
-ghost use Rattle.build.specs.Memory.{memory};
+ghost use Rattle.doubles.specs.Units.{scoresIs, scoresWas};
+ghost use Rattle.build.specs.Memory.{memoryIs, memoryWas};
 ghost use Rattle.pack.specs.Build.{told, toldOf, nodesOf, PackBuilt};
 ghost use Rattle.pack.specs.Reading.{PackFine, ScoresLeft};
+ghost use Rattle.refusal.specs.Lent.{was};
 
 // The score column of a trie of n nodes: a Unigram trie's scores in front, and zeros behind them; a WordPiece trie has none.
 fn fill_scores(
@@ -25,7 +25,8 @@ fn fill_scores(
     node_score: &mut [f64],
 )
     requires { ⌜ PackFine (now bytes) kind h × ((n ≤ length (now «node_id»)) × (n ≤ length (now «node_score»))) ⌝ }
-    ensures { λ _. ⌜ ScoresLeft (now (bytes .entry)) kind (now («node_id» .entry)) n (map units (now («node_score» .entry))) (map units (now («node_score» .exit))) ⌝ }
+    ensures { λ _.
+        ⌜ ScoresLeft (was bytes) kind (was «node_id») n (scoresWas «node_score») (scoresIs «node_score») ⌝ }
 {
     match kind {
         Kind::Unigram => crate::scores::fill(bytes, h.rows as usize, node_id, n, node_score),
@@ -36,7 +37,7 @@ fn fill_scores(
 // What is answered of a trie of n nodes.
 fn summary(kind: Kind, h: Header, bytes: &[u8], n: u32) -> PackAnswer
     requires { ⌜ PackFine (now bytes) kind h ⌝ }
-    ensures { λ r. ⌜ (n ≡ nodesOf kind (now (bytes .entry)) → told r ≡ toldOf kind (now (bytes .entry))) ⌝ }
+    ensures { λ r. ⌜ (n ≡ nodesOf kind (was bytes) → told r ≡ toldOf kind (was bytes)) ⌝ }
 {
     match kind {
         Kind::Unigram => PackAnswer::Unigram {
@@ -69,12 +70,8 @@ pub fn build_fine(
 ) -> PackAnswer
     requires { ⌜ PackFine (now bytes) kind h ⌝ }
     ensures { λ r.
-        ⌜ PackBuilt (now (bytes .entry))
-        (memory (now («edge_at» .entry)) (now («edge_n» .entry)) (now («node_id» .entry)) (now (byte .entry)) (now (to .entry)) (now (work .entry)))
-        (map units (now («node_score» .entry)))
-        r
-        (memory (now («edge_at» .exit)) (now («edge_n» .exit)) (now («node_id» .exit)) (now (byte .exit)) (now (to .exit)) (now (work .exit)))
-        (map units (now («node_score» .exit))) ⌝ }
+        ⌜ PackBuilt (was bytes) (memoryWas «edge_at» «edge_n» «node_id» byte to work) (scoresWas «node_score») r
+        (memoryIs «edge_at» «edge_n» «node_id» byte to work) (scoresIs «node_score») ⌝ }
 {
     let room = scored::fine::room(edge_at, edge_n, node_id, node_score, byte, to, work);
     let start = h.strings_off as usize;

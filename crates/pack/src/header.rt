@@ -8,6 +8,7 @@ ghost use lib.ListN.{length};
 ghost use Rattle.trie.specs.Sound.{every};
 ghost use Rattle.pack.specs.Pack.{word, headerOf, laidOut, kindLaidOut, kindOf};
 ghost use Rattle.pack.specs.Reading.{headerIs, kindIn, rowStart};
+ghost use Rattle.refusal.specs.Lent.{was};
 
 // The header's length and a row's, in bytes.
 pub const HEADER: usize = 36;
@@ -36,7 +37,7 @@ pub enum Layout {
 // The little-endian word at byte `at`.
 pub fn word(bytes: &[u8], at: usize) -> u32
     requires { ⌜ at + 4 ≤ length (now bytes) ⌝ }
-    ensures { λ r. ⌜ r ≡ word (now (bytes .entry)) at ⌝ }
+    ensures { λ r. ⌜ r ≡ word (was bytes) at ⌝ }
 {
     let low = bytes[at] as u32 + 256 * (bytes[at + 1] as u32);
     let high = bytes[at + 2] as u32 + 256 * (bytes[at + 3] as u32);
@@ -46,7 +47,7 @@ pub fn word(bytes: &[u8], at: usize) -> u32
 // The header of a file that is long enough for one.
 pub(crate) fn read_header(bytes: &[u8]) -> Header
     requires { ⌜ 36 ≤ length (now bytes) ⌝ }
-    ensures { λ r. ⌜ headerIs r ≡ headerOf (now (bytes .entry)) ⌝ }
+    ensures { λ r. ⌜ headerIs r ≡ headerOf (was bytes) ⌝ }
 {
     Header {
         kind: word(bytes, 0),
@@ -64,7 +65,7 @@ pub(crate) fn read_header(bytes: &[u8]) -> Header
 // Whether the rows follow the header, the strings follow the rows, and the file ends with the strings. The sums are wider than the words.
 fn is_laid_out(bytes: &[u8], h: Header) -> bool
     requires { ⌜ 36 ≤ length (now bytes) ⌝ }
-    ensures { λ r. ⌜ r ≡ laidOut (now (bytes .entry)) (headerIs h) ⌝ }
+    ensures { λ r. ⌜ r ≡ laidOut (was bytes) (headerIs h) ⌝ }
 {
     let strings = HEADER + ROW * (h.rows as usize);
     if h.rows_off != 36 {
@@ -78,7 +79,8 @@ fn is_laid_out(bytes: &[u8], h: Header) -> bool
 
 // "For kind 1 the last three are 0."
 fn is_bare(h: Header) -> bool
-    ensures { λ r. ⌜ r ≡ (eqb (headerIs h .maxChars) 0 && eqb (headerIs h .prefixOff) 0 && eqb (headerIs h .prefixLen) 0) ⌝ }
+    ensures { λ r.
+        ⌜ r ≡ (eqb (headerIs h .maxChars) 0 && eqb (headerIs h .prefixOff) 0 && eqb (headerIs h .prefixLen) 0) ⌝ }
 {
     if h.max_chars != 0 {
         return false;
@@ -92,7 +94,7 @@ fn is_bare(h: Header) -> bool
 // Whether four zero bytes follow the id of each row.
 fn is_padded(bytes: &[u8], rows: usize) -> bool
     requires { ⌜ rowStart rows ≤ length (now bytes) ⌝ }
-    ensures { λ r. ⌜ r ≡ every rows (λ i. eqb (word (now (bytes .entry)) (36 + 16 * i + 12)) 0) ⌝ }
+    ensures { λ r. ⌜ r ≡ every rows (λ i. eqb (word (was bytes) (36 + 16 * i + 12)) 0) ⌝ }
 {
     let mut i: usize = 0;
     while i < rows {
@@ -107,7 +109,7 @@ fn is_padded(bytes: &[u8], rows: usize) -> bool
 // The kind of a file whose parts stand where they should.
 fn kind_laid_out(bytes: &[u8], h: Header) -> Layout
     requires { ⌜ rowStart (h .rows) ≤ length (now bytes) ⌝ }
-    ensures { λ r. ⌜ kindIn r ≡ kindLaidOut (now (bytes .entry)) (headerIs h) ⌝ }
+    ensures { λ r. ⌜ kindIn r ≡ kindLaidOut (was bytes) (headerIs h) ⌝ }
 {
     if h.kind == 1 {
         if is_bare(h) {
@@ -127,7 +129,7 @@ fn kind_laid_out(bytes: &[u8], h: Header) -> Layout
 // The kind of a file with this header.
 pub(crate) fn layout_of(bytes: &[u8], h: Header) -> Layout
     requires { ⌜ (36 ≤ length (now bytes)) × (headerIs h ≡ headerOf (now bytes)) ⌝ }
-    ensures { λ r. ⌜ kindIn r ≡ kindOf (now (bytes .entry)) ⌝ }
+    ensures { λ r. ⌜ kindIn r ≡ kindOf (was bytes) ⌝ }
 {
     if !is_laid_out(bytes, h) {
         return Layout::Wrong;

@@ -13,6 +13,7 @@ ghost use Rattle.refusal.specs.Sizes.{maxRows, maxTable, maxPrefix, above};
 ghost use Rattle.rows.specs.Answers.{reasonIn};
 ghost use Rattle.pack.specs.Pack.{headerOf, kindOf};
 ghost use Rattle.pack.specs.Reading.{headerIs, faultBefore, FoundIs};
+ghost use Rattle.refusal.specs.Lent.{was};
 
 // The longest prefix, in bytes.
 const MAX_PREFIX: u32 = 64;
@@ -25,7 +26,9 @@ pub enum Found {
 
 // Whether a number of the header is above its limit.
 fn is_large(h: Header) -> bool
-    ensures { λ r. ⌜ r ≡ (above maxRows (headerIs h .rows) || above maxTable (headerIs h .stringsLen) || above maxPrefix (headerIs h .prefixLen)) ⌝ }
+    ensures { λ r.
+        ⌜ r ≡ (above maxRows (headerIs h .rows) || above maxTable (headerIs h .stringsLen) || above maxPrefix
+        (headerIs h .prefixLen)) ⌝ }
 {
     if rows::columns::MAX_ROWS < h.rows as usize {
         return true;
@@ -39,7 +42,7 @@ fn is_large(h: Header) -> bool
 // The sizes, the rows, and then the prefix's span and text.
 fn judge_rows(kind: Kind, bytes: &[u8], h: Header) -> RowsAnswer
     requires { ⌜ (headerIs h ≡ headerOf (now bytes)) × (kindOf (now bytes) ≡ some kind) ⌝ }
-    ensures { λ r. ⌜ reasonIn r ≡ faultBefore kind (now (bytes .entry)) ⌝ }
+    ensures { λ r. ⌜ reasonIn r ≡ faultBefore kind (was bytes) ⌝ }
 {
     if is_large(h) {
         return RowsAnswer::Refused(Reason::Call(Fault::Size));
@@ -58,7 +61,7 @@ fn judge_rows(kind: Kind, bytes: &[u8], h: Header) -> RowsAnswer
 
 // The layout, and then the rest.
 pub fn judge(bytes: &[u8]) -> Found
-    ensures { λ r. ⌜ FoundIs (now (bytes .entry)) r ⌝ }
+    ensures { λ r. ⌜ FoundIs (was bytes) r ⌝ }
 {
     if bytes.len() < crate::header::HEADER {
         return Found::Refused(Reason::Call(Fault::Pack));

@@ -9,10 +9,10 @@ mod judge;
 mod row;
 mod scores;
 
-ghost use mathlib.Core.List.{map};
-ghost use Rattle.doubles.specs.Units.{units};
-ghost use Rattle.build.specs.Memory.{memory};
+ghost use Rattle.doubles.specs.Units.{scoresIs, scoresWas};
+ghost use Rattle.build.specs.Memory.{memoryIs, memoryWas};
 ghost use Rattle.pack.specs.Build.{PackBuilt};
+ghost use Rattle.refusal.specs.Lent.{was};
 
 // What `build` answers: the kind with what `segment` or `encode` is to be given, or why nothing was built.
 // The prefix is the `prefix_len` bytes of the strings from `prefix_off` on.
@@ -46,12 +46,8 @@ pub fn build(
     work: &mut [u32],
 ) -> PackAnswer
     ensures { λ r.
-        ⌜ PackBuilt (now (bytes .entry))
-        (memory (now («edge_at» .entry)) (now («edge_n» .entry)) (now («node_id» .entry)) (now (byte .entry)) (now (to .entry)) (now (work .entry)))
-        (map units (now («node_score» .entry)))
-        r
-        (memory (now («edge_at» .exit)) (now («edge_n» .exit)) (now («node_id» .exit)) (now (byte .exit)) (now (to .exit)) (now (work .exit)))
-        (map units (now («node_score» .exit))) ⌝ }
+        ⌜ PackBuilt (was bytes) (memoryWas «edge_at» «edge_n» «node_id» byte to work) (scoresWas «node_score») r
+        (memoryIs «edge_at» «edge_n» «node_id» byte to work) (scoresIs «node_score») ⌝ }
 {
     let found = judge::judge(bytes);
     match found {

@@ -20,6 +20,7 @@ ghost use Rattle.rows.specs.Rows.{worthIs, rowIs, firstBad};
 ghost use Rattle.rows.specs.Answers.{reasonIn};
 ghost use Rattle.pack.specs.Pack.{worthAt, rowAt, rowsFrom};
 ghost use Rattle.pack.specs.Reading.{doubleAt, ScoreRead, WorthRead, RowRead, rowStart};
+ghost use Rattle.refusal.specs.Lent.{was};
 
 // The pattern of the positive infinity.
 const INFINITE: u64 = 9_218_868_437_227_405_312;
@@ -34,7 +35,7 @@ fn infinity() -> f64
 // fault is the same.
 pub fn score_at(bytes: &[u8], at: usize) -> f64
     requires { ⌜ at + 8 ≤ length (now bytes) ⌝ }
-    ensures { λ r. ⌜ ScoreRead (units r) (doubleAt (now (bytes .entry)) at) ⌝ }
+    ensures { λ r. ⌜ ScoreRead (units r) (doubleAt (was bytes) at) ⌝ }
 {
     let low = word(bytes, at) as u64;
     let high = word(bytes, at + 4) as u64;
@@ -49,7 +50,7 @@ pub fn score_at(bytes: &[u8], at: usize) -> f64
 // The worth at byte `at`: a score or an id.
 fn worth_at(kind: Kind, bytes: &[u8], at: usize) -> Worth
     requires { ⌜ at + 8 ≤ length (now bytes) ⌝ }
-    ensures { λ r. ⌜ WorthRead kind (worthIs r) (worthAt kind (now (bytes .entry)) at) ⌝ }
+    ensures { λ r. ⌜ WorthRead kind (worthIs r) (worthAt kind (was bytes) at) ⌝ }
 {
     match kind {
         Kind::Unigram => Worth::Score(score_at(bytes, at)),
@@ -60,7 +61,7 @@ fn worth_at(kind: Kind, bytes: &[u8], at: usize) -> Worth
 // The row at byte `at`.
 pub fn row_at(kind: Kind, bytes: &[u8], at: usize) -> Row
     requires { ⌜ at + 16 ≤ length (now bytes) ⌝ }
-    ensures { λ r. ⌜ RowRead kind (rowIs r) (rowAt kind (now (bytes .entry)) at) ⌝ }
+    ensures { λ r. ⌜ RowRead kind (rowIs r) (rowAt kind (was bytes) at) ⌝ }
 {
     Row {
         off: word(bytes, at),
@@ -72,7 +73,7 @@ pub fn row_at(kind: Kind, bytes: &[u8], at: usize) -> Row
 // The first bad one of the rows.
 pub fn first_bad(kind: Kind, bytes: &[u8], strings: &[u8], rows: usize) -> RowsAnswer
     requires { ⌜ (rowStart rows ≤ length (now bytes)) × (rows ≤ maxRows) ⌝ }
-    ensures { λ r. ⌜ reasonIn r ≡ firstBad kind (now (strings .entry)) 0 (rowsFrom kind (now (bytes .entry)) 36 rows) ⌝ }
+    ensures { λ r. ⌜ reasonIn r ≡ firstBad kind (was strings) 0 (rowsFrom kind (was bytes) 36 rows) ⌝ }
 {
     let mut i: usize = 0;
     while i < rows {

@@ -2,3 +2,4 @@
 pub mod Sizes
 pub mod Refusal
 pub mod Places
+pub mod Lent

@@ -8,6 +8,7 @@ use lib.Ieee.{Float}
 use lib.ListN.{length, replicate}
 use Rattle.doubles.specs.Units.{units}
 use Rattle.refusal.specs.declared.Fault.{Fault}
+use Rattle.refusal.specs.Lent.{Lent, was}
 use Rattle.refusal.specs.declared.Reason.{Reason}
 use Rattle.rows.specs.declared.RowAnswer.{RowAnswer}
 use Rattle.rows.specs.declared.RowAnswer.the-variants as row-is
@@ -29,9 +30,16 @@ reasonIn (rows-are.Refused r) = some r
 abbrev pub columns : List ℕ → List ℕ → List Bool → List Float → List ℕ → Columns
 columns off len scored score id = record { off = off; len = len; scored = scored; score = map units score; id = id }
 
--- the same where each row has a score for its worth
+-- the same as a contract names the lists
+abbrev pub columnsWas : Lent ℕ → Lent ℕ → Lent Bool → Lent Float → Lent ℕ → Columns
+columnsWas off len scored score id = columns (was off) (was len) (was scored) (was score) (was id)
+
+-- the lent lists where each row has a score for its worth
 abbrev pub scoredColumns : List ℕ → List ℕ → List Float → List ℕ → Columns
 scoredColumns off len score id = columns off len (replicate (length off) true) score id
+
+abbrev pub scoredWas : Lent ℕ → Lent ℕ → Lent Float → Lent ℕ → Columns
+scoredWas off len score id = scoredColumns (was off) (was len) (was score) (was id)
 
 -- the lists have one length
 pub record Level (off len : List ℕ) (scored : List Bool) (score : List Float) (id : List ℕ) : Type 0 where

@@ -11,13 +11,14 @@ ghost use lib.ListN.{length};
 ghost use Rattle.refusal.specs.Sizes.{maxRows};
 ghost use Rattle.rows.specs.Rows.{rowIs, firstBad};
 ghost use Rattle.rows.specs.Columns.{rowAt, rowsOf};
-ghost use Rattle.rows.specs.Answers.{columns, reasonIn, Level};
+ghost use Rattle.rows.specs.Answers.{columns, reasonIn, Level, columnsWas};
+ghost use Rattle.refusal.specs.Lent.{was};
 
 // The row at i, of lists of one length.
 pub fn row_at(off: &[u32], len: &[u32], scored: &[bool], score: &[f64], id: &[u32], i: usize) -> Row
     requires { ⌜ Level (now off) (now len) (now scored) (now score) (now id) ⌝ }
     requires { ⌜ i < length (now off) ⌝ }
-    ensures { λ r. ⌜ rowIs r ≡ rowAt (columns (now (off .entry)) (now (len .entry)) (now (scored .entry)) (now (score .entry)) (now (id .entry))) i ⌝ }
+    ensures { λ r. ⌜ rowIs r ≡ rowAt (columnsWas off len scored score id) i ⌝ }
 {
     if scored[i] {
         return Row {
@@ -45,7 +46,7 @@ pub fn first_bad(
 ) -> RowsAnswer
     requires { ⌜ Level (now off) (now len) (now scored) (now score) (now id) ⌝ }
     requires { ⌜ length (now off) ≤ maxRows ⌝ }
-    ensures { λ r. ⌜ reasonIn r ≡ firstBad kind (now (tab .entry)) 0 (rowsOf (columns (now (off .entry)) (now (len .entry)) (now (scored .entry)) (now (score .entry)) (now (id .entry)))) ⌝ }
+    ensures { λ r. ⌜ reasonIn r ≡ firstBad kind (was tab) 0 (rowsOf (columnsWas off len scored score id)) ⌝ }
 {
     let mut i: usize = 0;
     while i < off.len() {

@@ -5,7 +5,8 @@ use refusal::Fault;
 use refusal::Reason;
 ghost use mathlib.Core.Path.{_≡_};
 ghost use Rattle.rows.specs.Columns.{level, columnsFault};
-ghost use Rattle.rows.specs.Answers.{columns, reasonIn};
+ghost use Rattle.rows.specs.Answers.{reasonIn, columnsWas};
+ghost use Rattle.refusal.specs.Lent.{was};
 
 // The most rows.
 pub const MAX_ROWS: usize = 1_048_576;
@@ -18,7 +19,7 @@ pub enum RowsAnswer {
 
 // Whether the lists have one length.
 fn is_level(off: &[u32], len: &[u32], scored: &[bool], score: &[f64], id: &[u32]) -> bool
-    ensures { λ r. ⌜ r ≡ level (columns (now (off .entry)) (now (len .entry)) (now (scored .entry)) (now (score .entry)) (now (id .entry))) ⌝ }
+    ensures { λ r. ⌜ r ≡ level (columnsWas off len scored score id) ⌝ }
 {
     let n = off.len();
     if len.len() != n {
@@ -43,7 +44,7 @@ pub fn judge(
     score: &[f64],
     id: &[u32],
 ) -> RowsAnswer
-    ensures { λ r. ⌜ reasonIn r ≡ columnsFault kind (now (tab .entry)) (columns (now (off .entry)) (now (len .entry)) (now (scored .entry)) (now (score .entry)) (now (id .entry))) ⌝ }
+    ensures { λ r. ⌜ reasonIn r ≡ columnsFault kind (was tab) (columnsWas off len scored score id) ⌝ }
 {
     if MAX_ROWS < off.len() {
         return RowsAnswer::Refused(Reason::Call(Fault::Size));

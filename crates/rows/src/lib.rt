@@ -9,6 +9,7 @@ ghost use mathlib.Core.Path.{_≡_};
 ghost use Rattle.rows.specs.Rows.{worthIs, rowIs, worthFault, rowFault};
 ghost use Rattle.rows.specs.Answers.{faultIn};
 ghost use Rattle.rows.specs.declared.Kind.the-variants.{Unigram, WordPiece};
+ghost use Rattle.refusal.specs.Lent.{was};
 
 // The longest token, in bytes.
 pub const MAX_TOKEN: u32 = 1_024;
@@ -69,7 +70,7 @@ fn id_fault(worth: Worth) -> RowAnswer
 
 // One row's fault: its span, its length, its text, then its worth.
 pub fn row_fault(kind: Kind, tab: &[u8], row: Row) -> RowAnswer
-    ensures { λ r. ⌜ faultIn r ≡ rowFault kind (now (tab .entry)) (rowIs row) ⌝ }
+    ensures { λ r. ⌜ faultIn r ≡ rowFault kind (was tab) (rowIs row) ⌝ }
 {
     let off = row.off;
     let len = row.len;

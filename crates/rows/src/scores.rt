@@ -1,12 +1,11 @@
 // The unknown score of a row list, from its column of scores.
 ghost use mathlib.Core.Path.{_≡_};
-ghost use mathlib.Core.List.{map};
-ghost use Rattle.doubles.specs.Units.{units};
+ghost use Rattle.doubles.specs.Units.{units, scoresWas};
 ghost use Rattle.rows.specs.Scores.{lowest, unknownScore};
 
 // The lowest of x and the scores.
 fn lowest(x: f64, score: &[f64]) -> f64
-    ensures { λ r. ⌜ units r ≡ lowest (units x) (map units (now (score .entry))) ⌝ }
+    ensures { λ r. ⌜ units r ≡ lowest (units x) (scoresWas score) ⌝ }
 {
     let mut low = x;
     let mut i: usize = 0;
@@ -19,7 +18,7 @@ fn lowest(x: f64, score: &[f64]) -> f64
 
 // The lowest score of all rows minus 10, rounded once; -10 where there are none.
 pub fn unknown_score(score: &[f64]) -> f64
-    ensures { λ r. ⌜ units r ≡ unknownScore (map units (now (score .entry))) ⌝ }
+    ensures { λ r. ⌜ units r ≡ unknownScore (scoresWas score) ⌝ }
 {
     if score.len() == 0 {
         return doubles::minus_ten(0.0);

@@ -5,17 +5,17 @@ use build::Built;
 use refusal::Fault;
 use refusal::Reason;
 ghost use mathlib.Core.Path.{_≡_};
-ghost use mathlib.Core.List.{map};
 ghost use mathlib.Core.Option.{none};
 ghost use Prim.Native.Nat.{min};
 ghost use lib.ListN.{length};
-ghost use Rattle.doubles.specs.Units.{units};
+ghost use Rattle.doubles.specs.Units.{scoresIs, scoresWas};
 ghost use Rattle.rows.specs.declared.Kind.the-variants.{Unigram};
 ghost use Rattle.rows.specs.Columns.{columnsFault};
-ghost use Rattle.rows.specs.Answers.{scoredColumns};
-ghost use Rattle.build.specs.Memory.{memory};
+ghost use Rattle.rows.specs.Answers.{scoredColumns, scoredWas};
+ghost use Rattle.build.specs.Memory.{memoryIs, memoryWas};
 ghost use Rattle.build.specs.Core.{roomOf};
 ghost use Rattle.scored.specs.Build as promise;
+ghost use Rattle.refusal.specs.Lent.{was};
 
 // How many nodes the lent columns have room for, the score column too.
 pub fn room(
@@ -28,8 +28,7 @@ pub fn room(
     work: &[u32],
 ) -> usize
     ensures { λ r.
-        ⌜ r ≡ min (roomOf (memory (now («edge_at» .entry)) (now («edge_n» .entry)) (now («node_id» .entry)) (now (byte .entry)) (now (to .entry))
-        (now (work .entry)))) (length (now («node_score» .entry))) ⌝ }
+        ⌜ r ≡ min (roomOf (memoryWas «edge_at» «edge_n» «node_id» byte to work)) (length (was «node_score»)) ⌝ }
 {
     let room = build::core::room(edge_at, edge_n, node_id, byte, to, work);
     if node_score.len() < room {
@@ -56,12 +55,8 @@ pub fn build_rows(
 ) -> BuildAnswer
     requires { ⌜ columnsFault Unigram (now tab) (scoredColumns (now off) (now len) (now score) (now id)) ≡ none ⌝ }
     ensures { λ r.
-        ⌜ promise.Built (now (tab .entry)) (scoredColumns (now (off .entry)) (now (len .entry)) (now (score .entry)) (now (id .entry)))
-        (memory (now («edge_at» .entry)) (now («edge_n» .entry)) (now («node_id» .entry)) (now (byte .entry)) (now (to .entry)) (now (work .entry)))
-        (map units (now («node_score» .entry)))
-        r
-        (memory (now («edge_at» .exit)) (now («edge_n» .exit)) (now («node_id» .exit)) (now (byte .exit)) (now (to .exit)) (now (work .exit)))
-        (map units (now («node_score» .exit))) ⌝ }
+        ⌜ promise.Built (was tab) (scoredWas off len score id) (memoryWas «edge_at» «edge_n» «node_id» byte to work)
+        (scoresWas «node_score») r (memoryIs «edge_at» «edge_n» «node_id» byte to work) (scoresIs «node_score») ⌝ }
 {
     let room = room(edge_at, edge_n, node_id, node_score, byte, to, work);
     let built = build::core::build(

@@ -6,11 +6,11 @@ use rows::columns::RowsAnswer;
 pub mod fine;
 pub mod scores;
 
-ghost use mathlib.Core.List.{map};
-ghost use Rattle.doubles.specs.Units.{units};
-ghost use Rattle.rows.specs.Answers.{columns};
-ghost use Rattle.build.specs.Memory.{memory};
+ghost use Rattle.doubles.specs.Units.{scoresIs, scoresWas};
+ghost use Rattle.rows.specs.Answers.{columns, columnsWas};
+ghost use Rattle.build.specs.Memory.{memoryIs, memoryWas};
 ghost use Rattle.scored.specs.Build as promise;
+ghost use Rattle.refusal.specs.Lent.{was};
 
 // What an accepted build reports: how many nodes the trie has, and the score of an unknown character.
 pub struct Summary {
@@ -43,12 +43,9 @@ pub fn build(
     work: &mut [u32],
 ) -> BuildAnswer
     ensures { λ r.
-        ⌜ promise.Built (now (tab .entry)) (columns (now (off .entry)) (now (len .entry)) (now (scored .entry)) (now (score .entry)) (now (id .entry)))
-        (memory (now («edge_at» .entry)) (now («edge_n» .entry)) (now («node_id» .entry)) (now (byte .entry)) (now (to .entry)) (now (work .entry)))
-        (map units (now («node_score» .entry)))
-        r
-        (memory (now («edge_at» .exit)) (now («edge_n» .exit)) (now («node_id» .exit)) (now (byte .exit)) (now (to .exit)) (now (work .exit)))
-        (map units (now («node_score» .exit))) ⌝ }
+        ⌜ promise.Built (was tab) (columnsWas off len scored score id)
+        (memoryWas «edge_at» «edge_n» «node_id» byte to work) (scoresWas «node_score») r
+        (memoryIs «edge_at» «edge_n» «node_id» byte to work) (scoresIs «node_score») ⌝ }
 {
     let found = rows::columns::judge(Kind::Unigram, tab, off, len, scored, score, id);
     match found {

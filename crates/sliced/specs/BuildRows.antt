@@ -8,6 +8,7 @@ use lib.Ieee.{Float}
 use lib.ListN.{length}
 use Rattle.doubles.specs.Double.{Double, plusZero}
 use Rattle.doubles.specs.Units.{units}
+use Rattle.refusal.specs.Lent.{Lent, was, is}
 use Rattle.refusal.specs.declared.Fault.the-variants as fault
 use Rattle.refusal.specs.declared.Reason.{Reason}
 use Rattle.refusal.specs.declared.Reason.the-variants as reason
@@ -30,6 +31,13 @@ pub record RowPlaces : Type 0 where
 
 abbrev pub rowPlaces : List ℕ → List ℕ → List Float → RowPlaces
 rowPlaces off len score = record { off = off; len = len; score = map units score }
+
+-- the same as a contract names the columns: as the call found them, and as it left them
+abbrev pub placesWas : Lent ℕ → Lent ℕ → Lent Float → RowPlaces
+placesWas off len score = rowPlaces (was off) (was len) (was score)
+
+abbrev pub placesIs : Lent ℕ → Lent ℕ → Lent Float → RowPlaces
+placesIs off len score = rowPlaces (is off) (is len) (is score)
 
 -- every place zero
 unfoldable pub zeroRows : RowPlaces → RowPlaces

@@ -5,10 +5,11 @@ use scored::BuildAnswer;
 mod slice;
 
 ghost use mathlib.Core.List.{map};
-ghost use Rattle.doubles.specs.Units.{units};
+ghost use Rattle.doubles.specs.Units.{scoresIs, scoresWas};
 ghost use Rattle.rows.specs.Rows.{rowIs};
-ghost use Rattle.build.specs.Memory.{memory};
-ghost use Rattle.sliced.specs.BuildRows.{rowPlaces, RowsBuilt};
+ghost use Rattle.build.specs.Memory.{memoryIs, memoryWas};
+ghost use Rattle.sliced.specs.BuildRows.{RowsBuilt, placesIs, placesWas};
+ghost use Rattle.refusal.specs.Lent.{was};
 
 // As `scored::build`, over a slice of rows, with columns lent that have a place for each row. Too few places in these are refused as other lent
 // places are. They end as work places do: zero after a build and after too few lent places, and as they were after any other refusal.
@@ -27,14 +28,9 @@ pub fn build_rows(
     work: &mut [u32],
 ) -> BuildAnswer
     ensures { λ r.
-        ⌜ RowsBuilt (now (tab .entry)) (map rowIs (now (rows .entry)))
-        (rowPlaces (now (off .entry)) (now (len .entry)) (now (score .entry)))
-        (memory (now («edge_at» .entry)) (now («edge_n» .entry)) (now («node_id» .entry)) (now (byte .entry)) (now (to .entry)) (now (work .entry)))
-        (map units (now («node_score» .entry)))
-        r
-        (rowPlaces (now (off .exit)) (now (len .exit)) (now (score .exit)))
-        (memory (now («edge_at» .exit)) (now («edge_n» .exit)) (now («node_id» .exit)) (now (byte .exit)) (now (to .exit)) (now (work .exit)))
-        (map units (now («node_score» .exit))) ⌝ }
+        ⌜ RowsBuilt (was tab) (map rowIs (was rows)) (placesWas off len score)
+        (memoryWas «edge_at» «edge_n» «node_id» byte to work) (scoresWas «node_score») r (placesIs off len score)
+        (memoryIs «edge_at» «edge_n» «node_id» byte to work) (scoresIs «node_score») ⌝ }
 {
     let found = slice::judge(tab, rows);
     let n = slice::to_copy(found, rows.len(), off.len(), len.len(), score.len());

@@ -15,7 +15,7 @@ ghost use mathlib.Core.List.{[], _∷_, map};
 ghost use mathlib.Core.Option.{none};
 ghost use Prim.Native.Nat.{_<_};
 ghost use lib.ListN.{length, take};
-ghost use Rattle.doubles.specs.Units.{units};
+ghost use Rattle.doubles.specs.Units.{units, scoresIs, scoresWas};
 ghost use Rattle.refusal.specs.declared.Fault.the-variants as fault;
 ghost use Rattle.refusal.specs.declared.Reason.the-variants as reason;
 ghost use Rattle.refusal.specs.Refusal.{refuse};
@@ -25,10 +25,11 @@ ghost use Rattle.rows.specs.declared.Kind.the-variants.{Unigram};
 ghost use Rattle.rows.specs.Columns.{columnsFault};
 ghost use Rattle.rows.specs.Answers.{reasonIn};
 ghost use Rattle.build.specs.Rules.{scoreOf};
-ghost use Rattle.build.specs.Memory.{memory, anyBelow, cleared, zeroScores};
+ghost use Rattle.build.specs.Memory.{anyBelow, cleared, zeroScores, memoryIs, memoryWas};
 ghost use Rattle.scored.specs.Build as promise;
-ghost use Rattle.sliced.specs.BuildRows.{rowPlaces, rowsJudged, zeroRows, shortOf};
+ghost use Rattle.sliced.specs.BuildRows.{rowPlaces, rowsJudged, zeroRows, shortOf, placesIs, placesWas};
 ghost use Rattle.sliced.specs.Copied.{foundAfter, putRow, putRows, Places, toCopy, firstPlaces, Ready, CopiedBuilt};
+ghost use Rattle.refusal.specs.Lent.{was};
 
 // Too many rows or too large a table, before any row is looked at.
 fn sized(count: usize, table: usize) -> RowsAnswer
@@ -46,7 +47,7 @@ fn sized(count: usize, table: usize) -> RowsAnswer
 // What is found once row i is looked at too: what was found before it stands.
 fn judge_row(found: RowsAnswer, tab: &[u8], row: Row, i: usize) -> RowsAnswer
     requires { ⌜ (reasonIn found ≡ none → i < 4_294_967_296) ⌝ }
-    ensures { λ r. ⌜ reasonIn r ≡ foundAfter (reasonIn found) (now (tab .entry)) (rowIs row) i ⌝ }
+    ensures { λ r. ⌜ reasonIn r ≡ foundAfter (reasonIn found) (was tab) (rowIs row) i ⌝ }
 {
     match found {
         RowsAnswer::Refused(r) => RowsAnswer::Refused(r),
@@ -59,7 +60,7 @@ fn judge_row(found: RowsAnswer, tab: &[u8], row: Row, i: usize) -> RowsAnswer
 
 // Whether every row is fine. Refused with 1 for too many rows or too large a table; then the first bad row decides.
 pub(crate) fn judge(tab: &[u8], rows: &[Row]) -> RowsAnswer
-    ensures { λ r. ⌜ reasonIn r ≡ rowsJudged (now (tab .entry)) (map rowIs (now (rows .entry))) ⌝ }
+    ensures { λ r. ⌜ reasonIn r ≡ rowsJudged (was tab) (map rowIs (was rows)) ⌝ }
 {
     let mut found = sized(rows.len(), tab.len());
     let mut i: usize = 0;
@@ -83,7 +84,7 @@ fn score_in(worth: Worth) -> f64
 // Row i goes to place i of the columns.
 fn put_row(off: &mut [u32], len: &mut [u32], score: &mut [f64], i: usize, row: Row)
     requires { ⌜ (i < length (now off)) × (i < length (now len)) × (i < length (now score)) ⌝ }
-    ensures { λ _. ⌜ rowPlaces (now (off .exit)) (now (len .exit)) (now (score .exit)) ≡ putRow (rowPlaces (now (off .entry)) (now (len .entry)) (now (score .entry))) i (rowIs row) ⌝ }
+    ensures { λ _. ⌜ placesIs off len score ≡ putRow (placesWas off len score) i (rowIs row) ⌝ }
 {
     off[i] = row.off;
     len[i] = row.len;
@@ -94,7 +95,7 @@ fn put_row(off: &mut [u32], len: &mut [u32], score: &mut [f64], i: usize, row: R
 // The first n rows go to the first places of the columns.
 pub(crate) fn copy(rows: &[Row], n: usize, off: &mut [u32], len: &mut [u32], score: &mut [f64])
     requires { ⌜ Places n (now rows) (now off) (now len) (now score) ⌝ }
-    ensures { λ _. ⌜ rowPlaces (now (off .exit)) (now (len .exit)) (now (score .exit)) ≡ putRows (rowPlaces (now (off .entry)) (now (len .entry)) (now (score .entry))) 0 (take n (map rowIs (now (rows .entry)))) ⌝ }
+    ensures { λ _. ⌜ placesIs off len score ≡ putRows (placesWas off len score) 0 (take n (map rowIs (was rows))) ⌝ }
 {
     let mut i: usize = 0;
     while i < n {
@@ -128,7 +129,7 @@ pub(crate) fn to_copy(found: RowsAnswer, n: usize, off: usize, len: usize, score
 
 // Every place of the three columns zero.
 fn clear_rows(off: &mut [u32], len: &mut [u32], score: &mut [f64])
-    ensures { λ _. ⌜ rowPlaces (now (off .exit)) (now (len .exit)) (now (score .exit)) ≡ zeroRows (rowPlaces (now (off .entry)) (now (len .entry)) (now (score .entry))) ⌝ }
+    ensures { λ _. ⌜ placesIs off len score ≡ zeroRows (placesWas off len score) ⌝ }
 {
     build::zero::zero32(off);
     build::zero::zero32(len);
@@ -153,12 +154,9 @@ fn build_first(
     requires { ⌜ shortOf n (rowPlaces (now off) (now len) (now score)) ≡ false ⌝ }
     requires { ⌜ columnsFault Unigram (now tab) (firstPlaces n (now off) (now len) (now score)) ≡ none ⌝ }
     ensures { λ r.
-        ⌜ promise.Built (now (tab .entry)) (firstPlaces n (now (off .entry)) (now (len .entry)) (now (score .entry)))
-        (memory (now («edge_at» .entry)) (now («edge_n» .entry)) (now («node_id» .entry)) (now (byte .entry)) (now (to .entry)) (now (work .entry)))
-        (map units (now («node_score» .entry)))
-        r
-        (memory (now («edge_at» .exit)) (now («edge_n» .exit)) (now («node_id» .exit)) (now (byte .exit)) (now (to .exit)) (now (work .exit)))
-        (map units (now («node_score» .exit))) ⌝ }
+        ⌜ promise.Built (was tab) (firstPlaces n (was off) (was len) (was score))
+        (memoryWas «edge_at» «edge_n» «node_id» byte to work) (scoresWas «node_score») r
+        (memoryIs «edge_at» «edge_n» «node_id» byte to work) (scoresIs «node_score») ⌝ }
 {
     let first = &off[..n];
     fine::build_rows(
@@ -191,11 +189,10 @@ fn refuse_short(
     work: &mut [u32],
 ) -> BuildAnswer
     ensures { λ r.
-        ⌜ (r ≡ BuildAnswer.Refused (reason.Call fault.Room))
-        × (rowPlaces (now (off .exit)) (now (len .exit)) (now (score .exit)) ≡ zeroRows (rowPlaces (now (off .entry)) (now (len .entry)) (now (score .entry))))
-        × (memory (now («edge_at» .exit)) (now («edge_n» .exit)) (now («node_id» .exit)) (now (byte .exit)) (now (to .exit)) (now (work .exit))
-        ≡ cleared (memory (now («edge_at» .entry)) (now («edge_n» .entry)) (now («node_id» .entry)) (now (byte .entry)) (now (to .entry)) (now (work .entry))))
-        × (map units (now («node_score» .exit)) ≡ zeroScores (map units (now («node_score» .entry)))) ⌝ }
+        ⌜ (r ≡ BuildAnswer.Refused (reason.Call fault.Room)) ×
+        (placesIs off len score ≡ zeroRows (placesWas off len score)) × (memoryIs «edge_at» «edge_n» «node_id» byte to
+        work ≡ cleared (memoryWas «edge_at» «edge_n» «node_id» byte to work)) ×
+        (scoresIs «node_score» ≡ zeroScores (scoresWas «node_score»)) ⌝ }
 {
     clear_rows(off, len, score);
     build::zero::clear(edge_at, edge_n, node_id, byte, to, work);
@@ -222,14 +219,9 @@ pub(crate) fn build_copied(
 ) -> BuildAnswer
     requires { ⌜ Ready (reasonIn found) n (now tab) (now off) (now len) (now score) ⌝ }
     ensures { λ r.
-        ⌜ CopiedBuilt (reasonIn found) n (now (tab .entry)) (firstPlaces n (now (off .entry)) (now (len .entry)) (now (score .entry)))
-        (rowPlaces (now (off .entry)) (now (len .entry)) (now (score .entry)))
-        (memory (now («edge_at» .entry)) (now («edge_n» .entry)) (now («node_id» .entry)) (now (byte .entry)) (now (to .entry)) (now (work .entry)))
-        (map units (now («node_score» .entry)))
-        r
-        (rowPlaces (now (off .exit)) (now (len .exit)) (now (score .exit)))
-        (memory (now («edge_at» .exit)) (now («edge_n» .exit)) (now («node_id» .exit)) (now (byte .exit)) (now (to .exit)) (now (work .exit)))
-        (map units (now («node_score» .exit))) ⌝ }
+        ⌜ CopiedBuilt (reasonIn found) n (was tab) (firstPlaces n (was off) (was len) (was score)) (placesWas off len score)
+        (memoryWas «edge_at» «edge_n» «node_id» byte to work) (scoresWas «node_score») r (placesIs off len score)
+        (memoryIs «edge_at» «edge_n» «node_id» byte to work) (scoresIs «node_score») ⌝ }
 {
     if let RowsAnswer::Refused(r) = found {
         return BuildAnswer::Refused(r);

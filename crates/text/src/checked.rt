@@ -7,11 +7,12 @@ ghost use Prim.Native.Nat.{_+_, _≤_};
 ghost use lib.ListN.{length};
 ghost use Rattle.text.specs.Text.{wellFormed, characters};
 ghost use Rattle.text.specs.Span.{PartGiven};
+ghost use Rattle.refusal.specs.Lent.{was};
 
 // How many characters the text has, by the lengths that the table by lead byte gives.
 pub fn characters(s: &[u8]) -> usize
     requires { ⌜ wellFormed (now s) ≡ true ⌝ }
-    ensures { λ r. ⌜ r ≡ characters (now (s .entry)) ⌝ }
+    ensures { λ r. ⌜ r ≡ characters (was s) ⌝ }
 {
     let mut n: usize = 0;
     let mut i: usize = 0;

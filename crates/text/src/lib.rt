@@ -8,6 +8,7 @@ pub mod utf8;
 
 ghost use mathlib.Core.Path.{_≡_};
 ghost use Rattle.text.specs.Span.{outside, spanFault, TextAnswered, PartGiven, NothingGiven};
+ghost use Rattle.refusal.specs.Lent.{was};
 
 // The largest string table and the longest text or word, in bytes.
 pub const MAX_TABLE: usize = 16_777_216;
@@ -22,7 +23,7 @@ pub enum SpanAnswer {
 
 // Whether the span of len bytes at off passes the table's end.
 pub fn is_outside(tab: &[u8], off: u32, len: u32) -> bool
-    ensures { λ r. ⌜ r ≡ outside (now (tab .entry)) off len ⌝ }
+    ensures { λ r. ⌜ r ≡ outside (was tab) off len ⌝ }
 {
     tab.len() < off as usize + len as usize
 }
@@ -37,7 +38,7 @@ fn nothing<'a>(tab: &'a [u8]) -> &'a [u8]
 
 // Whether a span is text: the size of the table is tested, then the span's end, then its bytes.
 pub fn text_answer(tab: &[u8], off: u32, len: u32) -> SpanAnswer
-    ensures { λ r. ⌜ TextAnswered (now (tab .entry)) off len r ⌝ }
+    ensures { λ r. ⌜ TextAnswered (was tab) off len r ⌝ }
 {
     if MAX_TABLE < tab.len() {
         return SpanAnswer::Refused(Fault::Size);
@@ -54,7 +55,7 @@ pub fn text_answer(tab: &[u8], off: u32, len: u32) -> SpanAnswer
 
 // An accepted span's own part of the table; the empty part at its start for a refused one.
 pub fn text<'a>(tab: &'a [u8], off: u32, len: u32) -> &'a [u8]
-    ensures { λ r. ⌜ PartGiven (spanFault (now (tab .entry)) off len) (tab .entry) off len r ⌝ }
+    ensures { λ r. ⌜ PartGiven (spanFault (was tab) off len) (tab .entry) off len r ⌝ }
 {
     let answer = text_answer(tab, off, len);
     if let SpanAnswer::Refused(_) = answer {

@@ -6,6 +6,7 @@ ghost use Prim.Native.Nat.{_+_, _≤_, _<_};
 ghost use lib.ListN.{length, drop};
 ghost use Rattle.text.specs.Passing.{Ascii, Follows, Paired, Fits, Fit, Begins, Passed};
 ghost use Rattle.text.specs.Text.{tail, character};
+ghost use Rattle.refusal.specs.Lent.{was};
 
 // 80-BF: the byte continues a character.
 pub(crate) fn is_tail(b: u8) -> bool
@@ -23,7 +24,7 @@ const SHORT: usize = 8;
 // The n bytes at i are all ASCII: those that are add up to n. A u8 counts them.
 fn is_ascii(s: &[u8], i: usize, n: usize) -> bool
     requires { ⌜ (n ≤ 255) × (i + n ≤ length (now s)) ⌝ }
-    ensures { λ r. ⌜ (r ≡ true → Ascii (now (s .entry)) i (i + n)) ⌝ }
+    ensures { λ r. ⌜ (r ≡ true → Ascii (was s) i (i + n)) ⌝ }
 {
     let mut count: u8 = 0;
     let mut k: usize = 0;
@@ -37,7 +38,7 @@ fn is_ascii(s: &[u8], i: usize, n: usize) -> bool
 // The end of the whole blocks of n bytes of ASCII at i.
 fn past_blocks(s: &[u8], i: usize, n: usize) -> usize
     requires { ⌜ (0 < n) × (n ≤ 255) × (i ≤ length (now s)) ⌝ }
-    ensures { λ r. ⌜ Passed (now (s .entry)) i r ⌝ }
+    ensures { λ r. ⌜ Passed (was s) i r ⌝ }
 {
     let mut at = i;
     while n <= s.len() - at {
@@ -52,7 +53,7 @@ fn past_blocks(s: &[u8], i: usize, n: usize) -> usize
 // The same of long blocks and then of short ones.
 pub(crate) fn past_all_blocks(s: &[u8], i: usize) -> usize
     requires { ⌜ i ≤ length (now s) ⌝ }
-    ensures { λ r. ⌜ Passed (now (s .entry)) i r ⌝ }
+    ensures { λ r. ⌜ Passed (was s) i r ⌝ }
 {
     past_blocks(s, past_blocks(s, i, LONG), SHORT)
 }
@@ -60,7 +61,7 @@ pub(crate) fn past_all_blocks(s: &[u8], i: usize) -> usize
 // The end of the run of ASCII at i: byte by byte, and by blocks from an eighth place on, so that a short run costs no block.
 fn past_ascii(s: &[u8], i: usize) -> usize
     requires { ⌜ i ≤ length (now s) ⌝ }
-    ensures { λ r. ⌜ Passed (now (s .entry)) i r ⌝ }
+    ensures { λ r. ⌜ Passed (was s) i r ⌝ }
 {
     let mut at = i;
     while at < s.len() {
@@ -104,7 +105,7 @@ const BLOCK: usize = 32;
 // Each of the BLOCK bytes at i may stand before the next.
 fn is_paired(s: &[u8], i: usize) -> bool
     requires { ⌜ i + 32 < length (now s) ⌝ }
-    ensures { λ r. ⌜ (r ≡ true → Paired (now (s .entry)) i (i + 32)) ⌝ }
+    ensures { λ r. ⌜ (r ≡ true → Paired (was s) i (i + 32)) ⌝ }
 {
     let mut count: u8 = 0;
     let mut k: usize = 0;
@@ -118,7 +119,7 @@ fn is_paired(s: &[u8], i: usize) -> bool
 // The end of the block of such text at i, one further where the block's last byte begins a character; i itself where there is no such block.
 fn past_pair_block(s: &[u8], i: usize) -> usize
     requires { ⌜ i + 32 < length (now s) ⌝ }
-    ensures { λ r. ⌜ Passed (now (s .entry)) i r ⌝ }
+    ensures { λ r. ⌜ Passed (was s) i r ⌝ }
 {
     if is_tail(s[i]) {
         return i;
@@ -136,7 +137,7 @@ fn past_pair_block(s: &[u8], i: usize) -> usize
 // The end of the blocks of such text at i.
 fn past_pairs(s: &[u8], i: usize) -> usize
     requires { ⌜ i ≤ length (now s) ⌝ }
-    ensures { λ r. ⌜ Passed (now (s .entry)) i r ⌝ }
+    ensures { λ r. ⌜ Passed (was s) i r ⌝ }
 {
     let mut at = i;
     while BLOCK < s.len() - at {
@@ -184,7 +185,7 @@ fn fits(a: u8, b: u8, c: u8) -> u8
 // Each of the BLOCK bytes at i may stand before the next two.
 fn is_fit(s: &[u8], i: usize) -> bool
     requires { ⌜ i + 33 < length (now s) ⌝ }
-    ensures { λ r. ⌜ (r ≡ true → Fit (now (s .entry)) i (i + 32)) ⌝ }
+    ensures { λ r. ⌜ (r ≡ true → Fit (was s) i (i + 32)) ⌝ }
 {
     let mut count: u8 = 0;
     let mut k: usize = 0;
@@ -211,7 +212,7 @@ fn begins(a: u8, b: u8) -> bool
 // The end of the block of such text at i, up to two further where the block's last character goes on; i itself where there is no such block.
 fn past_fit_block(s: &[u8], i: usize) -> usize
     requires { ⌜ i + 33 < length (now s) ⌝ }
-    ensures { λ r. ⌜ Passed (now (s .entry)) i r ⌝ }
+    ensures { λ r. ⌜ Passed (was s) i r ⌝ }
 {
     if !begins(s[i], s[i + 1]) {
         return i;
@@ -232,7 +233,7 @@ fn past_fit_block(s: &[u8], i: usize) -> usize
 // The end of the blocks of such text at i.
 fn past_fits(s: &[u8], i: usize) -> usize
     requires { ⌜ i ≤ length (now s) ⌝ }
-    ensures { λ r. ⌜ Passed (now (s .entry)) i r ⌝ }
+    ensures { λ r. ⌜ Passed (was s) i r ⌝ }
 {
     let mut at = i;
     while BLOCK + 1 < s.len() - at {
@@ -248,7 +249,7 @@ fn past_fits(s: &[u8], i: usize) -> usize
 // The two bytes at i are a character: C2-DF and a tail.
 fn is_two(s: &[u8], i: usize) -> bool
     requires { ⌜ i + 2 ≤ length (now s) ⌝ }
-    ensures { λ r. ⌜ (r ≡ true → character (drop i (now (s .entry))) ≡ 2) ⌝ }
+    ensures { λ r. ⌜ (r ≡ true → character (drop i (was s)) ≡ 2) ⌝ }
 {
     let b = s[i];
     if b < 0xC2 {
@@ -264,7 +265,7 @@ fn is_two(s: &[u8], i: usize) -> bool
 // 27, the surrogates from 27 * 2048 = D800 on (ED before A0-BF). One number for both, since a branch on ED is often guessed wrong.
 fn is_three(s: &[u8], i: usize) -> bool
     requires { ⌜ i + 3 ≤ length (now s) ⌝ }
-    ensures { λ r. ⌜ (r ≡ true → character (drop i (now (s .entry))) ≡ 3) ⌝ }
+    ensures { λ r. ⌜ (r ≡ true → character (drop i (was s)) ≡ 3) ⌝ }
 {
     let b = s[i];
     if b / 16 != 14 {
@@ -284,7 +285,7 @@ fn is_three(s: &[u8], i: usize) -> bool
 // The four bytes at i are a character that F0 begins: 90-BF and two tails after it.
 fn is_four(s: &[u8], i: usize) -> bool
     requires { ⌜ i + 4 ≤ length (now s) ⌝ }
-    ensures { λ r. ⌜ (r ≡ true → character (drop i (now (s .entry))) ≡ 4) ⌝ }
+    ensures { λ r. ⌜ (r ≡ true → character (drop i (was s)) ≡ 4) ⌝ }
 {
     if s[i] != 0xF0 {
         return false;
@@ -305,7 +306,7 @@ fn is_four(s: &[u8], i: usize) -> bool
 // The n bytes at i are a character, as tests of its bytes tell. The rare ones, which F1-F4 begin, are left to the table.
 fn is_plain(s: &[u8], i: usize, n: usize) -> bool
     requires { ⌜ (2 ≤ n) × (n ≤ 4) × (i + n ≤ length (now s)) ⌝ }
-    ensures { λ r. ⌜ (r ≡ true → character (drop i (now (s .entry))) ≡ n) ⌝ }
+    ensures { λ r. ⌜ (r ≡ true → character (drop i (was s)) ≡ n) ⌝ }
 {
     if n == 2 {
         return is_two(s, i);
@@ -319,7 +320,7 @@ fn is_plain(s: &[u8], i: usize, n: usize) -> bool
 // The end of the run of such characters of n bytes at i. A call gives n as a number, for which the loop is compiled.
 fn past_same(s: &[u8], i: usize, n: usize) -> usize
     requires { ⌜ (2 ≤ n) × (n ≤ 4) × (i ≤ length (now s)) ⌝ }
-    ensures { λ r. ⌜ Passed (now (s .entry)) i r ⌝ }
+    ensures { λ r. ⌜ Passed (was s) i r ⌝ }
 {
     let mut at = i;
     while n <= s.len() - at {
@@ -334,7 +335,7 @@ fn past_same(s: &[u8], i: usize, n: usize) -> usize
 // The end of the run at i: of ASCII; from a longer character on, of blocks of characters up to its length, and then of those as long as it.
 fn past_run(s: &[u8], i: usize) -> usize
     requires { ⌜ i < length (now s) ⌝ }
-    ensures { λ r. ⌜ Passed (now (s .entry)) i r ⌝ }
+    ensures { λ r. ⌜ Passed (was s) i r ⌝ }
 {
     let b = s[i];
     if b < 0x80 {
@@ -352,7 +353,7 @@ fn past_run(s: &[u8], i: usize) -> usize
 // The end of the runs at i, one after the other. What stands there is for the table to decide.
 pub(crate) fn past_runs(s: &[u8], i: usize) -> usize
     requires { ⌜ i ≤ length (now s) ⌝ }
-    ensures { λ r. ⌜ Passed (now (s .entry)) i r ⌝ }
+    ensures { λ r. ⌜ Passed (was s) i r ⌝ }
 {
     let mut at = i;
     while at < s.len() {

@@ -10,6 +10,7 @@ ghost use lib.ListN.{length, drop};
 ghost use Rattle.text.specs.Lead.{IsLead};
 ghost use Rattle.text.specs.Passing.{Stepped};
 ghost use Rattle.text.specs.Text.{within, tails, character, validUpTo, boundary};
+ghost use Rattle.refusal.specs.Lent.{was};
 
 // The byte is in the range of the second byte that this entry of the lead table has.
 fn is_second(entry: u32, x: u8) -> bool
@@ -22,7 +23,7 @@ fn is_second(entry: u32, x: u8) -> bool
 // The n bytes at i, two at most, continue a character.
 fn are_tails(s: &[u8], i: usize, n: usize) -> bool
     requires { ⌜ (n ≤ 2) × (i + n ≤ length (now s)) ⌝ }
-    ensures { λ r. ⌜ r ≡ tails n (drop i (now (s .entry))) ⌝ }
+    ensures { λ r. ⌜ r ≡ tails n (drop i (was s)) ⌝ }
 {
     if n == 0 {
         return true;
@@ -39,7 +40,7 @@ fn are_tails(s: &[u8], i: usize, n: usize) -> bool
 // How many bytes the well-formed character at i takes; 0 where there is none.
 fn character_at(table: &[u32; 256], s: &[u8], i: usize) -> usize
     requires { ⌜ IsLead (now table) ⌝ }
-    ensures { λ r. ⌜ r ≡ character (drop i (now (s .entry))) ⌝ }
+    ensures { λ r. ⌜ r ≡ character (drop i (was s)) ⌝ }
 {
     if s.len() <= i {
         return 0;
@@ -64,7 +65,7 @@ fn character_at(table: &[u32; 256], s: &[u8], i: usize) -> usize
 // The end of the character at i, which the table finds, and of the runs after it; i itself where no character begins there.
 fn step(table: &[u32; 256], s: &[u8], i: usize) -> usize
     requires { ⌜ IsLead (now table) × (i < length (now s)) ⌝ }
-    ensures { λ r. ⌜ Stepped (now (s .entry)) i r ⌝ }
+    ensures { λ r. ⌜ Stepped (was s) i r ⌝ }
 {
     let n = character_at(table, s, i);
     if n == 0 {
@@ -76,7 +77,7 @@ fn step(table: &[u32; 256], s: &[u8], i: usize) -> usize
 // Where the whole well-formed characters from i on end.
 fn valid_by(table: &[u32; 256], s: &[u8], i: usize) -> usize
     requires { ⌜ IsLead (now table) × (i ≤ length (now s)) ⌝ }
-    ensures { λ r. ⌜ r ≡ i + validUpTo (drop i (now (s .entry))) ⌝ }
+    ensures { λ r. ⌜ r ≡ i + validUpTo (drop i (was s)) ⌝ }
 {
     let mut at = i;
     while at < s.len() {
@@ -92,7 +93,7 @@ fn valid_by(table: &[u32; 256], s: &[u8], i: usize) -> usize
 // The same with the lead table, which is laid out once for the text.
 fn valid_from(s: &[u8], i: usize) -> usize
     requires { ⌜ i ≤ length (now s) ⌝ }
-    ensures { λ r. ⌜ r ≡ i + validUpTo (drop i (now (s .entry))) ⌝ }
+    ensures { λ r. ⌜ r ≡ i + validUpTo (drop i (was s)) ⌝ }
 {
     valid_by(&lead::LEAD, s, i)
 }
@@ -100,7 +101,7 @@ fn valid_from(s: &[u8], i: usize) -> usize
 // The same. A text whose every character the strides pass needs no table.
 fn valid_after(s: &[u8], i: usize) -> usize
     requires { ⌜ i ≤ length (now s) ⌝ }
-    ensures { λ r. ⌜ r ≡ i + validUpTo (drop i (now (s .entry))) ⌝ }
+    ensures { λ r. ⌜ r ≡ i + validUpTo (drop i (was s)) ⌝ }
 {
     let at = past_runs(s, i);
     if at == s.len() {
@@ -112,7 +113,7 @@ fn valid_after(s: &[u8], i: usize) -> usize
 // The length of the longest prefix made of whole well-formed characters. What most texts need, blocks of ASCII, stands by itself: so short, it is
 // compiled into its callers.
 pub fn valid_up_to(s: &[u8]) -> usize
-    ensures { λ r. ⌜ r ≡ validUpTo (now (s .entry)) ⌝ }
+    ensures { λ r. ⌜ r ≡ validUpTo (was s) ⌝ }
 {
     let ascii = past_all_blocks(s, 0);
     if ascii == s.len() {
@@ -123,7 +124,7 @@ pub fn valid_up_to(s: &[u8]) -> usize
 
 // A character begins at i, or the text ends there.
 pub fn is_boundary(s: &[u8], i: usize) -> bool
-    ensures { λ r. ⌜ r ≡ boundary (now (s .entry)) i ⌝ }
+    ensures { λ r. ⌜ r ≡ boundary (was s) i ⌝ }
 {
     if i < s.len() {
         return !is_tail(s[i]);

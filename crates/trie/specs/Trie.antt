@@ -6,7 +6,9 @@ use mathlib.Core.List.{List, [], _∷_}
 use mathlib.Core.Option.{Option, none, some}
 use lib.Dec.{eqb}
 use lib.ListN.{getD}
+use denote.Ref.{RefT, now}
 use Rattle.refusal.specs.Sizes.{noId}
+use Rattle.refusal.specs.Lent.{Lent, was}
 
 -- "Each node has its first edge number, edge count, id": a place of the first three columns for each node, of the last two for each edge.
 -- The score column of a Unigram trie stands beside these.
@@ -20,6 +22,13 @@ pub record Trie : Type 0 where
 -- the parts that lent columns hold, in the columns' order
 abbrev pub partsOf : List ℕ → List ℕ → List ℕ → List ℕ → List ℕ → Trie
 partsOf edgeAt edgeN id byte to = record { edgeAt = edgeAt; edgeN = edgeN; id = id; byte = byte; to = to }
+
+-- the same as a contract names the columns: as the call found them, and in a `requires`
+abbrev pub parts : Lent ℕ → Lent ℕ → Lent ℕ → Lent ℕ → Lent ℕ → Trie
+parts edgeAt edgeN id byte to = partsOf (was edgeAt) (was edgeN) (was id) (was byte) (was to)
+
+abbrev pub partsNow : RefT (List ℕ) → RefT (List ℕ) → RefT (List ℕ) → RefT (List ℕ) → RefT (List ℕ) → Trie
+partsNow edgeAt edgeN id byte to = partsOf (now edgeAt) (now edgeN) (now id) (now byte) (now to)
 
 -- the target of the byte b among the n edges from `at` on
 unfoldable pub seek : List ℕ → List ℕ → ℕ → ℕ → ℕ → Option ℕ

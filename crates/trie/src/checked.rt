@@ -6,9 +6,10 @@ ghost use Prim.Native.Nat.{ℕ, _+_, _≤_, _<_};
 ghost use lib.Dec.{leb};
 ghost use lib.ListN.{length, getD, replicate};
 ghost use Rattle.refusal.specs.Sizes.{noId};
-ghost use Rattle.trie.specs.Trie.{Trie, partsOf, seek, step, walk, idAt, idOf};
+ghost use Rattle.trie.specs.Trie.{Trie, partsOf, seek, step, walk, idAt, idOf, parts, partsNow};
 ghost use Rattle.trie.specs.Sound.{Sound};
 ghost use Rattle.trie.specs.Walks.{Edges, Stands, nextOf, idIn, marked, Leads};
+ghost use Rattle.refusal.specs.Lent.{is, was};
 
 // A position in the trie: the node that the bytes so far lead to.
 pub struct Walk {
@@ -41,7 +42,7 @@ fn passed(part: usize, x: u8, b: u8) -> usize
 // The target of the byte b among the n edges from `at` on, which are three at most.
 fn seek_few(byte: &[u8], to: &[u32], at: usize, n: usize, b: u8) -> Step
     requires { ⌜ (n ≤ 3) × (at + n ≤ length (now byte)) × (at + n ≤ length (now to)) ⌝ }
-    ensures { λ r. ⌜ nextOf r ≡ seek (now (byte .entry)) (now (to .entry)) b at n ⌝ }
+    ensures { λ r. ⌜ nextOf r ≡ seek (was byte) (was to) b at n ⌝ }
 {
     if n == 0 {
         return Step::Stop;
@@ -68,7 +69,7 @@ fn seek_few(byte: &[u8], to: &[u32], at: usize, n: usize, b: u8) -> Step
 // for 256 edges. Its three reads don't wait for each other.
 fn seek(byte: &[u8], to: &[u32], at: usize, n: usize, b: u8) -> Step
     requires { ⌜ Edges (now byte) (now to) at n ⌝ }
-    ensures { λ r. ⌜ nextOf r ≡ seek (now (byte .entry)) (now (to .entry)) b at n ⌝ }
+    ensures { λ r. ⌜ nextOf r ≡ seek (was byte) (was to) b at n ⌝ }
 {
     let mut low = at;
     let mut left = n;
@@ -86,7 +87,7 @@ fn seek(byte: &[u8], to: &[u32], at: usize, n: usize, b: u8) -> Step
 // Where the byte b leads from the root by the table.
 fn first_step(first: &[u32], b: u8) -> Step
     requires { ⌜ length (now first) ≡ 256 ⌝ }
-    ensures { λ r. ⌜ nextOf r ≡ marked (getD (now (first .entry)) b noId) ⌝ }
+    ensures { λ r. ⌜ nextOf r ≡ marked (getD (was first) b noId) ⌝ }
 {
     let x = first[b as usize];
     if x == NO_ID {
@@ -99,7 +100,7 @@ fn first_step(first: &[u32], b: u8) -> Step
 // a search would find the first, and so would the table.
 pub fn fill_first(edge_at: &[u32], edge_n: &[u16], byte: &[u8], to: &[u32], first: &mut [u32])
     requires { ⌜ Stands (now «edge_at») (now «edge_n») (now byte) (now to) 0 × (now first ≡ replicate 256 noId) ⌝ }
-    ensures { λ _. ⌜ Leads (now (byte .entry)) (now (to .entry)) (getD (now («edge_at» .entry)) 0 0) (getD (now («edge_n» .entry)) 0 0) (now (first .exit)) ⌝ }
+    ensures { λ _. ⌜ Leads (was byte) (was to) (getD (was «edge_at») 0 0) (getD (was «edge_n») 0 0) (is first) ⌝ }
 {
     let at = edge_at[0] as usize;
     let mut left = edge_n[0] as usize;
@@ -122,7 +123,9 @@ impl Walk {
     // Where the byte b leads from here, in parts with any ids.
     pub fn step(self, edge_at: &[u32], edge_n: &[u16], byte: &[u8], to: &[u32], b: u8) -> Step
         requires { ⌜ Stands (now «edge_at») (now «edge_n») (now byte) (now to) (self .node) ⌝ }
-        ensures { λ r. ⌜ ((ids : List ℕ) → nextOf r ≡ step (partsOf (now («edge_at» .entry)) (now («edge_n» .entry)) ids (now (byte .entry)) (now (to .entry))) (self .node) b) ⌝ }
+        ensures { λ r.
+            ⌜ ((ids : List ℕ) → nextOf r ≡ step (partsOf (was «edge_at») (was «edge_n») ids (was byte) (was to))
+            (self .node) b) ⌝ }
     {
         let node = self.node as usize;
         let at = edge_at[node] as usize;
@@ -142,7 +145,9 @@ impl Walk {
     ) -> Step
         requires { ⌜ Stands (now «edge_at») (now «edge_n») (now byte) (now to) (self .node) ⌝ }
         requires { ⌜ Leads (now byte) (now to) (getD (now «edge_at») 0 0) (getD (now «edge_n») 0 0) (now first) ⌝ }
-        ensures { λ r. ⌜ ((ids : List ℕ) → nextOf r ≡ step (partsOf (now («edge_at» .entry)) (now («edge_n» .entry)) ids (now (byte .entry)) (now (to .entry))) (self .node) b) ⌝ }
+        ensures { λ r.
+            ⌜ ((ids : List ℕ) → nextOf r ≡ step (partsOf (was «edge_at») (was «edge_n») ids (was byte) (was to))
+            (self .node) b) ⌝ }
     {
         if self.node == 0 {
             return first_step(first, b);
@@ -153,7 +158,9 @@ impl Walk {
     // Where the bytes of s lead from here.
     pub fn over(self, edge_at: &[u32], edge_n: &[u16], byte: &[u8], to: &[u32], s: &[u8]) -> Step
         requires { ⌜ Stands (now «edge_at») (now «edge_n») (now byte) (now to) (self .node) ⌝ }
-        ensures { λ r. ⌜ ((ids : List ℕ) → nextOf r ≡ walk (partsOf (now («edge_at» .entry)) (now («edge_n» .entry)) ids (now (byte .entry)) (now (to .entry))) (self .node) (now (s .entry))) ⌝ }
+        ensures { λ r.
+            ⌜ ((ids : List ℕ) → nextOf r ≡ walk (partsOf (was «edge_at») (was «edge_n») ids (was byte) (was to))
+            (self .node) (was s)) ⌝ }
     {
         let mut node = self.node;
         let mut i: usize = 0;
@@ -176,7 +183,7 @@ impl Walk {
 // The id of the node of a position, in parts with any edges.
 pub fn id_at(id: &[u32], at: Walk) -> NodeId
     requires { ⌜ at .node < length (now id) ⌝ }
-    ensures { λ r. ⌜ ((t : Trie) → t .id ≡ now (id .entry) → idIn r ≡ idAt t (at .node)) ⌝ }
+    ensures { λ r. ⌜ ((t : Trie) → t .id ≡ was id → idIn r ≡ idAt t (at .node)) ⌝ }
 {
     let node = at.node as usize;
     let i = id[node];
@@ -195,8 +202,8 @@ pub fn exact(
     to: &[u32],
     s: &[u8],
 ) -> NodeId
-    requires { ⌜ Sound (partsOf (now «edge_at») (now «edge_n») (now id) (now byte) (now to)) ⌝ }
-    ensures { λ r. ⌜ idIn r ≡ idOf (partsOf (now («edge_at» .entry)) (now («edge_n» .entry)) (now (id .entry)) (now (byte .entry)) (now (to .entry))) (now (s .entry)) ⌝ }
+    requires { ⌜ Sound (partsNow «edge_at» «edge_n» id byte to) ⌝ }
+    ensures { λ r. ⌜ idIn r ≡ idOf (parts «edge_at» «edge_n» id byte to) (was s) ⌝ }
 {
     match Walk::root().over(edge_at, edge_n, byte, to, s) {
         Step::To(end) => id_at(id, end),

@@ -7,13 +7,13 @@ pub mod checked;
 pub mod soundness;
 
 ghost use mathlib.Core.Bool.{true};
-ghost use mathlib.Core.List.{map};
 ghost use Prim.Native.Nat.{_≤_};
 ghost use lib.ListN.{length};
-ghost use Rattle.doubles.specs.Units.{units};
-ghost use Rattle.trie.specs.Trie.{partsOf};
+ghost use Rattle.doubles.specs.Units.{units, scoresWas};
+ghost use Rattle.trie.specs.Trie.{parts, partsNow};
 ghost use Rattle.trie.specs.Sound.{sound, soundScored, Sound};
 ghost use Rattle.trie.specs.Lookup.{LookedUp};
+ghost use Rattle.refusal.specs.Lent.{was};
 
 // What a look-up answers.
 pub enum LookupAnswer {
@@ -31,8 +31,8 @@ fn look_up(
     to: &[u32],
     s: &[u8],
 ) -> LookupAnswer
-    requires { ⌜ Sound (partsOf (now «edge_at») (now «edge_n») (now id) (now byte) (now to)) × (length (now s) ≤ 65536) ⌝ }
-    ensures { λ r. ⌜ LookedUp true (partsOf (now («edge_at» .entry)) (now («edge_n» .entry)) (now (id .entry)) (now (byte .entry)) (now (to .entry))) (now (s .entry)) r ⌝ }
+    requires { ⌜ Sound (partsNow «edge_at» «edge_n» id byte to) × (length (now s) ≤ 65536) ⌝ }
+    ensures { λ r. ⌜ LookedUp true (parts «edge_at» «edge_n» id byte to) (was s) r ⌝ }
 {
     if text::utf8::valid_up_to(s) < s.len() {
         return LookupAnswer::Refused(Fault::Text);
@@ -54,7 +54,9 @@ pub fn exact(
     unknown_score: f64,
     text: &[u8],
 ) -> LookupAnswer
-    ensures { λ r. ⌜ (let t = partsOf (now («edge_at» .entry)) (now («edge_n» .entry)) (now (id .entry)) (now (byte .entry)) (now (to .entry)) in LookedUp (soundScored t (map units (now (score .entry))) (units «unknown_score»)) t (now (text .entry)) r) ⌝ }
+    ensures { λ r.
+        ⌜ (let t = parts «edge_at» «edge_n» id byte to in LookedUp
+        (soundScored t (scoresWas score) (units «unknown_score»)) t (was text) r) ⌝ }
 {
     if MAX_TEXT < text.len() {
         return LookupAnswer::Refused(Fault::Size);
@@ -74,7 +76,7 @@ pub fn exact_unscored(
     to: &[u32],
     text: &[u8],
 ) -> LookupAnswer
-    ensures { λ r. ⌜ (let t = partsOf (now («edge_at» .entry)) (now («edge_n» .entry)) (now (id .entry)) (now (byte .entry)) (now (to .entry)) in LookedUp (sound t) t (now (text .entry)) r) ⌝ }
+    ensures { λ r. ⌜ (let t = parts «edge_at» «edge_n» id byte to in LookedUp (sound t) t (was text) r) ⌝ }
 {
     if MAX_TEXT < text.len() {
         return LookupAnswer::Refused(Fault::Size);

@@ -6,6 +6,7 @@ use mathlib.Core.Option.{none}
 use lib.Ieee.{Float}
 use lib.ListN.{length}
 use Rattle.doubles.specs.Units.{units}
+use Rattle.refusal.specs.Lent.{Lent, was, is}
 use Rattle.text.specs.Text.{characters}
 use Rattle.unigram.specs.Pieces.{Model, idsOf}
 use Rattle.unigram.specs.Slots.{Inside}
@@ -15,6 +16,13 @@ use Rattle.unigram.specs.Segment.{Scratch, segmentLeaves, RecordLaw}
 -- the lent columns
 abbrev pub scratchOf : List ℕ → List ℕ → List Float → List ℕ → List ℕ → Scratch
 scratchOf start id score path ids = record { start = start; id = id; score = map units score; path = path; ids = ids }
+
+-- the same as a contract names the columns: as the call found them, and as it left them
+abbrev pub scratchWas : Lent ℕ → Lent ℕ → Lent Float → Lent ℕ → Lent ℕ → Scratch
+scratchWas start id score path ids = scratchOf (was start) (was id) (was score) (was path) (was ids)
+
+abbrev pub scratchIs : Lent ℕ → Lent ℕ → Lent Float → Lent ℕ → Lent ℕ → Scratch
+scratchIs start id score path ids = scratchOf (is start) (is id) (is score) (is path) (is ids)
 
 -- all that can be refused has been tested; an empty text asks for no slots
 pub record Prepared (m : Model) (s starts slotIds : List ℕ) (scores : List Float) (paths places : List ℕ) : Type 0 where

@@ -7,6 +7,8 @@ use mathlib.Core.Option.{Option, none, some}
 use lib.Dec.{eqb}
 use lib.Ieee.{Float}
 use lib.ListN.{length, getD}
+use denote.Ref.{RefT, now}
+use Rattle.refusal.specs.Lent.{Lent, was, is}
 use Rattle.doubles.specs.Double.{Double, plusZero, less}
 use Rattle.doubles.specs.Units.{units}
 use Rattle.refusal.specs.Sizes.{noId}
@@ -22,6 +24,16 @@ pub record Slots : Type 0 where
 
 abbrev pub slotsOf : List ℕ → List ℕ → List Float → Slots
 slotsOf start id score = record { start = start; id = id; score = map units score }
+
+-- the same as a contract names the columns: as the call found them, as it left them, and in a `requires`
+abbrev pub slotsWas : Lent ℕ → Lent ℕ → Lent Float → Slots
+slotsWas start id score = slotsOf (was start) (was id) (was score)
+
+abbrev pub slotsIs : Lent ℕ → Lent ℕ → Lent Float → Slots
+slotsIs start id score = slotsOf (is start) (is id) (is score)
+
+abbrev pub slotsNow : RefT (List ℕ) → RefT (List ℕ) → RefT (List Float) → Slots
+slotsNow start id score = slotsOf (now start) (now id) (now score)
 
 -- the slot at j
 unfoldable pub slotAt : Slots → ℕ → Slot

@@ -9,6 +9,8 @@ use lib.Ieee.{Float}
 use lib.ListN.{length}
 use Rattle.doubles.specs.Double.{Double}
 use Rattle.doubles.specs.Units.{units}
+use denote.Ref.{RefT, now}
+use Rattle.refusal.specs.Lent.{Lent, was}
 use Rattle.refusal.specs.Sizes.{maxText}
 use Rattle.text.specs.Text.{wellFormed, boundary, next, part}
 use Rattle.trie.specs.Trie.{partsOf}
@@ -24,6 +26,16 @@ modelOf edgeAt edgeN id score byte to unknown = record { trie = partsOf edgeAt e
 
 abbrev pub pieceWith : ℕ → Float → Piece
 pieceWith id score = record { id = id; score = units score }
+
+-- the model with its unknown piece, as a contract names the columns: as the call found them, and in a `requires`
+abbrev pub model : Lent ℕ → Lent ℕ → Lent ℕ → Lent Float → Lent ℕ → Lent ℕ → ℕ → Float → Model
+model edgeAt edgeN id score byte to unknown unknownScore =
+    modelOf (was edgeAt) (was edgeN) (was id) (was score) (was byte) (was to) (pieceWith unknown unknownScore)
+
+abbrev pub modelNow :
+    RefT (List ℕ) → RefT (List ℕ) → RefT (List ℕ) → RefT (List Float) → RefT (List ℕ) → RefT (List ℕ) → ℕ → Float → Model
+modelNow edgeAt edgeN id score byte to unknown unknownScore =
+    modelOf (now edgeAt) (now edgeN) (now id) (now score) (now byte) (now to) (pieceWith unknown unknownScore)
 
 -- every slot but the first n + 1 is as it was, and those are empty
 pub record Cleared (before : Slots) (n : ℕ) (after : Slots) : Type 0 where

@@ -5,11 +5,12 @@ use text::MAX_TEXT;
 ghost use mathlib.Core.Path.{_≡_};
 ghost use mathlib.Core.List.{map};
 ghost use Rattle.doubles.specs.Units.{units};
-ghost use Rattle.trie.specs.Trie.{partsOf};
+ghost use Rattle.trie.specs.Trie.{partsNow};
 ghost use Rattle.trie.specs.Sound.{soundScored};
 ghost use Rattle.unigram.specs.Segment.{Segmented};
-ghost use Rattle.unigram.specs.Work.{modelOf, pieceWith};
-ghost use Rattle.unigram.specs.Core.{scratchOf, Prepared, Cut};
+ghost use Rattle.unigram.specs.Work.{model, modelNow};
+ghost use Rattle.unigram.specs.Core.{Prepared, Cut, scratchIs, scratchWas};
+ghost use Rattle.refusal.specs.Lent.{was};
 
 // Nothing is refused here: the parts are sound, the text is well-formed and within the limit, and there are enough places. The
 // ids of the best cutting go to the first id places, the ends of its pieces to the first path places, the records to the slots;
@@ -30,8 +31,11 @@ pub fn segment(
     path: &mut [u32],
     ids: &mut [u32],
 ) -> usize
-    requires { ⌜ Prepared (modelOf (now «edge_at») (now «edge_n») (now id) (now score) (now byte) (now to) (pieceWith unknown «unknown_score»)) (now text) (now start) (now «slot_id») (now «slot_score») (now path) (now ids) ⌝ }
-    ensures { λ r. ⌜ Cut (modelOf (now («edge_at» .entry)) (now («edge_n» .entry)) (now (id .entry)) (now (score .entry)) (now (byte .entry)) (now (to .entry)) (pieceWith unknown «unknown_score»)) (now (text .entry)) (scratchOf (now (start .entry)) (now («slot_id» .entry)) (now («slot_score» .entry)) (now (path .entry)) (now (ids .entry))) (scratchOf (now (start .exit)) (now («slot_id» .exit)) (now («slot_score» .exit)) (now (path .exit)) (now (ids .exit))) r ⌝ }
+    requires { ⌜ Prepared (modelNow «edge_at» «edge_n» id score byte to unknown «unknown_score») (now text) (now start)
+        (now «slot_id») (now «slot_score») (now path) (now ids) ⌝ }
+    ensures { λ r.
+        ⌜ Cut (model «edge_at» «edge_n» id score byte to unknown «unknown_score») (was text)
+        (scratchWas start «slot_id» «slot_score» path ids) (scratchIs start «slot_id» «slot_score» path ids) r ⌝ }
 {
     if text.len() == 0 {
         return 0;
@@ -83,8 +87,11 @@ pub fn segment_tested(
     path: &mut [u32],
     ids: &mut [u32],
 ) -> SegmentAnswer
-    requires { ⌜ tested ≡ soundScored (partsOf (now «edge_at») (now «edge_n») (now id) (now byte) (now to)) (map units (now score)) (units «unknown_score») ⌝ }
-    ensures { λ r. ⌜ Segmented (modelOf (now («edge_at» .entry)) (now («edge_n» .entry)) (now (id .entry)) (now (score .entry)) (now (byte .entry)) (now (to .entry)) (pieceWith unknown «unknown_score»)) (now (text .entry)) (scratchOf (now (start .entry)) (now («slot_id» .entry)) (now («slot_score» .entry)) (now (path .entry)) (now (ids .entry))) r (scratchOf (now (start .exit)) (now («slot_id» .exit)) (now («slot_score» .exit)) (now (path .exit)) (now (ids .exit))) ⌝ }
+    requires { ⌜ tested ≡ soundScored (partsNow «edge_at» «edge_n» id byte to) (map units (now score))
+        (units «unknown_score») ⌝ }
+    ensures { λ r.
+        ⌜ Segmented (model «edge_at» «edge_n» id score byte to unknown «unknown_score») (was text)
+        (scratchWas start «slot_id» «slot_score» path ids) r (scratchIs start «slot_id» «slot_score» path ids) ⌝ }
 {
     if MAX_TEXT < text.len() {
         return SegmentAnswer::Refused(Fault::Size);

@@ -4,15 +4,15 @@ use trie::checked::NodeId;
 use trie::checked::Step;
 use trie::checked::Walk;
 ghost use mathlib.Core.Path.{_≡_};
-ghost use mathlib.Core.List.{map};
 ghost use Prim.Native.Nat.{_≤_, _<_};
 ghost use lib.ListN.{length, getD};
-ghost use Rattle.doubles.specs.Units.{units};
+ghost use Rattle.doubles.specs.Units.{units, scoresWas};
 ghost use Rattle.trie.specs.Walks.{Leads};
 ghost use Rattle.unigram.specs.Cuttings.{Piece};
 ghost use Rattle.unigram.specs.Pieces.{Model};
-ghost use Rattle.unigram.specs.Slots.{slotsOf, Inside};
-ghost use Rattle.unigram.specs.Work.{modelOf, pieceWith, Ended, Walkable, KnownOffered, Ready, Come, Worked, Recorded};
+ghost use Rattle.unigram.specs.Slots.{Inside, slotsIs, slotsNow, slotsWas};
+ghost use Rattle.unigram.specs.Work.{modelOf, Ended, Walkable, KnownOffered, Ready, Come, Worked, Recorded, model, modelNow};
+ghost use Rattle.refusal.specs.Lent.{was};
 
 // A byte that leads nowhere from the root.
 const NO_NODE: u32 = 4_294_967_295;
@@ -33,8 +33,11 @@ fn end_at(
     slot_id: &mut [u32],
     slot_score: &mut [f64],
 ) -> bool
-    requires { ⌜ (node < length (now id)) × (node < length (now score)) × (at ≤ 65536) × Inside (now start) (now «slot_id») (now «slot_score») i ⌝ }
-    ensures { λ r. ⌜ ((m : Model) → m .trie .id ≡ now (id .entry) → m .score ≡ map units (now (score .entry)) → Ended m (now (text .entry)) node i one single at (units till) (slotsOf (now (start .entry)) (now («slot_id» .entry)) (now («slot_score» .entry))) (slotsOf (now (start .exit)) (now («slot_id» .exit)) (now («slot_score» .exit))) r) ⌝ }
+    requires { ⌜ (node < length (now id)) × (node < length (now score)) × (at ≤ 65536) × Inside (now start)
+        (now «slot_id») (now «slot_score») i ⌝ }
+    ensures { λ r.
+        ⌜ ((m : Model) → m .trie .id ≡ was id → m .score ≡ scoresWas score → Ended m (was text) node i one single at
+        (units till) (slotsWas start «slot_id» «slot_score») (slotsIs start «slot_id» «slot_score») r) ⌝ }
 {
     if !text::utf8::is_boundary(text, i) {
         return single;
@@ -75,8 +78,13 @@ fn offer_known(
     slot_score: &mut [f64],
     first: &[u32],
 ) -> bool
-    requires { ⌜ Walkable (now «edge_at») (now «edge_n») (now id) (now score) (now byte) (now to) (now text) at one × Inside (now start) (now «slot_id») (now «slot_score») (length (now text)) × Leads (now byte) (now to) (getD (now «edge_at») 0 0) (getD (now «edge_n») 0 0) (now first) ⌝ }
-    ensures { λ r. ⌜ ((u : Piece) → KnownOffered (modelOf (now («edge_at» .entry)) (now («edge_n» .entry)) (now (id .entry)) (now (score .entry)) (now (byte .entry)) (now (to .entry)) u) (now (text .entry)) at one (units till) (slotsOf (now (start .entry)) (now («slot_id» .entry)) (now («slot_score» .entry))) (slotsOf (now (start .exit)) (now («slot_id» .exit)) (now («slot_score» .exit))) r) ⌝ }
+    requires { ⌜ Walkable (now «edge_at») (now «edge_n») (now id) (now score) (now byte) (now to) (now text) at one ×
+        Inside (now start) (now «slot_id») (now «slot_score») (length (now text)) × Leads (now byte) (now to)
+        (getD (now «edge_at») 0 0) (getD (now «edge_n») 0 0) (now first) ⌝ }
+    ensures { λ r.
+        ⌜ ((u : Piece) → KnownOffered (modelOf (was «edge_at») (was «edge_n») (was id) (was score) (was byte) (was to)
+        u) (was text) at one (units till) (slotsWas start «slot_id» «slot_score») (slotsIs start «slot_id» «slot_score»)
+        r) ⌝ }
 {
     let mut node: u32 = 0;
     let mut single = false;
@@ -128,8 +136,12 @@ pub(crate) fn work_at(
     slot_score: &mut [f64],
     first: &[u32],
 ) -> usize
-    requires { ⌜ Come (modelOf (now «edge_at») (now «edge_n») (now id) (now score) (now byte) (now to) (pieceWith unknown «unknown_score»)) (now text) at (now start) (now «slot_id») (now «slot_score») (slotsOf (now start) (now «slot_id») (now «slot_score»)) × Leads (now byte) (now to) (getD (now «edge_at») 0 0) (getD (now «edge_n») 0 0) (now first) ⌝ }
-    ensures { λ r. ⌜ Worked (modelOf (now («edge_at» .entry)) (now («edge_n» .entry)) (now (id .entry)) (now (score .entry)) (now (byte .entry)) (now (to .entry)) (pieceWith unknown «unknown_score»)) (now (text .entry)) at (slotsOf (now (start .entry)) (now («slot_id» .entry)) (now («slot_score» .entry))) (slotsOf (now (start .exit)) (now («slot_id» .exit)) (now («slot_score» .exit))) r ⌝ }
+    requires { ⌜ Come (modelNow «edge_at» «edge_n» id score byte to unknown «unknown_score») (now text) at (now start)
+        (now «slot_id») (now «slot_score») (slotsNow start «slot_id» «slot_score») × Leads (now byte) (now to)
+        (getD (now «edge_at») 0 0) (getD (now «edge_n») 0 0) (now first) ⌝ }
+    ensures { λ r.
+        ⌜ Worked (model «edge_at» «edge_n» id score byte to unknown «unknown_score») (was text) at
+        (slotsWas start «slot_id» «slot_score») (slotsIs start «slot_id» «slot_score») r ⌝ }
 {
     let till = slot_score[at];
     let one = at + text::lead::char_len(text[at]);
@@ -175,8 +187,11 @@ pub(crate) fn fill(
     slot_id: &mut [u32],
     slot_score: &mut [f64],
 )
-    requires { ⌜ Ready (modelOf (now «edge_at») (now «edge_n») (now id) (now score) (now byte) (now to) (pieceWith unknown «unknown_score»)) (now text) × Inside (now start) (now «slot_id») (now «slot_score») (length (now text)) ⌝ }
-    ensures { λ _. ⌜ Recorded (modelOf (now («edge_at» .entry)) (now («edge_n» .entry)) (now (id .entry)) (now (score .entry)) (now (byte .entry)) (now (to .entry)) (pieceWith unknown «unknown_score»)) (now (text .entry)) (slotsOf (now (start .entry)) (now («slot_id» .entry)) (now («slot_score» .entry))) (slotsOf (now (start .exit)) (now («slot_id» .exit)) (now («slot_score» .exit))) ⌝ }
+    requires { ⌜ Ready (modelNow «edge_at» «edge_n» id score byte to unknown «unknown_score») (now text) × Inside
+        (now start) (now «slot_id») (now «slot_score») (length (now text)) ⌝ }
+    ensures { λ _.
+        ⌜ Recorded (model «edge_at» «edge_n» id score byte to unknown «unknown_score») (was text)
+        (slotsWas start «slot_id» «slot_score») (slotsIs start «slot_id» «slot_score») ⌝ }
 {
     crate::slots::clear(start, slot_id, slot_score, text.len());
     let mut first = [NO_NODE; 256];

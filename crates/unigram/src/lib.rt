@@ -13,9 +13,10 @@ ghost use mathlib.Core.List.{[], _∷_};
 ghost use Prim.Native.Nat.{_+_};
 ghost use lib.Dec.{ltb};
 ghost use Rattle.build.specs.Memory.{anyBelow};
-ghost use Rattle.unigram.specs.Work.{modelOf, pieceWith, Ready};
+ghost use Rattle.unigram.specs.Work.{Ready, model, modelNow};
 ghost use Rattle.unigram.specs.Segment.{Segmented};
-ghost use Rattle.unigram.specs.Core.{scratchOf};
+ghost use Rattle.unigram.specs.Core.{scratchIs, scratchWas};
+ghost use Rattle.refusal.specs.Lent.{was};
 
 // What `segment` answers: how many ids it wrote, or why it wrote nothing.
 pub enum SegmentAnswer {
@@ -32,7 +33,9 @@ fn short_scratch(
     slot_scores: usize,
     places: usize,
 ) -> bool
-    ensures { λ r. ⌜ r ≡ (ltb 0 bytes && (anyBelow (bytes + 1) (starts ∷ «slot_ids» ∷ «slot_scores» ∷ []) || ltb places characters)) ⌝ }
+    ensures { λ r.
+        ⌜ r ≡ (ltb 0 bytes && (anyBelow (bytes + 1) (starts ∷ «slot_ids» ∷ «slot_scores» ∷ []) || ltb places
+        characters)) ⌝ }
 {
     if bytes == 0 {
         return false;
@@ -66,8 +69,10 @@ fn cut(
     path: &mut [u32],
     ids: &mut [u32],
 ) -> SegmentAnswer
-    requires { ⌜ Ready (modelOf (now «edge_at») (now «edge_n») (now id) (now score) (now byte) (now to) (pieceWith unknown «unknown_score»)) (now text) ⌝ }
-    ensures { λ r. ⌜ Segmented (modelOf (now («edge_at» .entry)) (now («edge_n» .entry)) (now (id .entry)) (now (score .entry)) (now (byte .entry)) (now (to .entry)) (pieceWith unknown «unknown_score»)) (now (text .entry)) (scratchOf (now (start .entry)) (now («slot_id» .entry)) (now («slot_score» .entry)) (now (path .entry)) (now (ids .entry))) r (scratchOf (now (start .exit)) (now («slot_id» .exit)) (now («slot_score» .exit)) (now (path .exit)) (now (ids .exit))) ⌝ }
+    requires { ⌜ Ready (modelNow «edge_at» «edge_n» id score byte to unknown «unknown_score») (now text) ⌝ }
+    ensures { λ r.
+        ⌜ Segmented (model «edge_at» «edge_n» id score byte to unknown «unknown_score») (was text)
+        (scratchWas start «slot_id» «slot_score» path ids) r (scratchIs start «slot_id» «slot_score» path ids) ⌝ }
 {
     let characters = text::checked::characters(text);
     if short_scratch(
@@ -119,7 +124,9 @@ pub fn segment(
     path: &mut [u32],
     ids: &mut [u32],
 ) -> SegmentAnswer
-    ensures { λ r. ⌜ Segmented (modelOf (now («edge_at» .entry)) (now («edge_n» .entry)) (now (id .entry)) (now (score .entry)) (now (byte .entry)) (now (to .entry)) (pieceWith unknown «unknown_score»)) (now (text .entry)) (scratchOf (now (start .entry)) (now («slot_id» .entry)) (now («slot_score» .entry)) (now (path .entry)) (now (ids .entry))) r (scratchOf (now (start .exit)) (now («slot_id» .exit)) (now («slot_score» .exit)) (now (path .exit)) (now (ids .exit))) ⌝ }
+    ensures { λ r.
+        ⌜ Segmented (model «edge_at» «edge_n» id score byte to unknown «unknown_score») (was text)
+        (scratchWas start «slot_id» «slot_score» path ids) r (scratchIs start «slot_id» «slot_score» path ids) ⌝ }
 {
     let found = trie::soundness::sound_scored(edge_at, edge_n, id, score, byte, to, unknown_score);
     checked::segment_tested(

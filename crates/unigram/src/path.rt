@@ -3,11 +3,12 @@ ghost use mathlib.Core.Path.{_≡_};
 ghost use Prim.Native.Nat.{_≤_};
 ghost use lib.ListN.{length};
 ghost use Rattle.unigram.specs.Tracing.{endsFrom, Falling, Traced};
+ghost use Rattle.refusal.specs.Lent.{is, was};
 
 // How many pieces there are before n.
 fn count(start: &[u32], n: usize) -> usize
     requires { ⌜ Falling (now start) n ⌝ }
-    ensures { λ r. ⌜ r ≡ length (endsFrom (now (start .entry)) n n) ⌝ }
+    ensures { λ r. ⌜ r ≡ length (endsFrom (was start) n n) ⌝ }
 {
     let mut pieces: usize = 0;
     let mut at = n;
@@ -21,7 +22,7 @@ fn count(start: &[u32], n: usize) -> usize
 // Writes the ends of these pieces from the last to the first.
 fn write(start: &[u32], n: usize, pieces: usize, path: &mut [u32])
     requires { ⌜ Falling (now start) n × (pieces ≡ length (endsFrom (now start) n n)) × (pieces ≤ length (now path)) ⌝ }
-    ensures { λ _. ⌜ Traced (now (start .entry)) n (now (path .entry)) (now (path .exit)) ⌝ }
+    ensures { λ _. ⌜ Traced (was start) n (was path) (is path) ⌝ }
 {
     let mut done: usize = 0;
     let mut at = n;
@@ -36,7 +37,7 @@ fn write(start: &[u32], n: usize, pieces: usize, path: &mut [u32])
 // The ends of the pieces before n go to the first path places. Answers how many there are.
 pub(crate) fn trace(start: &[u32], n: usize, path: &mut [u32]) -> usize
     requires { ⌜ Falling (now start) n × (length (endsFrom (now start) n n) ≤ length (now path)) ⌝ }
-    ensures { λ r. ⌜ Traced (now (start .entry)) n (now (path .entry)) (now (path .exit)) × (r ≡ length (endsFrom (now (start .entry)) n n)) ⌝ }
+    ensures { λ r. ⌜ Traced (was start) n (was path) (is path) × (r ≡ length (endsFrom (was start) n n)) ⌝ }
 {
     let pieces = count(start, n);
     write(start, n, pieces, path);

@@ -6,9 +6,10 @@ ghost use mathlib.Core.Bool.{cond};
 ghost use Prim.Native.Nat.{_+_, _<_};
 ghost use lib.Dec.{eqb};
 ghost use lib.ListN.{length};
-ghost use Rattle.trie.specs.Trie.{partsOf};
+ghost use Rattle.trie.specs.Trie.{parts, partsNow};
 ghost use Rattle.unigram.specs.Runs.{runId};
 ghost use Rattle.unigram.specs.Merge.{partId, waiting, runIds, closing, Placed, Run, Mergeable, Merged};
+ghost use Rattle.refusal.specs.Lent.{is, was};
 
 // The id of the run's bytes, the second look-up; the unknown id if they have none.
 fn run_id(
@@ -22,8 +23,8 @@ fn run_id(
     run: usize,
     at: usize,
 ) -> u32
-    requires { ⌜ Run (partsOf (now «edge_at») (now «edge_n») (now id) (now byte) (now to)) (now text) run at ⌝ }
-    ensures { λ r. ⌜ r ≡ runId (partId (partsOf (now («edge_at» .entry)) (now («edge_n» .entry)) (now (id .entry)) (now (byte .entry)) (now (to .entry))) (now (text .entry))) unknown run at ⌝ }
+    requires { ⌜ Run (partsNow «edge_at» «edge_n» id byte to) (now text) run at ⌝ }
+    ensures { λ r. ⌜ r ≡ runId (partId (parts «edge_at» «edge_n» id byte to) (was text)) unknown run at ⌝ }
 {
     match trie::checked::exact(edge_at, edge_n, id, byte, to, &text[run..at]) {
         NodeId::Is(i) => i,
@@ -45,8 +46,11 @@ fn close_run(
     n: usize,
     ids: &mut [u32],
 ) -> usize
-    requires { ⌜ Run (partsOf (now «edge_at») (now «edge_n») (now id) (now byte) (now to)) (now text) run at × ((run < at) → n < length (now ids)) ⌝ }
-    ensures { λ r. ⌜ Placed (runIds (partId (partsOf (now («edge_at» .entry)) (now («edge_n» .entry)) (now (id .entry)) (now (byte .entry)) (now (to .entry))) (now (text .entry))) unknown run at) (now (ids .entry)) n (now (ids .exit)) r ⌝ }
+    requires { ⌜ Run (partsNow «edge_at» «edge_n» id byte to) (now text) run at × ((run < at) → n < length (now ids))
+        ⌝ }
+    ensures { λ r.
+        ⌜ Placed (runIds (partId (parts «edge_at» «edge_n» id byte to) (was text)) unknown run at) (was ids) n (is ids) r
+        ⌝ }
 {
     if at <= run {
         return n;
@@ -70,8 +74,11 @@ fn stand(
     n: usize,
     ids: &mut [u32],
 ) -> usize
-    requires { ⌜ Run (partsOf (now «edge_at») (now «edge_n») (now id) (now byte) (now to)) (now text) run at × (n + waiting run at < length (now ids)) ⌝ }
-    ensures { λ r. ⌜ Placed (closing (partId (partsOf (now («edge_at» .entry)) (now («edge_n» .entry)) (now (id .entry)) (now (byte .entry)) (now (to .entry))) (now (text .entry))) unknown run at x) (now (ids .entry)) n (now (ids .exit)) r ⌝ }
+    requires { ⌜ Run (partsNow «edge_at» «edge_n» id byte to) (now text) run at × (n + waiting run at < length (now ids))
+        ⌝ }
+    ensures { λ r.
+        ⌜ Placed (closing (partId (parts «edge_at» «edge_n» id byte to) (was text)) unknown run at x) (was ids) n (is ids)
+        r ⌝ }
 {
     if x == unknown {
         return n;
@@ -116,8 +123,10 @@ pub(crate) fn merge(
     path: &[u32],
     ids: &mut [u32],
 ) -> usize
-    requires { ⌜ Mergeable (partsOf (now «edge_at») (now «edge_n») (now id) (now byte) (now to)) (now text) (now «slot_id») (now path) (now ids) ⌝ }
-    ensures { λ r. ⌜ Merged (partsOf (now («edge_at» .entry)) (now («edge_n» .entry)) (now (id .entry)) (now (byte .entry)) (now (to .entry))) unknown (now (text .entry)) (now («slot_id» .entry)) (now (path .entry)) (now (ids .entry)) (now (ids .exit)) r ⌝ }
+    requires { ⌜ Mergeable (partsNow «edge_at» «edge_n» id byte to) (now text) (now «slot_id») (now path) (now ids) ⌝ }
+    ensures { λ r.
+        ⌜ Merged (parts «edge_at» «edge_n» id byte to) unknown (was text) (was «slot_id») (was path) (was ids) (is ids)
+        r ⌝ }
 {
     let mut n: usize = 0;
     let mut run: usize = 0;

@@ -1,7 +1,7 @@
 // A slot by value, read from and written to the three lent columns. A slot is empty where its start is the mark.
 ghost use mathlib.Core.Path.{_≡_};
 ghost use Rattle.unigram.specs.Cuttings.{Slot};
-ghost use Rattle.unigram.specs.Slots.{slotsOf, slotAt, held, Inside, PutAt, taken};
+ghost use Rattle.unigram.specs.Slots.{slotAt, held, Inside, PutAt, taken, slotsIs, slotsWas};
 ghost use Rattle.unigram.specs.Work.{Cleared};
 
 // "empty (start and id 4,294,967,295, score 0)"
@@ -17,7 +17,7 @@ pub struct Slot {
 // The slot at j.
 pub(crate) fn slot_at(start: &[u32], slot_id: &[u32], slot_score: &[f64], j: usize) -> Slot
     requires { ⌜ Inside (now start) (now «slot_id») (now «slot_score») j ⌝ }
-    ensures { λ r. ⌜ held r ≡ slotAt (slotsOf (now (start .entry)) (now («slot_id» .entry)) (now («slot_score» .entry))) j ⌝ }
+    ensures { λ r. ⌜ held r ≡ slotAt (slotsWas start «slot_id» «slot_score») j ⌝ }
 {
     Slot {
         start: start[j],
@@ -29,7 +29,8 @@ pub(crate) fn slot_at(start: &[u32], slot_id: &[u32], slot_score: &[f64], j: usi
 // Writes the slot at j.
 pub(crate) fn put(start: &mut [u32], slot_id: &mut [u32], slot_score: &mut [f64], j: usize, q: Slot)
     requires { ⌜ Inside (now start) (now «slot_id») (now «slot_score») j ⌝ }
-    ensures { λ _. ⌜ PutAt (slotsOf (now (start .entry)) (now («slot_id» .entry)) (now («slot_score» .entry))) j (held q) (slotsOf (now (start .exit)) (now («slot_id» .exit)) (now («slot_score» .exit))) ⌝ }
+    ensures { λ _.
+        ⌜ PutAt (slotsWas start «slot_id» «slot_score») j (held q) (slotsIs start «slot_id» «slot_score») ⌝ }
 {
     start[j] = q.start;
     slot_id[j] = q.id;
@@ -45,7 +46,9 @@ pub(crate) fn offer(
     q: Slot,
 )
     requires { ⌜ Inside (now start) (now «slot_id») (now «slot_score») j ⌝ }
-    ensures { λ _. ⌜ (let before = slotsOf (now (start .entry)) (now («slot_id» .entry)) (now («slot_score» .entry)) in PutAt before j (taken (slotAt before j) (held q)) (slotsOf (now (start .exit)) (now («slot_id» .exit)) (now («slot_score» .exit)))) ⌝ }
+    ensures { λ _.
+        ⌜ (let before = slotsWas start «slot_id» «slot_score» in PutAt before j (taken (slotAt before j) (held q))
+        (slotsIs start «slot_id» «slot_score»)) ⌝ }
 {
     let standing = slot_at(start, slot_id, slot_score, j);
     if standing.start == EMPTY {
@@ -60,7 +63,7 @@ pub(crate) fn offer(
 // Empties the slots up to n: what they held before has no effect.
 pub(crate) fn clear(start: &mut [u32], slot_id: &mut [u32], slot_score: &mut [f64], n: usize)
     requires { ⌜ Inside (now start) (now «slot_id») (now «slot_score») n ⌝ }
-    ensures { λ _. ⌜ Cleared (slotsOf (now (start .entry)) (now («slot_id» .entry)) (now («slot_score» .entry))) n (slotsOf (now (start .exit)) (now («slot_id» .exit)) (now («slot_score» .exit))) ⌝ }
+    ensures { λ _. ⌜ Cleared (slotsWas start «slot_id» «slot_score») n (slotsIs start «slot_id» «slot_score») ⌝ }
 {
     let mut j: usize = 0;
     while j <= n {

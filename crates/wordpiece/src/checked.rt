@@ -14,11 +14,12 @@ ghost use lib.ListN.{length, getD, take, set};
 ghost use lib.Seq.{sets};
 ghost use Rattle.refusal.specs.Places.{overlay};
 ghost use Rattle.text.specs.Text.{wellFormed, boundary, characters};
-ghost use Rattle.trie.specs.Trie.{Trie, partsOf, idAt};
+ghost use Rattle.trie.specs.Trie.{Trie, idAt, parts, partsNow};
 ghost use Rattle.trie.specs.Sound.{sound, Sound};
 ghost use Rattle.wordpiece.specs.Pieces.{longestTo, piecesOf, orUnknown, idsOf};
 ghost use Rattle.wordpiece.specs.Encode.{Encoded};
 ghost use Rattle.wordpiece.specs.Checked.{foundIn, foundIf, foundSince, endAt, restFrom, Walked, Fitting, Held, First, Ready};
+ghost use Rattle.refusal.specs.Lent.{is, was};
 
 // A piece that was found: where it ends, and its id.
 pub struct Piece {
@@ -44,7 +45,9 @@ const HELD: usize = 32;
 // Whether a piece ends at byte j, where the walk has come to: j is a boundary, and the walk's node has an id.
 fn ends_here(id: &[u32], w: &[u8], at: Walk, j: usize) -> bool
     requires { ⌜ at .node < length (now id) ⌝ }
-    ensures { λ r. ⌜ ((t : Trie) → t .id ≡ now (id .entry) → endAt (boundary (now (w .entry)) j) j (idAt t (at .node)) ≡ foundIf r j (getD (now (id .entry)) (at .node) 0)) ⌝ }
+    ensures { λ r.
+        ⌜ ((t : Trie) → t .id ≡ was id → endAt (boundary (was w) j) j (idAt t (at .node)) ≡ foundIf r j
+        (getD (was id) (at .node) 0)) ⌝ }
 {
     if !text::utf8::is_boundary(w, j) {
         return false;
@@ -77,10 +80,11 @@ pub(crate) fn longest(
     w: &[u8],
     i: usize,
 ) -> Match
-    requires { ⌜ Sound (partsOf (now «edge_at») (now «edge_n») (now id) (now byte) (now to)) ⌝ }
+    requires { ⌜ Sound (partsNow «edge_at» «edge_n» id byte to) ⌝ }
     requires { ⌜ from .node < length (now «edge_at») ⌝ }
     requires { ⌜ i ≤ length (now w) ⌝ }
-    ensures { λ r. ⌜ foundIn r ≡ longestTo (partsOf (now («edge_at» .entry)) (now («edge_n» .entry)) (now (id .entry)) (now (byte .entry)) (now (to .entry))) (from .node) (now (w .entry)) i (length (now (w .entry))) ⌝ }
+    ensures { λ r.
+        ⌜ foundIn r ≡ longestTo (parts «edge_at» «edge_n» id byte to) (from .node) (was w) i (length (was w)) ⌝ }
 {
     let mut node = from.node;
     let mut j = i;
@@ -104,7 +108,7 @@ pub(crate) fn longest(
 
 // x in place n, where there is such a place.
 fn hold(held: &mut [u32], n: usize, x: u32)
-    ensures { λ r. ⌜ now (held .exit) ≡ set (now (held .entry)) n x ⌝ }
+    ensures { λ r. ⌜ is held ≡ set (was held) n x ⌝ }
 {
     if n < held.len() {
         held[n] = x;
@@ -123,10 +127,11 @@ fn count_rest(
     i: usize,
     held: &mut [u32],
 ) -> Count
-    requires { ⌜ Sound (partsOf (now «edge_at») (now «edge_n») (now id) (now byte) (now to)) ⌝ }
+    requires { ⌜ Sound (partsNow «edge_at» «edge_n» id byte to) ⌝ }
     requires { ⌜ rest .node < length (now «edge_at») ⌝ }
     requires { ⌜ i ≤ length (now w) ⌝ }
-    ensures { λ r. ⌜ Walked (restFrom (partsOf (now («edge_at» .entry)) (now («edge_n» .entry)) (now (id .entry)) (now (byte .entry)) (now (to .entry))) (rest .node) (now (w .entry)) i) (now (held .entry)) r (now (held .exit)) ⌝ }
+    ensures { λ r.
+        ⌜ Walked (restFrom (parts «edge_at» «edge_n» id byte to) (rest .node) (was w) i) (was held) r (is held) ⌝ }
 {
     let mut at = i;
     let mut n: usize = 0;
@@ -153,10 +158,12 @@ fn write_rest(
     i: usize,
     ids: &mut [u32],
 ) -> usize
-    requires { ⌜ Sound (partsOf (now «edge_at») (now «edge_n») (now id) (now byte) (now to)) ⌝ }
+    requires { ⌜ Sound (partsNow «edge_at» «edge_n» id byte to) ⌝ }
     requires { ⌜ rest .node < length (now «edge_at») ⌝ }
-    requires { ⌜ Fitting (partsOf (now «edge_at») (now «edge_n») (now id) (now byte) (now to)) (rest .node) (now w) i (now ids) ⌝ }
-    ensures { λ r. ⌜ ((xs : List ℕ) → restFrom (partsOf (now («edge_at» .entry)) (now («edge_n» .entry)) (now (id .entry)) (now (byte .entry)) (now (to .entry))) (rest .node) (now (w .entry)) i ≡ some xs → (r ≡ 1 + length xs) × (now (ids .exit) ≡ sets (now (ids .entry)) 1 xs)) ⌝ }
+    requires { ⌜ Fitting (partsNow «edge_at» «edge_n» id byte to) (rest .node) (now w) i (now ids) ⌝ }
+    ensures { λ r.
+        ⌜ ((xs : List ℕ) → restFrom (parts «edge_at» «edge_n» id byte to) (rest .node) (was w) i ≡ some xs →
+        (r ≡ 1 + length xs) × (is ids ≡ sets (was ids) 1 xs)) ⌝ }
 {
     let mut at = i;
     let mut n: usize = 1;
@@ -174,7 +181,7 @@ fn write_rest(
 // Whether w has more than `limit` characters. A text of no more bytes than that has not.
 fn too_long(w: &[u8], limit: u32) -> bool
     requires { ⌜ wellFormed (now w) ≡ true ⌝ }
-    ensures { λ r. ⌜ r ≡ ltb limit (characters (now (w .entry))) ⌝ }
+    ensures { λ r. ⌜ r ≡ ltb limit (characters (was w)) ⌝ }
 {
     let most = limit as usize;
     if w.len() <= most {
@@ -186,7 +193,7 @@ fn too_long(w: &[u8], limit: u32) -> bool
 // One id in the first place.
 fn put(ids: &mut [u32], x: u32) -> usize
     requires { ⌜ 1 ≤ length (now ids) ⌝ }
-    ensures { λ r. ⌜ (r ≡ 1) × (now (ids .exit) ≡ overlay (x ∷ []) (now (ids .entry))) ⌝ }
+    ensures { λ r. ⌜ (r ≡ 1) × (is ids ≡ overlay (x ∷ []) (was ids)) ⌝ }
 {
     ids[0] = x;
     1
@@ -196,7 +203,7 @@ fn put(ids: &mut [u32], x: u32) -> usize
 fn put_held(held: &[u32], n: usize, ids: &mut [u32]) -> usize
     requires { ⌜ n ≤ length (now held) ⌝ }
     requires { ⌜ n < length (now ids) ⌝ }
-    ensures { λ r. ⌜ (r ≡ 1 + n) × (now (ids .exit) ≡ sets (now (ids .entry)) 1 (take n (now (held .entry)))) ⌝ }
+    ensures { λ r. ⌜ (r ≡ 1 + n) × (is ids ≡ sets (was ids) 1 (take n (was held))) ⌝ }
 {
     let mut k: usize = 0;
     while k < n {
@@ -221,11 +228,14 @@ fn put_all(
     n: usize,
     ids: &mut [u32],
 ) -> usize
-    requires { ⌜ Sound (partsOf (now «edge_at») (now «edge_n») (now id) (now byte) (now to)) ⌝ }
+    requires { ⌜ Sound (partsNow «edge_at» «edge_n» id byte to) ⌝ }
     requires { ⌜ rest .node < length (now «edge_at») ⌝ }
-    requires { ⌜ Fitting (partsOf (now «edge_at») (now «edge_n») (now id) (now byte) (now to)) (rest .node) (now w) (first .end) (now ids) ⌝ }
-    requires { ⌜ ((xs : List ℕ) → restFrom (partsOf (now «edge_at») (now «edge_n») (now id) (now byte) (now to)) (rest .node) (now w) (first .end) ≡ some xs → Held xs (now held) n) ⌝ }
-    ensures { λ r. ⌜ ((xs : List ℕ) → restFrom (partsOf (now («edge_at» .entry)) (now («edge_n» .entry)) (now (id .entry)) (now (byte .entry)) (now (to .entry))) (rest .node) (now (w .entry)) (first .end) ≡ some xs → (r ≡ 1 + length xs) × (now (ids .exit) ≡ overlay (first .id ∷ xs) (now (ids .entry)))) ⌝ }
+    requires { ⌜ Fitting (partsNow «edge_at» «edge_n» id byte to) (rest .node) (now w) (first .end) (now ids) ⌝ }
+    requires { ⌜ ((xs : List ℕ) → restFrom (partsNow «edge_at» «edge_n» id byte to) (rest .node) (now w) (first .end)
+        ≡ some xs → Held xs (now held) n) ⌝ }
+    ensures { λ r.
+        ⌜ ((xs : List ℕ) → restFrom (parts «edge_at» «edge_n» id byte to) (rest .node) (was w) (first .end) ≡ some
+        xs → (r ≡ 1 + length xs) × (is ids ≡ overlay (first .id ∷ xs) (was ids))) ⌝ }
 {
     let end = first.end;
     ids[0] = first.id;
@@ -249,9 +259,11 @@ fn encode_rest(
     first: Piece,
     ids: &mut [u32],
 ) -> usize
-    requires { ⌜ Ready (partsOf (now «edge_at») (now «edge_n») (now id) (now byte) (now to)) (now w) (now ids) ⌝ }
-    requires { ⌜ First (partsOf (now «edge_at») (now «edge_n») (now id) (now byte) (now to)) (now w) (first .end) (first .id) ⌝ }
-    ensures { λ r. ⌜ (let all = orUnknown unknown (piecesOf (partsOf (now («edge_at» .entry)) (now («edge_n» .entry)) (now (id .entry)) (now (byte .entry)) (now (to .entry))) (now (prefix .entry)) (now (w .entry))) in (r ≡ length all) × (now (ids .exit) ≡ overlay all (now (ids .entry)))) ⌝ }
+    requires { ⌜ Ready (partsNow «edge_at» «edge_n» id byte to) (now w) (now ids) ⌝ }
+    requires { ⌜ First (partsNow «edge_at» «edge_n» id byte to) (now w) (first .end) (first .id) ⌝ }
+    ensures { λ r.
+        ⌜ (let all = orUnknown unknown (piecesOf (parts «edge_at» «edge_n» id byte to) (was prefix) (was w)) in
+        (r ≡ length all) × (is ids ≡ overlay all (was ids))) ⌝ }
 {
     let Step::To(rest) = Walk::root().over(edge_at, edge_n, byte, to, prefix) else {
         return put(ids, unknown);
@@ -277,8 +289,10 @@ pub fn encode(
     w: &[u8],
     ids: &mut [u32],
 ) -> usize
-    requires { ⌜ Ready (partsOf (now «edge_at») (now «edge_n») (now id) (now byte) (now to)) (now w) (now ids) ⌝ }
-    ensures { λ r. ⌜ (let all = idsOf (partsOf (now («edge_at» .entry)) (now («edge_n» .entry)) (now (id .entry)) (now (byte .entry)) (now (to .entry))) unknown «max_chars» (now (prefix .entry)) (now (w .entry)) in (r ≡ length all) × (now (ids .exit) ≡ overlay all (now (ids .entry)))) ⌝ }
+    requires { ⌜ Ready (partsNow «edge_at» «edge_n» id byte to) (now w) (now ids) ⌝ }
+    ensures { λ r.
+        ⌜ (let all = idsOf (parts «edge_at» «edge_n» id byte to) unknown «max_chars» (was prefix) (was w) in
+        (r ≡ length all) × (is ids ≡ overlay all (was ids))) ⌝ }
 {
     if w.len() == 0 {
         return 0;
@@ -321,8 +335,10 @@ pub fn encode_tested(
     word: &[u8],
     ids: &mut [u32],
 ) -> EncodeAnswer
-    requires { ⌜ tested ≡ sound (partsOf (now «edge_at») (now «edge_n») (now id) (now byte) (now to)) ⌝ }
-    ensures { λ r. ⌜ Encoded (partsOf (now («edge_at» .entry)) (now («edge_n» .entry)) (now (id .entry)) (now (byte .entry)) (now (to .entry))) unknown «max_chars» (now (prefix .entry)) (now (word .entry)) (now (ids .entry)) r (now (ids .exit)) ⌝ }
+    requires { ⌜ tested ≡ sound (partsNow «edge_at» «edge_n» id byte to) ⌝ }
+    ensures { λ r.
+        ⌜ Encoded (parts «edge_at» «edge_n» id byte to) unknown «max_chars» (was prefix) (was word) (was ids) r (is ids)
+        ⌝ }
 {
     let judged = crate::judge(tested, prefix, word, ids.len());
     match judged {

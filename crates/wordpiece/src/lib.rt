@@ -12,13 +12,14 @@ ghost use mathlib.Core.Path.{_≡_};
 ghost use mathlib.Core.List.{List};
 ghost use Prim.Native.Nat.{ℕ};
 ghost use lib.ListN.{length};
-ghost use Rattle.trie.specs.Trie.{Trie, partsOf};
+ghost use Rattle.trie.specs.Trie.{Trie, parts};
 ghost use Rattle.trie.specs.Sound.{sound};
-ghost use Rattle.rows.specs.Answers.{columns};
-ghost use Rattle.build.specs.Memory.{memory};
+ghost use Rattle.rows.specs.Answers.{columns, columnsWas};
+ghost use Rattle.build.specs.Memory.{memoryIs, memoryWas};
 ghost use Rattle.wordpiece.specs.Build as promise;
 ghost use Rattle.wordpiece.specs.Encode.{encodeFault, Encoded};
 ghost use Rattle.wordpiece.specs.Checked.{faultIn};
+ghost use Rattle.refusal.specs.Lent.{is, was};
 
 // The longest prefix, in bytes.
 const MAX_PREFIX: usize = 64;
@@ -47,10 +48,9 @@ pub fn from_rows(
     work: &mut [u32],
 ) -> BuildAnswer
     ensures { λ r.
-        ⌜ promise.Built (now (tab .entry)) (columns (now (off .entry)) (now (len .entry)) (now (scored .entry)) (now (score .entry)) (now (id .entry)))
-        (memory (now («edge_at» .entry)) (now («edge_n» .entry)) (now («node_id» .entry)) (now (byte .entry)) (now (to .entry)) (now (work .entry)))
-        r
-        (memory (now («edge_at» .exit)) (now («edge_n» .exit)) (now («node_id» .exit)) (now (byte .exit)) (now (to .exit)) (now (work .exit))) ⌝ }
+        ⌜ promise.Built (was tab) (columnsWas off len scored score id)
+        (memoryWas «edge_at» «edge_n» «node_id» byte to work) r (memoryIs «edge_at» «edge_n» «node_id» byte to work)
+        ⌝ }
 {
     let found = rows::columns::judge(Kind::WordPiece, tab, off, len, scored, score, id);
     if let RowsAnswer::Refused(r) = found {
@@ -92,7 +92,9 @@ pub enum Judged {
 // The first fault of a call of `encode` in parts that are sound or not, lent this many id places: the sizes, the parts, the word, the prefix, the
 // places.
 fn judge(tested: bool, prefix: &[u8], word: &[u8], places: usize) -> Judged
-    ensures { λ r. ⌜ ((t : Trie) (ids : List ℕ) → sound t ≡ tested → length ids ≡ places → faultIn r ≡ encodeFault t (now (prefix .entry)) (now (word .entry)) ids) ⌝ }
+    ensures { λ r.
+        ⌜ ((t : Trie) (ids : List ℕ) → sound t ≡ tested → length ids ≡ places → faultIn r ≡ encodeFault t
+        (was prefix) (was word) ids) ⌝ }
 {
     if MAX_TEXT < word.len() {
         return Judged::Bad(Fault::Size);
@@ -129,7 +131,9 @@ pub fn encode(
     word: &[u8],
     ids: &mut [u32],
 ) -> EncodeAnswer
-    ensures { λ r. ⌜ Encoded (partsOf (now («edge_at» .entry)) (now («edge_n» .entry)) (now (id .entry)) (now (byte .entry)) (now (to .entry))) unknown «max_chars» (now (prefix .entry)) (now (word .entry)) (now (ids .entry)) r (now (ids .exit)) ⌝ }
+    ensures { λ r.
+        ⌜ Encoded (parts «edge_at» «edge_n» id byte to) unknown «max_chars» (was prefix) (was word) (was ids) r (is ids)
+        ⌝ }
 {
     let found = trie::soundness::sound(edge_at, edge_n, id, byte, to);
     checked::encode_tested(
