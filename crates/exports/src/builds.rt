@@ -3,7 +3,7 @@
 use refusal::Reason;
 ghost use mathlib.Core.Path.{_≡_};
 ghost use Rattle.doubles.specs.Units.{units, scoresIs, scoresWas};
-ghost use Rattle.rows.specs.Answers.{columns, columnsWas};
+ghost use Rattle.rows.specs.Answers.{columnsWas};
 ghost use Rattle.build.specs.Memory.{memoryIs, memoryWas};
 ghost use Rattle.exports.specs.Flat.{reasonNumber, fromRowsNumber, FromRowsAs, toldNumber, toldScore, withFirst, BuiltAs};
 ghost use Rattle.scored.specs.Build.{told};

@@ -11,7 +11,7 @@ ghost use lib.ListN.{length};
 ghost use Rattle.refusal.specs.Sizes.{maxRows};
 ghost use Rattle.rows.specs.Rows.{rowIs, firstBad};
 ghost use Rattle.rows.specs.Columns.{rowAt, rowsOf};
-ghost use Rattle.rows.specs.Answers.{columns, reasonIn, Level, columnsWas};
+ghost use Rattle.rows.specs.Answers.{reasonIn, Level, columnsWas};
 ghost use Rattle.refusal.specs.Lent.{was};
 
 // The row at i, of lists of one length.

@@ -7,7 +7,7 @@ pub mod fine;
 pub mod scores;
 
 ghost use Rattle.doubles.specs.Units.{scoresIs, scoresWas};
-ghost use Rattle.rows.specs.Answers.{columns, columnsWas};
+ghost use Rattle.rows.specs.Answers.{columnsWas};
 ghost use Rattle.build.specs.Memory.{memoryIs, memoryWas};
 ghost use Rattle.scored.specs.Build as promise;
 ghost use Rattle.refusal.specs.Lent.{was};

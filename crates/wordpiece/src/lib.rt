@@ -14,7 +14,7 @@ ghost use Prim.Native.Nat.{ℕ};
 ghost use lib.ListN.{length};
 ghost use Rattle.trie.specs.Trie.{Trie, parts};
 ghost use Rattle.trie.specs.Sound.{sound};
-ghost use Rattle.rows.specs.Answers.{columns, columnsWas};
+ghost use Rattle.rows.specs.Answers.{columnsWas};
 ghost use Rattle.build.specs.Memory.{memoryIs, memoryWas};
 ghost use Rattle.wordpiece.specs.Build as promise;
 ghost use Rattle.wordpiece.specs.Encode.{encodeFault, Encoded};
