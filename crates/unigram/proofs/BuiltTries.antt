@@ -48,11 +48,11 @@ use Rattle.scored.specs.declared.Summary.{Summary}
 use Rattle.scored.specs.declared.BuildAnswer.the-variants as answer-is
 use Rattle.unigram.specs.declared.SegmentAnswer.the-variants as segment-is
 use Rattle.scored.specs.Build.{built, told, buildFault, toldFor, Built}
-use Rattle.unigram.specs.Cuttings.{Piece}
+use Rattle.cutting.specs.Cuttings.{Piece}
 use Rattle.unigram.specs.Work.{pieceWith}
 use Rattle.unigram.specs.Pieces.{Model, pieceAt, known}
 use Rattle.unigram.specs.Segment.{Scratch, segmentFault, Segmented}
-use Rattle.scored.proofs.Lists.{below-or}
+use Rattle.cutting.proofs.Lists.{below-or}
 use Rattle.unigram.proofs.Determinacy.{refused-exactly}
 use Rattle.scored.proofs.Builds.{nodes-small, scores-are}
 

@@ -17,10 +17,10 @@ use Rattle.text.proofs.Boundaries.{boundary-le, boundary-zero, next-above, next
 use Rattle.trie.specs.Trie.{Trie, walk, idAt}
 use Rattle.trie.specs.Sound.{Sound, SoundScored}
 use Rattle.trie.proofs.Walking.{walk-inside}
-use Rattle.unigram.specs.Cuttings.{Piece}
+use Rattle.cutting.specs.Cuttings.{Piece}
 use Rattle.unigram.specs.Pieces.{Model, pieceAt, known, pieceHere, pieceOf}
-use Rattle.scored.proofs.Lists.{below-or}
-use Rattle.unigram.proofs.Working.{Pieces, no-piece, looked, true-false}
+use Rattle.cutting.proofs.Lists.{below-or}
+use Rattle.cutting.proofs.Working.{Pieces, no-piece, looked, true-false}
 
 -- ---- taking the rule apart
 

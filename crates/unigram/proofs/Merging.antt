@@ -7,7 +7,7 @@ use Prim.Native.Nat.{ℕ, _+_, _≤_}
 use native.Mathlib.Omega.{arith}
 use lib.Dec.{eqb}
 use lib.ListN.{length}
-use Rattle.unigram.specs.Cuttings.{Step}
+use Rattle.cutting.specs.Cuttings.{Step}
 use Rattle.unigram.specs.Runs.{runId, merged}
 
 module _ (idOf : ℕ → ℕ → Option ℕ) (unknown : ℕ) where

@@ -3,31 +3,31 @@
 -- so the slots hold the records of one start more. Assumes nothing.
 use mathlib.Core.Path.{_≡_, refl, sym, ap, subst, _∙_}
 use mathlib.Core.Bool.{Bool, true, false, _&&_, _||_, cond}
-use mathlib.Core.List.{List, [], _∷_, _++_, map}
+use mathlib.Core.List.{List, [], _∷_, _++_}
 use mathlib.Core.Logic.{_⊎_, inl, inr, ⊎-elim}
 use mathlib.Core.Option.{Option, none, some, bind}
-use Prim.Native.Nat.{ℕ, zero, suc, _+_, _-_, _≤_, _<_}
+use Prim.Native.Nat.{ℕ, suc, _+_, _-_, _≤_, _<_}
 use native.Mathlib.Omega.{arith}
-use borrow.Author.Tests.{eq-eqb, ne-eqb, eqb-true, eqb-false, lt-ltb, le-ltb, lt-leb, le-leb}
-use lib.Dec.{T, eqb, ltb, leb}
+use borrow.Author.Tests.{eq-eqb, ne-eqb, lt-ltb, le-ltb, lt-leb, le-leb}
+use lib.Dec.{eqb, ltb, leb}
 use lib.ListN.{length, getD, take, drop, length-drop}
-use lib.Seq.{take-suc, getD-drop, take-add, drop-drop, drop-cons}
-use Rattle.doubles.specs.Double.{Double, plusZero, sum}
-use Rattle.refusal.specs.Sizes.{noId, maxText}
+use lib.Seq.{take-suc, getD-drop, take-add}
+use Rattle.doubles.specs.Double.{Double, plusZero}
 use Rattle.text.specs.Text.{wellFormed, boundary, next, part}
-use Rattle.text.proofs.Boundaries.{boundary-le, next-above, next-inside, next-boundary, next-first}
-use Rattle.trie.specs.Trie.{Trie, step, walk, idAt}
+use Rattle.text.proofs.Boundaries.{boundary-le, next-above, next-boundary, next-first}
+use Rattle.trie.specs.Trie.{step, walk, idAt}
 use Rattle.trie.proofs.Walking.{walk-snoc, walk-append-none, walk-nil}
-use Rattle.unigram.specs.Cuttings.{Piece, Slot, Best}
-use Rattle.unigram.specs.Records.{scoreOf, offered, candidate, best, shown}
+use Rattle.cutting.specs.Cuttings.{Piece, Slot}
+use Rattle.cutting.specs.Records.{candidate}
 use Rattle.unigram.specs.Pieces.{Model, pieceAt, known, pieceHere, pieceOf}
-use Rattle.unigram.specs.Slots.{Slots, slotAt, PutAt, taken, afterOffer}
-use Rattle.unigram.specs.Work.{Cleared, isSome, endsHere, Ended, knownTo, KnownOffered, Holds, Ready, Worked, Recorded}
-use Rattle.scored.proofs.Lists.{below-or}
-use Rattle.unigram.proofs.Working.{Pieces, no-piece, true-false, looked, worked, passed, none-before, jumped, settled-le}
-use Rattle.unigram.proofs.Best.{Standing, status, filled, is-best, score-of}
+use Rattle.cutting.specs.Slots.{Slots, slotAt, PutAt, taken, afterOffer}
+use Rattle.cutting.specs.Law.{Holds}
+use Rattle.unigram.specs.Work.{isSome, endsHere, Ended, knownTo, KnownOffered, Ready, Worked}
+use Rattle.cutting.proofs.Lists.{below-or}
+use Rattle.cutting.proofs.Working.{true-false, absent}
+use Rattle.cutting.proofs.Holding.{AllOffered, best-held, offered-past, holds-more, holds-jumped}
 use Rattle.unigram.proofs.Given.{given, piece-between, between}
-use Rattle.unigram.proofs.Columns.{put-as, put-back, taken-empty, taken-weighed, Filled, filled-of, filled-more, filled-below, filled-above}
+use Rattle.cutting.proofs.Columns.{put-as, put-back, Filled, filled-of, filled-more, filled-below, filled-above}
 
 -- ---- the piece that a node ends
 
@@ -272,9 +272,6 @@ module _ (m : Model) (s : List ℕ) (at : ℕ) (on : boundary s at ≡ true) whe
   pub piece-known : (k : ℕ) → (k ≡ next s at → ⊥) → pieceOf m s at k ≡ knownTo m s at k
   piece-known k other = by-tests (boundary s k) refl (below-or at k)
     where
-      absent-piece : ((p : Piece) → pieceOf m s at k ≡ some p → ⊥) → pieceOf m s at k ≡ none
-      absent-piece no-such = ⊎-elim (λ (e : pieceOf m s at k ≡ none). e) (λ (w : (p : Piece) × (pieceOf m s at k ≡ some p)). absurd (no-such (w .0) (w .1))) (looked (pieceOf m s at k))
-
       by-tests : (t : Bool) → boundary s k ≡ t → (at < k) ⊎ (k ≤ at) → pieceOf m s at k ≡ knownTo m s at k
       by-tests true e (inl l) =
           piece-between m s at k l on e
@@ -282,8 +279,8 @@ module _ (m : Model) (s : List ℕ) (at : ℕ) (on : boundary s at ≡ true) whe
           ∙ here-other (known m (part s at k)) (m .unknown)
           ∙ sym (known-on m s at k l e)
       by-tests true e (inr l) =
-          absent-piece (λ p q. let h : at < k = between m s at k p q .forward in omega arith) ∙ sym (known-back m s at k l)
-      by-tests false e w = absent-piece (λ p q. true-false (between m s at k p q .to) e) ∙ sym (known-off m s at k e)
+          absent (pieceOf m s) at k (λ p q. let h : at < k = between m s at k p q .forward in omega arith) ∙ sym (known-back m s at k l)
+      by-tests false e w = absent (pieceOf m s) at k (λ p q. true-false (between m s at k p q .to) e) ∙ sym (known-off m s at k e)
 
   module _ (well : wellFormed s ≡ true) (below : at < length s) where
     one-char : pieceOf m s at (next s at) ≡ pieceHere (knownTo m s at (next s at)) true (m .unknown)
@@ -294,16 +291,12 @@ module _ (m : Model) (s : List ℕ) (at : ℕ) (on : boundary s at ≡ true) whe
         ∙ ap (λ (t : Bool). pieceHere (known m (part s at (next s at))) t (m .unknown)) (eq-eqb (next s at) (next s at) refl)
         ∙ ap (λ (o : Option Piece). pieceHere o true (m .unknown)) (sym (known-on m s at (next s at) l e))
 
-    -- each piece from `at` has been offered
-    pub record AllOffered (x : Double) (before after : Slots) : Type 0 where
-      pub slots : (k : ℕ) → slotAt after k ≡ afterOffer (pieceOf m s at k) x at (slotAt before k)
-
     module _ {x : Double} {before after : Slots} {r : Bool} (o : KnownOffered m s at (next s at) x before after r) where
       at-next : (k : ℕ) → (k ≡ next s at) ⊎ (k ≡ next s at → ⊥)
       at-next k = ⊎-elim (λ (l : k < next s at). inr (λ e. omega arith)) (λ (l : next s at ≤ k). ⊎-elim (λ (h : next s at < k). inr (λ e. omega arith)) (λ (h : k ≤ next s at). inl (omega arith)) (below-or (next s at) k)) (below-or k (next s at))
 
       -- a string of one character has an id
-      pub all-known : r ≡ true → AllOffered x before after
+      pub all-known : r ≡ true → AllOffered (pieceOf m s) at x before after
       all-known e =
           let w = is-some (knownTo m s at (next s at)) (sym (o .seen) ∙ e) in
           let here : pieceOf m s at (next s at) ≡ knownTo m s at (next s at) = one-char ∙ here-one (knownTo m s at (next s at)) (m .unknown) (w .0) (w .1) ∙ sym (w .1) in
@@ -315,7 +308,7 @@ module _ (m : Model) (s : List ℕ) (at : ℕ) (on : boundary s at ≡ true) whe
           }
 
       -- none has, and the unknown piece is offered
-      pub all-unknown : {last : Slots} → r ≡ false → PutAt after (next s at) (taken (slotAt after (next s at)) (candidate x at (m .unknown))) last → AllOffered x before last
+      pub all-unknown : {last : Slots} → r ≡ false → PutAt after (next s at) (taken (slotAt after (next s at)) (candidate x at (m .unknown))) last → AllOffered (pieceOf m s) at x before last
       unfolding afterOffer
       all-unknown {last} e put =
           let n = next s at in
@@ -342,91 +335,19 @@ module _ (m : Model) (s : List ℕ) (at : ℕ) (on : boundary s at ≡ true) whe
 
 -- ---- the slots hold the records of one start more
 
-taken-shown : (o : Option Slot) (q : Slot) → ((r : Slot) → o ≡ some r → r .start ≡ noId → ⊥) → taken (shown o) q ≡ offered o q
-unfolding shown offered
-taken-shown none q full = taken-empty (shown none) q refl
-taken-shown (some r) q full = taken-weighed r q (full r refl)
-
-module _ {m : Model} {s : List ℕ} (ready : Ready m s) where
-  rule : Pieces (boundary s) (length s) (pieceOf m s)
-  rule = given m s (ready .well) (ready .sound)
-
-  -- a start is a position of the text, and no mark
-  start-small : (from k : ℕ) → from ≤ length s → (r : Slot) → best (pieceOf m s) from k ≡ some r → r .start ≡ noId → ⊥
-  start-small from k l r e mark =
-      ⊎-elim
-      (λ v. no-piece (sym (v .0) ∙ e))
-      (λ v. let h : v .0 .start < from = v .2 .below in let same : v .0 ≡ r = cc in let big = ready .size in omega (arith, ap (λ (q : Slot). q .start) same))
-      (status rule from k)
-
-  -- the law of demand 3 at a boundary that has been come to
-  pub best-held : (from : ℕ) (c : Slots) → Holds m s from c → (j : ℕ) → 0 < j → j ≤ from → j ≤ length s → boundary s j ≡ true → Best (pieceOf m s) j (slotAt c j)
-  unfolding shown
-  best-held from c h j l p inside at =
-      let w = filled rule j l inside at in
-      subst (Best (pieceOf m s) j) (sym (h .slots j inside ∙ ap shown (settled-le rule from j p ∙ w .1))) (is-best rule j (w .0) inside (w .1))
-
-  pub score-held : (from j : ℕ) (c : Slots) → Holds m s from c → j ≤ length s → slotAt c j .score ≡ scoreOf (best (pieceOf m s) from j)
-  unfolding shown scoreOf
-  score-held from j c h l = ap (λ (q : Slot). q .score) (h .slots j l) ∙ shown-score (best (pieceOf m s) from j)
-    where
-      shown-score : (o : Option Slot) → shown o .score ≡ scoreOf o
-      shown-score none = refl
-      shown-score (some r) = refl
-
-  module _ (at : ℕ) (on : boundary s at ≡ true) (below : at < length s) where
-    pub worked-all : {x : Double} {before after : Slots} → Holds m s at before → x ≡ slotAt before at .score → AllOffered m s at on (ready .well) below x before after → Worked m s at before after (next s at)
-    unfolding shown afterOffer
-    worked-all {x} {before} {after} h e o =
-        record {
-          next = refl;
-          holds = held-next;
-          best = λ j l p b. best-held (next s at) after held-next j l p (boundary-le s j b) b;
-          past = λ k l.
-              o .slots k
-              ∙ ap (λ (p : Option Piece). afterOffer p x at (slotAt before k)) (piece-known m s at on k (λ q. omega (arith, next-inside s (ready .well) at on below)) ∙ known-past m s at k l);
-        }
-      where
-        score : x ≡ scoreOf (best (pieceOf m s) at at)
-        score = e ∙ score-held at at before h (omega arith)
-
-        one-more : (k : ℕ) → k ≤ length s → afterOffer (pieceOf m s at k) x at (slotAt before k) ≡ shown (best (pieceOf m s) (suc at) k)
-        one-more k l =
-            ⊎-elim
-            (λ (n : pieceOf m s at k ≡ none).
-            ap (λ (p : Option Piece). afterOffer p x at (slotAt before k)) n ∙ h .slots k l ∙ ap shown (sym (passed (pieceOf m s) at k n)))
-            (λ (w : (p : Piece) × (pieceOf m s at k ≡ some p)).
-            ap (λ (p : Option Piece). afterOffer p x at (slotAt before k)) (w .1)
-            ∙ ap (λ (q : Slot). taken q (candidate x at (w .0))) (h .slots k l)
-            ∙ taken-shown (best (pieceOf m s) at k) (candidate x at (w .0)) (start-small at k (omega arith))
-            ∙ ap (λ (y : Double). offered (best (pieceOf m s) at k) (candidate y at (w .0))) score
-            ∙ sym (ap shown (worked (pieceOf m s) at k (w .0) (w .1))))
-            (looked (pieceOf m s at k))
-
-        held-next : Holds m s (next s at) after
-        held-next =
-            record {
-              slots = λ k l.
-                  o .slots k
-                  ∙ one-more k l
-                  ∙ ap shown (sym (jumped rule (suc at) (next s at) k (next-above s (ready .well) at on below) (λ i p q. next-first s (ready .well) at on below i p q)));
-            }
-
--- ---- before the first start, and after the last
-
-pub holds-none : {m : Model} {s : List ℕ} {before after : Slots} {n : ℕ} → n ≡ length s → Cleared before n after → Holds m s 0 after
-holds-none {m} {s} {before} {after} {n} e c =
+pub worked-all :
+    {m : Model} {s : List ℕ} (ready : Ready m s) (at : ℕ) (on : boundary s at ≡ true) (below : at < length s) {x : Double} {before after : Slots}
+    → Holds (pieceOf m s) (length s) at before → x ≡ slotAt before at .score → AllOffered (pieceOf m s) at x before after
+    → Worked m s at before after (next s at)
+worked-all {m} {s} ready at on below {x} {before} {after} h e o =
+    let well = ready .well in
+    let rule = given m s well (ready .sound) in
+    let held : Holds (pieceOf m s) (length s) (next s at) after =
+    holds-jumped rule (next-above s well at on below) (next-first s well at on below) (holds-more rule (omega arith) (omega (arith, ready .size)) h e o)
+    in
     record {
-      slots = λ k l.
-          c .slots k
-          ∙ ap (λ (t : Bool). cond t (shown none) (slotAt before k)) (le-leb k n (omega arith))
-          ∙ ap shown (sym (none-before (pieceOf m s) k));
+      next = refl;
+      holds = held;
+      best = λ j l p b. best-held rule (next s at) after held j l p (boundary-le s j b) b;
+      past = offered-past rule o;
     }
-
-pub cleared-past : {before after : Slots} {n : ℕ} → Cleared before n after → (k : ℕ) → n < k → slotAt after k ≡ slotAt before k
-cleared-past {before} {after} {n} c k l = c .slots k ∙ ap (λ (t : Bool). cond t (shown none) (slotAt before k)) (lt-leb k n l)
-
-pub recorded : {m : Model} {s : List ℕ} (ready : Ready m s) {before after : Slots} (at : ℕ) → at ≡ length s → Holds m s at after → ((k : ℕ) → length s < k → slotAt after k ≡ slotAt before k) → Recorded m s before after
-recorded {m} {s} ready {before} {after} at e h past =
-    let all : Holds m s (length s) after = subst (λ (n : ℕ). Holds m s n after) e h in
-    record { holds = all; best = λ j l inside b. best-held ready (length s) after all j l inside inside b; past = past }

@@ -14,11 +14,12 @@ use lib.ListN.{length, getD, take, drop, set, take-append-drop, length-append, d
 use lib.Seq.{set-split, take-at, drop-at, length-take-le, drop-drop, set-at, drop-cons}
 use Rattle.refusal.specs.Sizes.{noId}
 use Rattle.refusal.specs.Places.{overlay}
-use Rattle.unigram.specs.Cuttings.{Step}
+use Rattle.cutting.specs.Cuttings.{Step}
 use Rattle.unigram.specs.Runs.{runId, merged}
-use Rattle.unigram.specs.Merge.{stepsAt, Ends, no-more, and-then, runOf, waiting, runIds, closing, Placed}
-use Rattle.scored.proofs.Lists.{below-or}
-use Rattle.unigram.proofs.Following.{piece-to}
+use Rattle.cutting.specs.Tracing.{stepsAt, Ends, no-more, and-then}
+use Rattle.unigram.specs.Merge.{runOf, waiting, runIds, closing, Placed}
+use Rattle.cutting.proofs.Lists.{below-or}
+use Rattle.cutting.proofs.Following.{piece-to}
 use Rattle.unigram.proofs.Merging.{merged-end, merged-end-run, begins, joins, stands, ends-run}
 
 -- ---- places

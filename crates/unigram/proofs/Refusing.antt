@@ -1,14 +1,14 @@
 -- `segment`: which test gives which fault, what is tested where there is none, and the promise from the fault, from an empty
 -- text, or from the cutting. Assumes nothing.
-use mathlib.Core.Path.{_≡_, refl, sym, ap, subst, _∙_}
+use mathlib.Core.Path.{_≡_, refl, sym, ap, _∙_}
 use mathlib.Core.Bool.{Bool, true, false, not, _&&_, _||_, cond}
-use mathlib.Core.List.{List, [], _∷_, map}
+use mathlib.Core.List.{List, [], _∷_}
 use mathlib.Core.Logic.{⊎-elim}
 use mathlib.Core.Option.{Option, none, some}
 use Prim.Native.Nat.{ℕ, _+_, _≤_, _<_}
 use native.Mathlib.Omega.{arith}
 use borrow.Author.Tests.{lt-ltb, le-ltb, eq-eqb, ne-eqb, ltb-false}
-use lib.Dec.{ltb, eqb}
+use lib.Dec.{ltb}
 use lib.Ieee.{Float}
 use lib.ListN.{length, length-map}
 use Rattle.doubles.specs.Units.{units}
@@ -20,19 +20,18 @@ use Rattle.text.specs.Text.{validUpTo, wellFormed, characters, part}
 use Rattle.text.proofs.Valid.{valid-le}
 use Rattle.text.proofs.Boundaries.{characters-le}
 use Rattle.trie.specs.Trie.{idOf}
-use Rattle.trie.specs.Sound.{soundScored, SoundScored}
+use Rattle.trie.specs.Sound.{soundScored}
 use Rattle.trie.proofs.SoundParts.{scored-of, of-scored}
 use Rattle.build.specs.Memory.{anyBelow}
-use Rattle.scored.proofs.Lists.{below-or}
-use Rattle.unigram.specs.declared.SegmentAnswer.{SegmentAnswer}
+use Rattle.cutting.proofs.Lists.{below-or}
 use Rattle.unigram.specs.declared.SegmentAnswer.the-variants.{Ids, Refused}
 use Rattle.unigram.specs.Pieces.{Model, piecesOf, idsOf}
-use Rattle.unigram.specs.Segment.{Scratch, shortScratch, segmentFault, segmentAnswer, written, segmentLeaves, RecordLaw, Segmented}
+use Rattle.unigram.specs.Segment.{Scratch, slotsIn, shortScratch, segmentFault, segmentAnswer, written, segmentLeaves, Segmented}
 use Rattle.unigram.specs.Work.{Ready}
 use Rattle.unigram.specs.Core.{scratchOf, Prepared, Cut}
-use Rattle.unigram.proofs.Working.{true-false}
+use Rattle.cutting.proofs.Working.{true-false}
 use Rattle.unigram.proofs.Merging.{merged-few}
-use Rattle.unigram.proofs.RecordLaws.{pieces-few, record-law}
+use Rattle.unigram.proofs.Segmenting.{pieces-few, law-held}
 
 -- ---- which fault
 
@@ -109,8 +108,8 @@ module _ (m : Model) (s : List ℕ) (b : Scratch) where
       let merging = merged-few (λ i j. idOf (m .trie) (part s i j)) (m .unknown .id) 0 (piecesOf m s) in
       record {
         left = sym stays;
-        count = omega (arith, merging, pieces-few m s (ready .well) (ready .sound), characters-le s);
-        law = subst (RecordLaw m s) stays (record-law m s b (ready .well) (ready .sound));
+        count = omega (arith, merging, pieces-few ready, characters-le s);
+        law = law-held ready (slotsIn b) (λ j l inside. absurd (omega arith));
       }
 
   -- what the cutting leaves is what is promised

@@ -9,7 +9,7 @@ use Rattle.doubles.specs.Units.{units}
 use Rattle.refusal.specs.Lent.{Lent, was, is}
 use Rattle.text.specs.Text.{characters}
 use Rattle.unigram.specs.Pieces.{Model, idsOf}
-use Rattle.unigram.specs.Slots.{Inside}
+use Rattle.cutting.specs.Slots.{Inside}
 use Rattle.unigram.specs.Work.{Ready}
 use Rattle.unigram.specs.Segment.{Scratch, segmentLeaves, RecordLaw}
 

@@ -2,26 +2,16 @@
 use mathlib.Core.Path.{_≡_}
 use Prim.Native.Nat.{ℕ, _+_, _≤_, _<_}
 use mathlib.Core.Bool.{cond}
-use mathlib.Core.List.{List, [], _∷_, _++_, map}
+use mathlib.Core.List.{List, [], _∷_, _++_}
 use mathlib.Core.Option.{Option, none, some}
 use lib.Dec.{ltb, eqb}
-use lib.ListN.{length, getD, take, drop}
-use Rattle.refusal.specs.Sizes.{noId}
+use lib.ListN.{length, take, drop}
 use Rattle.refusal.specs.Places.{overlay}
 use Rattle.text.specs.Text.{part}
 use Rattle.trie.specs.Trie.{Trie, idOf}
 use Rattle.trie.specs.Sound.{Sound}
-use Rattle.unigram.specs.Cuttings.{Step}
+use Rattle.cutting.specs.Tracing.{stepsAt, Ends}
 use Rattle.unigram.specs.Runs.{runId, merged}
-
--- the pieces that end at these places, with the ids of the slots there
-abbrev pub stepsAt : List ℕ → List ℕ → List Step
-stepsAt ids path = map (λ e. record { end = e; id = getD ids e noId }) path
-
--- the ends rise from `at` and are at most n
-pub data Ends (n : ℕ) : ℕ → List ℕ → Type 0 where
-  no-more : {at : ℕ} → Ends n at []
-  and-then : {at e : ℕ} {es : List ℕ} → at < e → e ≤ n → Ends n e es → Ends n at (e ∷ es)
 
 -- the id of the bytes from i up to j, where they have one
 abbrev pub partId : Trie → List ℕ → ℕ → ℕ → Option ℕ

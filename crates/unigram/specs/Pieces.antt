@@ -8,8 +8,8 @@ use lib.ListN.{length, getD}
 use Rattle.doubles.specs.Double.{Double, plusZero}
 use Rattle.text.specs.Text.{boundary, next, part}
 use Rattle.trie.specs.Trie.{Trie, walk, idAt, idOf}
-use Rattle.unigram.specs.Cuttings.{Piece, Step}
-use Rattle.unigram.specs.Records.{followed}
+use Rattle.cutting.specs.Cuttings.{Piece, Step}
+use Rattle.cutting.specs.Law.{bestPieces}
 use Rattle.unigram.specs.Runs.{merged}
 
 -- a Unigram trie's parts with its score column, and the unknown piece
@@ -42,7 +42,7 @@ pieceOf m s i j =
 
 -- the pieces of the best cutting of s, in order
 unfoldable pub piecesOf : Model → List ℕ → List Step
-piecesOf m s = followed (pieceOf m s) (length s) (length s)
+piecesOf m s = bestPieces (pieceOf m s) (length s)
 
 -- the ids of s
 unfoldable pub idsOf : Model → List ℕ → List ℕ

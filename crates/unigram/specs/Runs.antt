@@ -5,7 +5,7 @@ use mathlib.Core.Bool.{cond}
 use mathlib.Core.List.{List, [], _∷_}
 use mathlib.Core.Option.{Option, none, some, Option·getD}
 use lib.Dec.{eqb}
-use Rattle.unigram.specs.Cuttings.{Step}
+use Rattle.cutting.specs.Cuttings.{Step}
 
 -- the id of the run from byte i up to byte j; `idOf i j` is the id of these bytes, where they have one
 unfoldable pub runId : (ℕ → ℕ → Option ℕ) → ℕ → ℕ → ℕ → ℕ

@@ -1,15 +1,15 @@
 -- What `unigram::segment` promises. Definitions only; assumes nothing.
 use mathlib.Core.Path.{_≡_}
-use Prim.Native.Nat.{ℕ, zero, suc, _+_, _≤_, _<_}
+use Prim.Native.Nat.{ℕ, _+_}
 use mathlib.Core.Bool.{Bool, not, _&&_, _||_, cond}
-use mathlib.Core.List.{List, [], _∷_, _++_, map}
+use mathlib.Core.List.{List, [], _∷_}
 use mathlib.Core.Option.{Option, none, some}
-use lib.Dec.{T, ltb, eqb}
-use lib.ListN.{length, getD}
-use Rattle.doubles.specs.Double.{Double, plusZero}
+use lib.Dec.{ltb, eqb}
+use lib.ListN.{length}
+use Rattle.doubles.specs.Double.{Double}
 use Rattle.refusal.specs.declared.Fault.{Fault}
 use Rattle.refusal.specs.declared.Fault.the-variants as fault
-use Rattle.refusal.specs.Sizes.{maxText, noId, above}
+use Rattle.refusal.specs.Sizes.{maxText, above}
 use Rattle.refusal.specs.Refusal.{refuse}
 use Rattle.refusal.specs.Places.{overlay}
 use Rattle.text.specs.Text.{wellFormed, boundary, characters}
@@ -17,9 +17,11 @@ use Rattle.trie.specs.Sound.{soundScored}
 use Rattle.build.specs.Memory.{anyBelow}
 use Rattle.unigram.specs.declared.SegmentAnswer.{SegmentAnswer}
 use Rattle.unigram.specs.declared.SegmentAnswer.the-variants.{Ids, Refused}
-use Rattle.unigram.specs.Cuttings.{Slot, Best, Step, Chain, joined, added}
-use Rattle.unigram.specs.Records.{recordsFrom}
-use Rattle.unigram.specs.Pieces.{Model, pieceOf, piecesOf, idsOf}
+use Rattle.cutting.specs.Cuttings.{Piece}
+use Rattle.cutting.specs.Slots.{Slots}
+use Rattle.cutting.specs.Law.{slotsLeft, pathLeft}
+use Rattle.cutting.specs.Law as law
+use Rattle.unigram.specs.Pieces.{Model, pieceOf, idsOf}
 
 -- the lent slot columns, path and ids
 pub record Scratch : Type 0 where
@@ -48,49 +50,39 @@ unfoldable pub segmentAnswer : Option Fault → ℕ → SegmentAnswer
 segmentAnswer none count = Ids count
 segmentAnswer (some f) count = Refused f
 
+-- the slot columns
+abbrev pub slotsIn : Scratch → Slots
+slotsIn b = record { start = b .start; id = b .id; score = b .score }
+
 -- "After success: ids in order; places past them unchanged; the first path places hold the end offsets of the pieces before merging, in order,
 -- the rest unchanged; slot 0 and slots inside characters are empty; other slots up to the text's length hold start, id and score; later slots
--- unchanged."
-unfoldable pub written : Model → List ℕ → Scratch → Scratch
-written m s b =
-    let slots = recordsFrom (pieceOf m s) 0 (length s + 1) in
+-- unchanged." First the slots and the path, by the cutting alone.
+abbrev pub withCutting : (ℕ → ℕ → Option Piece) → ℕ → Scratch → Scratch
+withCutting pieceOf n b =
+    let slots = slotsLeft pieceOf n (slotsIn b) in
     record {
-      start = overlay (map (λ r. r .start) slots) (b .start);
-      id = overlay (map (λ r. r .id) slots) (b .id);
-      score = overlay (map (λ r. r .score) slots) (b .score);
-      path = overlay (map (λ e. e .end) (piecesOf m s)) (b .path);
-      ids = overlay (idsOf m s) (b .ids);
+      start = slots .start;
+      id = slots .id;
+      score = slots .score;
+      path = pathLeft pieceOf n (b .path);
+      ids = b .ids;
     }
+
+-- then the ids, whatever the rest holds
+abbrev pub withIds : List ℕ → Scratch → Scratch
+withIds ids b = record { start = b .start; id = b .id; score = b .score; path = b .path; ids = overlay ids (b .ids) }
+
+unfoldable pub written : Model → List ℕ → Scratch → Scratch
+written m s b = withIds (idsOf m s) (withCutting (pieceOf m s) (length s) b)
 
 -- "Every other refusal writes nothing." "Empty text writes nothing."
 unfoldable pub segmentLeaves : Option Fault → Model → List ℕ → Scratch → Scratch
 segmentLeaves none m s b = cond (eqb (length s) 0) b (written m s b)
 segmentLeaves (some f) m s b = b
 
--- the slot at j of the lent columns
-unfoldable pub slotIn : Scratch → ℕ → Slot
-slotIn b j = record { start = getD (b .start) j noId; id = getD (b .id) j noId; score = getD (b .score) j plusZero }
-
--- The records followed back from j: the pieces of the start that stands at j, then the piece that ends at j, with the id that
--- stands there. The second argument bounds how many; j is enough.
-unfoldable pub followedIn : Scratch → ℕ → ℕ → List Step
-followedIn b zero j = []
-followedIn b (suc n) zero = []
-followedIn b (suc n) (suc j) =
-    let r = slotIn b (suc j) in
-    followedIn b n (r .start) ++ (record { end = suc j; id = r .id } ∷ [])
-
--- Demand 3, of the slots that stand when the call has ended: "the record at every boundary come to holds the greatest
--- left-to-right rounded sum of any allowed cutting before it, names the last piece of such a cutting (the earliest start among
--- equals), and the records followed back cover every byte once", with at most one piece a character. The pieces are those that
--- these slots give (`followed`), so `chain`, `score`, `cover` and `few` are of what the records say.
-pub record RecordLaw (m : Model) (s : List ℕ) (after : Scratch) : Type 0 where
-  pub best : (j : ℕ) → 0 < j → j ≤ length s → T (boundary s j) → Best (pieceOf m s) j (slotIn after j)
-  pub followed : followedIn after (length s) (length s) ≡ piecesOf m s
-  pub chain : Chain (pieceOf m s) 0 (piecesOf m s) (length s)
-  pub score : 0 < length s → added (pieceOf m s) plusZero 0 (piecesOf m s) ≡ slotIn after (length s) .score
-  pub cover : joined s 0 (piecesOf m s) ≡ s
-  pub few : length (piecesOf m s) ≤ characters s
+-- Demand 3, of the slots that stand when the call has ended, with at most one piece a character.
+abbrev pub RecordLaw : Model → List ℕ → Scratch → Type 0
+RecordLaw m s after = law.RecordLaw (pieceOf m s) (boundary s) s (characters s) (slotsIn after)
 
 -- What `segment` promises of its answer and of the lent columns, before and after.
 pub record Segmented (m : Model) (s : List ℕ) (before : Scratch) (answer : SegmentAnswer) (after : Scratch) : Type 0 where

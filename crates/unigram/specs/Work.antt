@@ -1,10 +1,10 @@
 -- What the work at one boundary does to the slots, and what it rests on. Definitions only; assumes nothing.
 use mathlib.Core.Path.{_≡_}
 use Prim.Native.Nat.{ℕ, _≤_, _<_}
-use mathlib.Core.Bool.{Bool, true, false, _&&_, _||_, cond}
+use mathlib.Core.Bool.{Bool, true, false, _&&_, _||_}
 use mathlib.Core.List.{List, map}
 use mathlib.Core.Option.{Option, none, some}
-use lib.Dec.{leb, ltb, eqb}
+use lib.Dec.{ltb, eqb}
 use lib.Ieee.{Float}
 use lib.ListN.{length}
 use Rattle.doubles.specs.Double.{Double}
@@ -15,10 +15,11 @@ use Rattle.refusal.specs.Sizes.{maxText}
 use Rattle.text.specs.Text.{wellFormed, boundary, next, part}
 use Rattle.trie.specs.Trie.{partsOf}
 use Rattle.trie.specs.Sound.{Sound, SoundScored}
-use Rattle.unigram.specs.Cuttings.{Piece, Best}
-use Rattle.unigram.specs.Records.{best, shown}
-use Rattle.unigram.specs.Pieces.{Model, pieceAt, known, pieceOf}
-use Rattle.unigram.specs.Slots.{Slots, slotAt, afterOffer, Inside, PutAt}
+use Rattle.cutting.specs.Cuttings.{Piece, Best}
+use Rattle.cutting.specs.Slots.{Slots, slotAt, afterOffer, Inside, PutAt}
+use Rattle.cutting.specs.Law.{Holds, pathLeft}
+use Rattle.cutting.specs.Law as law
+use Rattle.unigram.specs.Pieces.{Model, pieceAt, known, pieceOf, piecesOf}
 
 -- the model in lent columns
 abbrev pub modelOf : List ℕ → List ℕ → List ℕ → List Float → List ℕ → List ℕ → Piece → Model
@@ -36,10 +37,6 @@ abbrev pub modelNow :
     RefT (List ℕ) → RefT (List ℕ) → RefT (List ℕ) → RefT (List Float) → RefT (List ℕ) → RefT (List ℕ) → ℕ → Float → Model
 modelNow edgeAt edgeN id score byte to unknown unknownScore =
     modelOf (now edgeAt) (now edgeN) (now id) (now score) (now byte) (now to) (pieceWith unknown unknownScore)
-
--- every slot but the first n + 1 is as it was, and those are empty
-pub record Cleared (before : Slots) (n : ℕ) (after : Slots) : Type 0 where
-  pub slots : (k : ℕ) → slotAt after k ≡ cond (leb k n) (shown none) (slotAt before k)
 
 unfoldable pub isSome : Option Piece → Bool
 isSome none = false
@@ -71,10 +68,6 @@ pub record KnownOffered (m : Model) (s : List ℕ) (at one : ℕ) (x : Double) (
   pub slots : (k : ℕ) → slotAt after k ≡ afterOffer (knownTo m s at k) x at (slotAt before k)
   pub seen : r ≡ isSome (knownTo m s at one)
 
--- the slots hold the records as they are when the starts before `from` have been worked
-pub record Holds (m : Model) (s : List ℕ) (from : ℕ) (c : Slots) : Type 0 where
-  pub slots : (k : ℕ) → k ≤ length s → slotAt c k ≡ shown (best (pieceOf m s) from k)
-
 -- what the core rests on: sound parts and a well-formed text within the limit
 pub record Ready (m : Model) (s : List ℕ) : Type 0 where
   pub sound : SoundScored (m .trie) (m .score) (m .unknown .score)
@@ -87,17 +80,21 @@ pub record Come (m : Model) (s : List ℕ) (at : ℕ) (starts ids : List ℕ) (s
   pub below : at < length s
   pub boundary : boundary s at ≡ true
   pub inside : Inside starts ids scores (length s)
-  pub holds : Holds m s at c
+  pub holds : Holds (pieceOf m s) (length s) at c
 
 -- The work at `at` is done, and r is the next boundary. The record law of demand 3 holds at every boundary come to so far.
 pub record Worked (m : Model) (s : List ℕ) (at : ℕ) (before after : Slots) (r : ℕ) : Type 0 where
   pub next : r ≡ next s at
-  pub holds : Holds m s r after
+  pub holds : Holds (pieceOf m s) (length s) r after
   pub best : (j : ℕ) → 0 < j → j ≤ r → boundary s j ≡ true → Best (pieceOf m s) j (slotAt after j)
   pub past : (k : ℕ) → length s < k → slotAt after k ≡ slotAt before k
 
 -- All of the work is done: every slot up to the text's length holds its record, and demand 3's law holds at every boundary.
-pub record Recorded (m : Model) (s : List ℕ) (before after : Slots) : Type 0 where
-  pub holds : Holds m s (length s) after
-  pub best : (j : ℕ) → 0 < j → j ≤ length s → boundary s j ≡ true → Best (pieceOf m s) j (slotAt after j)
-  pub past : (k : ℕ) → length s < k → slotAt after k ≡ slotAt before k
+abbrev pub Recorded : Model → List ℕ → Slots → Slots → Type 0
+Recorded m s before after = law.Recorded (pieceOf m s) (boundary s) (length s) before after
+
+-- The slots hold the records, and the first path places the ends of the best cutting's pieces; r is how many there are.
+pub record BestCutting (m : Model) (s : List ℕ) (before : Slots) (pathBefore : List ℕ) (after : Slots) (pathAfter : List ℕ) (r : ℕ) : Type 0 where
+  pub slots : Recorded m s before after
+  pub path : pathAfter ≡ pathLeft (pieceOf m s) (length s) pathBefore
+  pub count : r ≡ length (piecesOf m s)

@@ -40,7 +40,7 @@ pub fn segment(
     if text.len() == 0 {
         return 0;
     }
-    crate::lattice::fill(
+    let pieces = crate::lattice::best_cutting(
         edge_at,
         edge_n,
         id,
@@ -53,8 +53,8 @@ pub fn segment(
         start,
         slot_id,
         slot_score,
+        path,
     );
-    let pieces = crate::path::trace(start, text.len(), path);
     crate::runs::merge(
         edge_at,
         edge_n,

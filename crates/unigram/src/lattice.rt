@@ -1,5 +1,5 @@
 // The records, filled boundary by boundary: each piece that starts at a boundary is offered to the slot where it ends.
-use crate::slots::Slot;
+use cutting::slots::Slot;
 use trie::checked::NodeId;
 use trie::checked::Step;
 use trie::checked::Walk;
@@ -8,11 +8,12 @@ ghost use Prim.Native.Nat.{_≤_, _<_};
 ghost use lib.ListN.{length, getD};
 ghost use Rattle.doubles.specs.Units.{units, scoresWas};
 ghost use Rattle.trie.specs.Walks.{Leads};
-ghost use Rattle.unigram.specs.Cuttings.{Piece};
+ghost use Rattle.cutting.specs.Cuttings.{Piece};
 ghost use Rattle.unigram.specs.Pieces.{Model};
-ghost use Rattle.unigram.specs.Slots.{Inside, slotsIs, slotsNow, slotsWas};
-ghost use Rattle.unigram.specs.Work.{modelOf, Ended, Walkable, KnownOffered, Ready, Come, Worked, Recorded, model, modelNow};
-ghost use Rattle.refusal.specs.Lent.{was};
+ghost use Rattle.cutting.specs.Slots.{Inside, slotsIs, slotsNow, slotsWas};
+ghost use Rattle.unigram.specs.Work.{modelOf, Ended, Walkable, KnownOffered, Ready, Come, Worked, Recorded, BestCutting, model, modelNow};
+ghost use Rattle.refusal.specs.Lent.{is, was};
+ghost use Rattle.text.specs.Text.{characters};
 
 // A byte that leads nowhere from the root.
 const NO_NODE: u32 = 4_294_967_295;
@@ -50,7 +51,7 @@ fn end_at(
                 id: x,
                 score: doubles::added(till, score[k]),
             };
-            crate::slots::offer(start, slot_id, slot_score, i, q);
+            cutting::slots::offer(start, slot_id, slot_score, i, q);
             if i == one {
                 return true;
             }
@@ -120,7 +121,7 @@ fn offer_known(
 
 // The work from the boundary `at` to the next, which it answers: each piece that starts here is offered. If no string with an id is exactly one
 // character long, that one character is also a piece, with the unknown id and score.
-pub(crate) fn work_at(
+fn work_at(
     edge_at: &[u32],
     edge_n: &[u16],
     id: &[u32],
@@ -168,12 +169,12 @@ pub(crate) fn work_at(
         id: unknown,
         score: doubles::added(till, unknown_score),
     };
-    crate::slots::offer(start, slot_id, slot_score, one, q);
+    cutting::slots::offer(start, slot_id, slot_score, one, q);
     one
 }
 
 // Fills the slots up to the text's length with the records, boundary by boundary. Each start steps from the root, so its edges are laid out once.
-pub(crate) fn fill(
+fn fill(
     edge_at: &[u32],
     edge_n: &[u16],
     id: &[u32],
@@ -193,7 +194,7 @@ pub(crate) fn fill(
         ⌜ Recorded (model «edge_at» «edge_n» id score byte to unknown «unknown_score») (was text)
         (slotsWas start «slot_id» «slot_score») (slotsIs start «slot_id» «slot_score») ⌝ }
 {
-    crate::slots::clear(start, slot_id, slot_score, text.len());
+    cutting::slots::clear(start, slot_id, slot_score, text.len());
     let mut first = [NO_NODE; 256];
     trie::checked::fill_first(edge_at, edge_n, byte, to, &mut first);
     let mut at: usize = 0;
@@ -215,4 +216,44 @@ pub(crate) fn fill(
             &first,
         );
     }
+}
+
+// Fills the slots with the records, and the first path places with the ends of the best cutting's pieces. Answers how many pieces there are.
+pub(crate) fn best_cutting(
+    edge_at: &[u32],
+    edge_n: &[u16],
+    id: &[u32],
+    score: &[f64],
+    byte: &[u8],
+    to: &[u32],
+    unknown: u32,
+    unknown_score: f64,
+    text: &[u8],
+    start: &mut [u32],
+    slot_id: &mut [u32],
+    slot_score: &mut [f64],
+    path: &mut [u32],
+) -> usize
+    requires { ⌜ Ready (modelNow «edge_at» «edge_n» id score byte to unknown «unknown_score») (now text) × Inside
+        (now start) (now «slot_id») (now «slot_score») (length (now text)) × (characters (now text) ≤ length (now path))
+        ⌝ }
+    ensures { λ r.
+        ⌜ BestCutting (model «edge_at» «edge_n» id score byte to unknown «unknown_score») (was text)
+        (slotsWas start «slot_id» «slot_score») (was path) (slotsIs start «slot_id» «slot_score») (is path) r ⌝ }
+{
+    fill(
+        edge_at,
+        edge_n,
+        id,
+        score,
+        byte,
+        to,
+        unknown,
+        unknown_score,
+        text,
+        start,
+        slot_id,
+        slot_score,
+    );
+    cutting::path::trace(start, text.len(), path)
 }

@@ -3,9 +3,7 @@ use refusal::Fault;
 
 pub mod checked;
 mod lattice;
-mod path;
 mod runs;
-mod slots;
 
 ghost use mathlib.Core.Path.{_≡_};
 ghost use mathlib.Core.Bool.{_&&_, _||_};

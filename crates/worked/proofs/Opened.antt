@@ -15,7 +15,7 @@ use Rattle.build.specs.Names as names
 use Rattle.build.specs.Parts as parts
 use Rattle.build.specs.Rules as rules
 use Rattle.build.specs.Memory as memory
-use Rattle.unigram.specs.Records as records
+use Rattle.cutting.specs.Records as records
 use Rattle.unigram.specs.Runs as runs
 use Rattle.unigram.specs.Pieces as unigram
 use Rattle.unigram.specs.Segment as segment

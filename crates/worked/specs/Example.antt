@@ -11,7 +11,7 @@ use Rattle.rows.specs.Rows.{Row, Worth, firstBad}
 use Rattle.rows.specs.Scores.{unknownScore}
 use Rattle.build.specs.Names as names
 use Rattle.build.specs.Rules.{scoresOf, unigramTrie, unigramScores, wordpieceTrie}
-use Rattle.unigram.specs.Records.{scoreOf, best}
+use Rattle.cutting.specs.Records.{scoreOf, best}
 use Rattle.unigram.specs.Pieces as unigram
 use Rattle.unigram.specs.Segment.{Scratch, segmentFault}
 use Rattle.wordpiece.specs.Pieces as wordpiece

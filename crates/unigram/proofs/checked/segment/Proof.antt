@@ -1,18 +1,17 @@
--- `unigram::checked::segment` meets its contract: nothing for an empty text (`empty-for`), else the records, the path that they
--- give, and the ids merged from it (`cut-of`). Assumes nothing.
-use mathlib.Core.Path.{_≡_, sym}
-use mathlib.Core.List.{map}
+-- `unigram::checked::segment` meets its contract: nothing for an empty text (`empty-for`), else the best cutting, and the ids merged from its path
+-- (`cut-of`). Assumes nothing.
+use mathlib.Core.Path.{sym}
 use Prim.Native.Nat.{_≤_}
 use native.Mathlib.Omega.{arith}
-use lib.ListN.{length, take}
+use lib.ListN.{length}
 use lib.Seq.{length-take-le}
-use Rattle.unigram.specs.Pieces.{Model, piecesOf}
+use Rattle.cutting.specs.Slots.{Inside}
+use Rattle.unigram.specs.Pieces.{Model}
 use Rattle.unigram.specs.Work.{modelOf, pieceWith}
-use Rattle.unigram.specs.Slots.{Inside}
 use Rattle.unigram.specs.Segment.{Scratch}
 use Rattle.unigram.specs.Core.{scratchOf}
 use Rattle.unigram.proofs.Refusing.{empty-for}
-use Rattle.unigram.proofs.Segmenting.{falls, ends-few, front-is, mergeable, cut-of}
+use Rattle.unigram.proofs.Segmenting.{front-few, mergeable, cut-of}
 use borrow.Author.Needs.{needs}
 use Rattle.unigram.proofs.checked.segment.Statement.{statement}
 use Rattle.unigram.proofs.checked.segment.Tie as tie
@@ -21,23 +20,16 @@ use Rattle.unigram.proofs.checked.segment.Tie as tie
 abbrev start : tie.After-slice-known5 → tie.Start
 start c = c .before .before .before .before .before .before .before .before .before .before .before .before
 
--- from after the records are filled: where the text is found not empty, and the start
-abbrev some-text : tie.After-fill → tie.Else1
-some-text c = c .before .before .before .before
+-- the best cutting, from where the path's first places are lent
+abbrev chosen : tie.After-merge-arg → tie.After-best-cutting
+chosen c = c .before .before .before .before .before .before .before .before .before
 
-abbrev entry : tie.After-fill → tie.Start
+-- from there: where the text is found not empty, and the start
+abbrev some-text : tie.After-best-cutting → tie.Else1
+some-text c = c .before .before .before .before .before
+
+abbrev entry : tie.After-best-cutting → tie.Start
 entry c = start (some-text c .before)
-
--- the records, from after the path is traced
-abbrev filled : tie.After-trace → tie.After-fill
-filled c = c .before .before .before .before .before .before .before .before .before
-
-abbrev recorded : tie.After-trace-arg2 → tie.After-fill
-recorded c = c .before .before .before .before .before .before .before .before
-
--- the path, from where its first places are lent
-abbrev traced : tie.After-merge-arg → tie.After-trace
-traced c = c .before .before .before
 
 abbrev columns : tie.Start → Scratch
 columns c = let a = c .args in scratchOf (a .start .now) (a .slot-id .now) (a .slot-score .now) (a .path .now) (a .ids .now)
@@ -47,52 +39,40 @@ model c =
     let a = c .args in
     modelOf (a .edge-at .now) (a .edge-n .now) (a .id .now) (a .score .now) (a .byte .now) (a .to .now) (pieceWith (a .unknown) (a .unknown-score))
 
--- the first places of the path
-front : (c : tie.After-trace) → let e = entry (filled c) in take (c .trace .result) (c .trace .last .1 .1 .0) ≡ map (λ p. p .end) (piecesOf (model e) (e .args .text .now))
-front c =
-    let f = filled c in
-    front-is (entry f .pre .ready) (f .fill .ensures) (c .trace .ensures .0) (c .trace .ensures .1)
-
--- the path holds them
-fits : (c : tie.After-trace) → c .trace .result ≤ length (c .trace .last .1 .1 .0)
-fits c =
-    let f = filled c in
-    let e = entry f in
-    omega (arith, c .trace .ensures .1, ends-few (e .pre .ready) (f .fill .ensures), e .pre .path, c .trace .kept .1 .1 .0)
-
 -- a text that is not empty has its slots
 inside :
     (c : tie.Else1) → let a = start (c .before) .args in
     Inside (a .start .now) (a .slot-id .now) (a .slot-score .now) (length (a .text .now))
 inside c = start (c .before) .pre .slots (omega (arith, c .if1 .left))
 
+-- the path holds the pieces
+fits : (c : tie.After-best-cutting) → c .best-cutting .result ≤ length (c .best-cutting .last .1 .1 .1 .1 .1 .1 .1 .1 .1 .1 .1 .1 .0)
+fits c =
+    let p = entry c .pre in
+    omega (arith, front-few (p .ready) (c .best-cutting .ensures), p .path, c .best-cutting .kept .1 .1 .1 .1 .1 .1 .1 .1 .1 .1 .1 .1 .0)
+
 returns : tie.Need-returns
 returns c =
     let e = start (c .before) in
     empty-for (model e) (e .args .text .now) (columns e) (e .pre .ready) (c .if1 .taken)
 
-fill-requires : tie.Need-fill-requires
-fill-requires c κs = let t = c .before .before .before in (start (t .before) .pre .ready, inside t)
-
-trace-requires : tie.Need-trace-requires
-trace-requires c κs =
-    let f = recorded c in
-    let e = entry f in
-    (falls (e .pre .ready) (f .fill .ensures) (omega (arith, f .fill .kept .1 .1 .1 .1 .1 .1 .1 .1 .1 .0, inside (some-text f) .start)), omega (arith, ends-few (e .pre .ready) (f .fill .ensures), e .pre .path))
+best-cutting-requires : tie.Need-best-cutting-requires
+best-cutting-requires c κs =
+    let t = c .before .before .before .before in
+    let p = start (t .before) .pre in
+    (p .ready, inside t, p .path)
 
 slice-reshare-prefix-merge : tie.Need-slice-reshare-prefix-merge
-slice-reshare-prefix-merge c = fits (traced c)
+slice-reshare-prefix-merge c = fits (chosen c)
 
 slice-aggregate-merge : tie.Need-slice-aggregate-merge
-slice-aggregate-merge c = let t = traced (c .before) in sym (length-take-le (t .trace .result) (t .trace .last .1 .1 .0) (fits t))
+slice-aggregate-merge c = sym (length-take-le _ _ (fits (chosen (c .before))))
 
 merge-requires : tie.Need-merge-requires
 merge-requires c κs =
-    let t = traced (c .before .before) in
-    let f = filled t in
-    let e = entry f in
-    let l = f .fill .last .1 .1 .1 .1 .1 .1 .1 .1 .1 in
-    mergeable (e .pre .ready) (l .0) (l .1 .0) (l .1 .1 .0) (inside (some-text f)) (f .fill .ensures) (front t) (f .fill .kept .1 .1 .1 .1 .1 .1 .1 .1 .1 .1 .0) (e .pre .ids)
+    let w = chosen (c .before .before) in
+    let p = entry w .pre in
+    mergeable (p .ready) (w .best-cutting .ensures) (omega (arith, inside (some-text w) .id, w .best-cutting .kept .1 .1 .1 .1 .1 .1 .1 .1 .1 .1 .0)) (p .ids)
 
 same-length : tie.Need-same-length
 same-length c = search needs
@@ -112,20 +92,18 @@ same-length-5 c = search needs
 returns-2 : tie.Need-returns-2
 returns-2 c =
     let g = c .before .before in
-    let m = g .before in
-    let t = traced (m .before .before) in
-    let f = filled t in
-    let e = entry f in
-    let l = f .fill .last .1 .1 .1 .1 .1 .1 .1 .1 .1 in
-    cut-of (e .pre .ready) (l .0) (l .1 .0) (l .1 .1 .0) (inside (some-text f)) (f .fill .ensures) (some-text f .if1 .left) (f .fill .kept .1 .1 .1 .1 .1 .1 .1 .1 .1 .0) (f .fill .kept .1 .1 .1 .1 .1 .1 .1 .1 .1 .1 .0) (f .fill .kept .1 .1 .1 .1 .1 .1 .1 .1 .1 .1 .1 .0) (t .trace .ensures .0) (front t) (g .merge .ensures)
+    let m = g .before .before in
+    let w = chosen (m .before) in
+    let l = w .best-cutting .last .1 .1 .1 .1 .1 .1 .1 .1 .1 in
+    let kept = w .best-cutting .kept .1 .1 .1 .1 .1 .1 .1 .1 .1 in
+    cut-of (entry w .pre .ready) (l .0) (l .1 .0) (l .1 .1 .0) (some-text w .if1 .left) (inside (some-text w)) (kept .0) (kept .1 .0) (kept .1 .1 .0) (w .best-cutting .ensures) (g .merge .ensures)
 
 pub segment-spec : {M : Type 1} → statement M
 segment-spec =
     tie.close
     (tie.spec
     returns
-    fill-requires
-    trace-requires
+    best-cutting-requires
     slice-reshare-prefix-merge
     slice-aggregate-merge
     merge-requires

@@ -14,14 +14,14 @@ use Rattle.doubles.specs.Units.{units}
 use Rattle.text.specs.Text.{boundary}
 use Rattle.trie.specs.Trie.{idAt}
 use Rattle.trie.specs.Walks.{idIn}
-use Rattle.unigram.specs.Cuttings.{Piece, Slot}
-use Rattle.unigram.specs.Records.{candidate}
+use Rattle.cutting.specs.Cuttings.{Piece, Slot}
+use Rattle.cutting.specs.Records.{candidate}
 use Rattle.unigram.specs.Pieces.{Model, pieceAt}
-use Rattle.unigram.specs.Slots.{Slots, slotsOf, slotAt, PutAt, taken, held}
+use Rattle.cutting.specs.Slots.{Slots, slotsOf, slotAt, PutAt, taken, held}
 use Rattle.unigram.specs.Work.{endsHere, Ended}
-use Rattle.unigram.proofs.Best.{same-slot}
-use Rattle.scored.proofs.Lists.{map-inside}
-use Rattle.unigram.proofs.Columns.{put-as}
+use Rattle.cutting.proofs.Best.{same-slot}
+use Rattle.cutting.proofs.Lists.{map-inside}
+use Rattle.cutting.proofs.Columns.{put-as}
 use Rattle.unigram.proofs.Offering.{piece-none, piece-some, ends-off, ends-on, ended-none, ended-some}
 use borrow.Author.Needs.{needs}
 use Rattle.unigram.proofs.lattice.end_at.Statement.{statement}

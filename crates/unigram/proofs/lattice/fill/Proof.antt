@@ -1,6 +1,6 @@
 -- `unigram::lattice::fill` meets its contract. The loop's invariant: the slots hold the records as they are when the starts before `at` have been
 -- worked, and `at` is a boundary. The next boundary is above it, so what is left of the text falls. Assumes nothing.
-use mathlib.Core.Path.{_≡_, refl, sym, ap, subst, _∙_}
+use mathlib.Core.Path.{_≡_, refl, ap, _∙_}
 use mathlib.Core.Bool.{true}
 use mathlib.Core.List.{List}
 use Prim.Native.Nat.{ℕ, _-_, _≤_, _<_}
@@ -9,10 +9,12 @@ use borrow.Author.Needs.{needs}
 use lib.ListN.{length}
 use Rattle.text.specs.Text.{boundary, next}
 use Rattle.text.proofs.Boundaries.{boundary-zero, next-above, next-inside, next-boundary}
-use Rattle.unigram.specs.Pieces.{Model}
-use Rattle.unigram.specs.Slots.{Slots, slotsOf, slotAt, Inside}
-use Rattle.unigram.specs.Work.{modelOf, pieceWith, Holds, Come}
-use Rattle.unigram.proofs.Offering.{holds-none, cleared-past, recorded}
+use Rattle.unigram.specs.Pieces.{pieceOf}
+use Rattle.cutting.specs.Slots.{slotsOf, slotAt}
+use Rattle.unigram.specs.Work.{modelOf, pieceWith}
+use Rattle.cutting.specs.Law.{Holds}
+use Rattle.cutting.proofs.Holding.{holds-none, cleared-past, recorded}
+use Rattle.unigram.proofs.Given.{given}
 use Rattle.unigram.proofs.lattice.fill.Statement.{statement}
 use Rattle.unigram.proofs.lattice.fill.Tie as tie
 
@@ -23,7 +25,7 @@ Inv-loop edge-at edge-n id score byte to unknown unknown-score text start₀ slo
     × (length start ≡ length start₀)
     × (length slot-id ≡ length slot-id₀)
     × (length slot-score ≡ length slot-score₀)
-    × Holds (modelOf edge-at edge-n id score byte to (pieceWith unknown unknown-score)) text at (slotsOf start slot-id slot-score)
+    × Holds (pieceOf (modelOf edge-at edge-n id score byte to (pieceWith unknown unknown-score)) text) (length text) at (slotsOf start slot-id slot-score)
     × ((k : ℕ) → length text < k → slotAt (slotsOf start slot-id slot-score) k ≡ slotAt (slotsOf start₀ slot-id₀ slot-score₀) k)
 
 abbrev μ-loop : tie.MeasureT-loop
@@ -87,7 +89,7 @@ loop-holds : tie.Need-loop-holds Inv-loop μ-loop
 loop-holds c =
     let d = emptied c in
     let e = begun d in
-    (omega arith, boundary-zero (text e) (e .pre .0 .well), refl, refl, refl, holds-none refl (d .clear .ensures), λ k l. refl)
+    (omega arith, boundary-zero (text e) (e .pre .0 .well), refl, refl, refl, holds-none (d .clear .ensures), λ k l. refl)
 
 slice-aggregate-work-at : tie.Need-slice-aggregate-work-at Inv-loop μ-loop
 slice-aggregate-work-at c = search needs
@@ -154,7 +156,8 @@ returns c =
     let h = c .before in
     let d = emptied (h .before) in
     let e = begun d in
-    recorded (e .pre .0) (h .loop .at) (omega (arith, h .loop .inv .0, c .loop-test .left)) (h .loop .inv .5)
+    let ready = e .pre .0 in
+    recorded (given _ (text e) (ready .well) (ready .sound)) (omega (arith, h .loop .inv .0, c .loop-test .left)) (h .loop .inv .5)
     (λ k l. h .loop .inv .6 k l ∙ cleared-past (d .clear .ensures) k l)
 
 pub fill-spec : {M : Type 1} → statement M

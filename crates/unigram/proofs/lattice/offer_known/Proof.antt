@@ -12,9 +12,9 @@ use Rattle.text.specs.Text.{part}
 use Rattle.trie.specs.Trie.{Trie, partsOf, step, walk}
 use Rattle.trie.specs.Walks.{Stands, nextOf}
 use Rattle.trie.proofs.Walking.{step-inside}
-use Rattle.unigram.specs.Cuttings.{Piece}
+use Rattle.cutting.specs.Cuttings.{Piece}
 use Rattle.unigram.specs.Pieces.{Model}
-use Rattle.unigram.specs.Slots.{Slots, slotsOf, Inside}
+use Rattle.cutting.specs.Slots.{Slots, slotsOf, Inside}
 use Rattle.unigram.specs.Work.{modelOf}
 use Rattle.unigram.proofs.Offering.{Offered, offered-none, offered-more, offered-all, walk-none-yet, walk-on, walk-over, known-past}
 use Rattle.unigram.proofs.lattice.offer_known.Statement.{statement}

@@ -1,24 +1,24 @@
 -- `unigram::lattice::work_at` meets its contract: every string with an id is offered, and the unknown character where none is one character long,
 -- so every piece from `at` has been offered (`worked-all`). Assumes nothing.
 use mathlib.Core.Path.{_≡_, refl, sym, ap, subst, _∙_}
-use mathlib.Core.Bool.{Bool, true, false}
 use mathlib.Core.List.{List}
-use Prim.Native.Nat.{ℕ, _+_, _≤_, _<_}
+use Prim.Native.Nat.{ℕ, _+_, _≤_}
 use native.Mathlib.Omega.{arith}
 use lib.Ieee.{Float}
 use lib.ListN.{length, getD, length-map}
 use Rattle.doubles.specs.Double.{Double, sum}
 use Rattle.doubles.specs.Units.{units}
-use Rattle.text.specs.Text.{next, lengthOf}
+use Rattle.text.specs.Text.{next}
 use Rattle.text.proofs.Boundaries.{next-above, next-inside}
-use Rattle.unigram.specs.Cuttings.{Slot}
-use Rattle.unigram.specs.Records.{candidate}
-use Rattle.unigram.specs.Pieces.{Model}
-use Rattle.unigram.specs.Slots.{Slots, slotsOf, slotAt, PutAt, taken}
+use Rattle.cutting.specs.Cuttings.{Slot}
+use Rattle.cutting.specs.Records.{candidate}
+use Rattle.unigram.specs.Pieces.{Model, pieceOf}
+use Rattle.cutting.specs.Slots.{Slots, slotsOf, slotAt, PutAt, taken}
 use Rattle.unigram.specs.Work.{modelOf, pieceWith, KnownOffered, Worked}
-use Rattle.unigram.proofs.Best.{same-slot}
-use Rattle.unigram.proofs.Columns.{put-as, score-read}
-use Rattle.unigram.proofs.Offering.{AllOffered, all-known, all-unknown, worked-all}
+use Rattle.cutting.proofs.Best.{same-slot}
+use Rattle.cutting.proofs.Columns.{put-as, score-read}
+use Rattle.cutting.proofs.Holding.{AllOffered}
+use Rattle.unigram.proofs.Offering.{all-known, all-unknown, worked-all}
 use borrow.Author.Needs.{needs}
 use Rattle.unigram.proofs.lattice.work_at.Statement.{statement}
 use Rattle.unigram.proofs.lattice.work_at.Tie as tie
@@ -95,7 +95,7 @@ known c = let a = entry (measured c) .args in of-slot c _ (c .offer-known .ensur
 -- every piece has been offered
 done :
     (c : tie.After-char-len) {after : Slots} → let e = entry c in
-    AllOffered (model e) (text e) (e .args .at) (e .pre .0 .boundary) (e .pre .0 .ready .well) (e .pre .0 .below) (slotAt (columns e) (e .args .at) .score) (columns e) after
+    AllOffered (pieceOf (model e) (text e)) (e .args .at) (slotAt (columns e) (e .args .at) .score) (columns e) after
     → Worked (model e) (text e) (e .args .at) (columns e) after (e .args .at + c .char-len .result)
 done c {after} o =
     let e = entry c in

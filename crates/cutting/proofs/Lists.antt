@@ -1,0 +1,33 @@
+-- Numbers and lists, as slots and paths are read. Assumes nothing.
+use mathlib.Core.Path.{_≡_, refl, ap}
+use mathlib.Core.Bool.{Bool, true, false}
+use mathlib.Core.List.{List, [], _∷_, map}
+use mathlib.Core.Logic.{_⊎_, inl, inr}
+use Prim.Native.Nat.{ℕ, zero, suc, _≤_, _<_}
+use native.Mathlib.Omega.{arith}
+use borrow.Author.Tests.{leb-true, leb-false}
+use lib.Dec.{leb}
+use lib.ListN.{length, getD, set}
+
+-- one number below the other, or not
+pub below-or : (i j : ℕ) → (i < j) ⊎ (j ≤ i)
+below-or i j = go (leb (suc i) j) refl
+  where
+    go : (t : Bool) → leb (suc i) j ≡ t → (i < j) ⊎ (j ≤ i)
+    go true e = inl (leb-true (suc i) j e)
+    go false e = inr (let h : j < suc i = leb-false (suc i) j e in omega arith)
+
+pub map-inside {ℓ κ} : {A : Type ℓ} {B : Type κ} (f : A → B) (xs : List A) (k : ℕ) (d : A) (e : B) → k < length xs → getD (map f xs) k e ≡ f (getD xs k d)
+map-inside f [] k d e l = absurd (omega arith)
+map-inside f (x ∷ xs) zero d e l = refl
+map-inside f (x ∷ xs) (suc k) d e l = map-inside f xs k d e (omega arith)
+
+pub place-inside {ℓ} : {A : Type ℓ} (xs : List A) (k : ℕ) (d e : A) → k < length xs → getD xs k d ≡ getD xs k e
+place-inside [] k d e l = absurd (omega arith)
+place-inside (x ∷ xs) zero d e l = refl
+place-inside (x ∷ xs) (suc k) d e l = place-inside xs k d e (omega arith)
+
+pub map-set {ℓ κ} : {A : Type ℓ} {B : Type κ} (f : A → B) (xs : List A) (k : ℕ) (a : A) → map f (set xs k a) ≡ set (map f xs) k (f a)
+map-set f [] k a = refl
+map-set f (x ∷ xs) zero a = refl
+map-set f (x ∷ xs) (suc k) a = ap (λ l. f x ∷ l) (map-set f xs k a)
