@@ -36,7 +36,6 @@ module _ {m : Model} {s : List ℕ} (ready : Ready m s) where
 
   -- the pieces are no more than the characters
   pub pieces-few : length (piecesOf m s) ≤ characters s
-  unfolding piecesOf
   pieces-few =
       let n = length s in
       subst (λ (u : List ℕ). length (bestPieces (pieceOf m s) n) ≤ characters u) (take-length s)
@@ -44,7 +43,6 @@ module _ {m : Model} {s : List ℕ} (ready : Ready m s) where
 
   -- slots that hold the records meet the law of demand 3
   pub law-held : (after : Slots) → ((j : ℕ) → 0 < j → j ≤ length s → slotAt after j ≡ shown (best (pieceOf m s) j j)) → law.RecordLaw (pieceOf m s) (boundary s) s (characters s) after
-  unfolding piecesOf
   law-held = law-of rule (boundary-end s) pieces-few
 
   -- ---- the slots and the path
@@ -54,7 +52,6 @@ module _ {m : Model} {s : List ℕ} (ready : Ready m s) where
     starts-fall inside = falls rule r (boundary-end s) inside (ready .size)
 
     ends-are : endsFrom (a .start) (length s) (length s) ≡ map (λ e. e .end) (piecesOf m s)
-    unfolding piecesOf
     ends-are = path-is rule r (boundary-end s)
 
     ends-count : length (endsFrom (a .start) (length s) (length s)) ≡ length (piecesOf m s)
@@ -71,7 +68,7 @@ module _ {m : Model} {s : List ℕ} (ready : Ready m s) where
   module _ {b a : Slots} {path path′ : List ℕ} {n : ℕ} (w : BestCutting m s b path a path′ n) where
     -- the first places of the path are the pieces' ends
     pub front-is : take n path′ ≡ map (λ e. e .end) (piecesOf m s)
-    unfolding pathLeft piecesOf
+    unfolding pathLeft
     front-is =
         let es = map (λ e. e .end) (piecesOf m s) in
         ap (take n) (w .path) ∙ take-at es (drop (length es) path) n (length-map (piecesOf m s) (λ e. e .end) ∙ sym (w .count))
@@ -81,7 +78,6 @@ module _ {m : Model} {s : List ℕ} (ready : Ready m s) where
 
     -- what merging rests on
     pub mergeable : {places : List ℕ} → length s < length (a .id) → characters s ≤ length places → Mergeable (m .trie) s (a .id) (take n path′) places
-    unfolding piecesOf
     mergeable {places} inside room =
         record {
           sound = ready .sound .parts;
@@ -92,7 +88,7 @@ module _ {m : Model} {s : List ℕ} (ready : Ready m s) where
 
     -- and what it gives
     pub ids-are : merged (partId (m .trie) s) (m .unknown .id) none 0 (stepsAt (a .id) (take n path′)) ≡ idsOf m s
-    unfolding idsOf piecesOf
+    unfolding idsOf
     ids-are =
         ap (λ (u : List ℕ). merged (partId (m .trie) s) (m .unknown .id) none 0 (stepsAt (a .id) u)) front-is
         ∙ ap (merged (partId (m .trie) s) (m .unknown .id) none 0) (steps-are rule (w .slots) (boundary-end s))

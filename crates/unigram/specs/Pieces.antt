@@ -41,7 +41,7 @@ pieceOf m s i j =
     ]
 
 -- the pieces of the best cutting of s, in order
-unfoldable pub piecesOf : Model → List ℕ → List Step
+abbrev pub piecesOf : Model → List ℕ → List Step
 piecesOf m s = bestPieces (pieceOf m s) (length s)
 
 -- the ids of s

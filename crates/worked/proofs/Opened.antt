@@ -44,7 +44,7 @@ unfolding rows.worthFault rows.rowFault rows.firstBad scores.lowest scores.unkno
 build-opened = tt
 
 unfoldable pub unigram-opened : Unit {0}
-unfolding records.scoreOf records.offered records.candidate records.best records.shown records.recordsFrom records.followed runs.runId runs.merged unigram.pieceAt unigram.known unigram.pieceHere unigram.pieceOf unigram.piecesOf unigram.idsOf segment.shortScratch segment.segmentFault
+unfolding records.scoreOf records.offered records.candidate records.best records.shown records.recordsFrom records.followed runs.runId runs.merged unigram.pieceAt unigram.known unigram.pieceHere unigram.pieceOf unigram.idsOf segment.shortScratch segment.segmentFault
 unigram-opened = tt
 
 unfoldable pub wordpiece-opened : Unit {0}
