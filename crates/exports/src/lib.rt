@@ -196,9 +196,9 @@ pub extern "C" fn sk_encode(
     ids: &mut [u32],
 ) -> usize
     ensures { λ r.
-        ⌜ (let t = parts «edge_at» «edge_n» id byte to in let all = idsOf t unknown «max_chars» (was prefix) (was word)
-        in let fault = encodeFault t (was prefix) (was word) (was ids) in (r ≡ encodeNumber (encodeAnswer fault (length all)))
-        × (is ids ≡ encodeLeaves fault all (was ids))) ⌝ }
+        ⌜ (let t = parts «edge_at» «edge_n» id byte to in let all = idsOf (idOf t) unknown «max_chars» (was prefix)
+        (was word) in let fault = encodeFault t (was prefix) (was word) (was ids) in
+        (r ≡ encodeNumber (encodeAnswer fault (length all))) × (is ids ≡ encodeLeaves fault all (was ids))) ⌝ }
 {
     encode_number(wordpiece::encode(
         edge_at,
@@ -230,7 +230,7 @@ pub extern "C" fn sk_encode_checked(
 ) -> usize
     requires { ⌜ Ready (partsNow «edge_at» «edge_n» id byte to) (now word) (now ids) ⌝ }
     ensures { λ r.
-        ⌜ (let all = idsOf (parts «edge_at» «edge_n» id byte to) unknown «max_chars» (was prefix) (was word) in
+        ⌜ (let all = idsOf (idOf (parts «edge_at» «edge_n» id byte to)) unknown «max_chars» (was prefix) (was word) in
         (r ≡ length all) × (is ids ≡ overlay all (was ids))) ⌝ }
 {
     wordpiece::checked::encode(

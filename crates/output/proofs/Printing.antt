@@ -64,7 +64,7 @@ same-fault t prefix w before e =
 
 module _ {t : Trie} {unknown maxChars : ℕ} {prefix w before after : List ℕ} {answer : encode.EncodeAnswer} (p : Encoded t unknown maxChars prefix w before answer after) (lent : length before ≡ 4_096) where
   abbrev ids : List ℕ
-  ids = wordpiece.idsOf t unknown maxChars prefix w
+  ids = wordpiece.idsOf (idOf t) unknown maxChars prefix w
 
   abbrev found : Option Fault
   found = encodeFault t prefix w before
@@ -100,7 +100,7 @@ module _ {t : Trie} {unknown maxChars : ℕ} {prefix w before after : List ℕ} 
           let count : n ≡ length ids = cc in
           let ready = encoding.ready t prefix w before e in
           let left : after ≡ overlay ids before = p .left ∙ ap (λ (o : Option Fault). encodeLeaves o ids before) e in
-          let fewer : length ids ≤ characters w = ids-few t w (ready .well) unknown maxChars prefix in
+          let fewer : length ids ≤ characters w = ids-few (idOf t) w (ready .well) unknown maxChars prefix in
           record {
             few = omega (arith, count, fewer, characters-le w);
             inside = omega (arith, count, fewer, ready .room, lent);

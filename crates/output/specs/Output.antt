@@ -11,7 +11,7 @@ use Rattle.refusal.specs.declared.Reason.{Reason}
 use Rattle.refusal.specs.declared.Reason.the-variants.{Call, Row}
 use Rattle.refusal.specs.Sizes.{above}
 use Rattle.text.specs.Ascii.{ascii}
-use Rattle.trie.specs.Trie.{Trie}
+use Rattle.trie.specs.Trie.{Trie, idOf}
 use Rattle.rows.specs.declared.Kind.{Kind}
 use Rattle.rows.specs.declared.Kind.the-variants.{Unigram, WordPiece}
 use Rattle.build.specs.Memory.{Memory}
@@ -59,7 +59,7 @@ segmentedLine m line = printed (segmentFault m line lentScratch) (unigram.idsOf 
 
 -- and in a WordPiece trie, with this unknown id, max_chars and prefix
 unfoldable pub encodedLine : Trie → ℕ → ℕ → List ℕ → List ℕ → List ℕ
-encodedLine t unknown maxChars prefix line = printed (encodeFault t prefix line places) (wordpiece.idsOf t unknown maxChars prefix line)
+encodedLine t unknown maxChars prefix line = printed (encodeFault t prefix line places) (wordpiece.idsOf (idOf t) unknown maxChars prefix line)
 
 -- what one line prints, for a pack of this kind that is not refused
 unfoldable pub printedLine : Kind → List ℕ → List ℕ → List ℕ

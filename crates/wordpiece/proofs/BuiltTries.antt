@@ -1,6 +1,7 @@
 -- What a reader may rely on after `from_rows`: the lent columns, cut to the counts, are the trie of the rows; that trie is sound, so `encode`
--- never refuses it with 8; and looking a string up in it is looking it up in the row list. The cut is the trie since N nodes have N places of
--- each node column and N - 1 edges, and the rest of each column is behind them. Assumes nothing.
+-- never refuses it with 8; looking a string up in it is looking it up in the row list; and so the ids of a word are those over
+-- the row list. The cut is the trie since N nodes have N places of each node column and N - 1 edges, and the rest of each column
+-- is behind them. Assumes nothing.
 use mathlib.Core.Path.{_≡_, refl, sym, ap, _∙_, subst}
 use mathlib.Core.Bool.{Bool, true, false, not}
 use mathlib.Core.List.{List, [], _∷_, _++_, map, flatten}
@@ -33,7 +34,9 @@ use Rattle.build.proofs.Lookups.{tokens-bytes, wordpiece-lookup}
 use Rattle.build.proofs.Judging.{ids-marked}
 use Rattle.wordpiece.specs.declared.BuildAnswer.the-variants as answer-is
 use Rattle.wordpiece.specs.Build.{buildFault, buildAnswer, Built}
+use Rattle.wordpiece.specs.Pieces.{idsOf}
 use Rattle.wordpiece.specs.Encode.{encodeFault}
+use Rattle.wordpiece.proofs.Turns.{ids-same}
 use Rattle.wordpiece.proofs.Builds.{nodes-small}
 
 -- the parts with n nodes that lent columns hold in front
@@ -80,6 +83,10 @@ module _ (tab : List ℕ) (c : Columns) (bytes : Bytes tab) (fine : columnsFault
 
   pub rows-lookup : (s : List ℕ) → idOf (wordpieceTrie tab (rowsOf c)) s ≡ lastId tab (rowsOf c) s
   rows-lookup = wordpiece-lookup tab (rowsOf c) bytes (ids-marked tab c fine)
+
+  -- the ids of a word are those that the row list itself gives
+  pub ids-of-rows : (unknown maxChars : ℕ) (prefix w : List ℕ) → idsOf (idOf (wordpieceTrie tab (rowsOf c))) unknown maxChars prefix w ≡ idsOf (lastId tab (rowsOf c)) unknown maxChars prefix w
+  ids-of-rows = ids-same (idOf (wordpieceTrie tab (rowsOf c))) (lastId tab (rowsOf c)) rows-lookup
 
 -- ---- sound parts are not refused with 8
 
@@ -148,3 +155,7 @@ module _ (tab : List ℕ) (c : Columns) (m after : Memory) (n : ℕ) (bytes : By
   -- a string has in it the id that the row list gives it
   pub built-lookup : (s : List ℕ) → idOf (trieIn n after) s ≡ lastId tab (rowsOf c) s
   built-lookup s = ap (λ (t : Trie). idOf t s) built-parts ∙ rows-lookup tab c bytes built-fine s
+
+  -- and so a word has in it the ids that the row list gives it
+  pub built-ids : (unknown maxChars : ℕ) (prefix w : List ℕ) → idsOf (idOf (trieIn n after)) unknown maxChars prefix w ≡ idsOf (lastId tab (rowsOf c)) unknown maxChars prefix w
+  built-ids = ids-same (idOf (trieIn n after)) (lastId tab (rowsOf c)) built-lookup

@@ -8,7 +8,7 @@ use mathlib.Core.Option.{Option, none, some}
 use lib.ListN.{length}
 use Rattle.refusal.specs.declared.Fault.{Fault}
 use Rattle.refusal.specs.declared.Reason.{Reason}
-use Rattle.trie.specs.Trie.{Trie}
+use Rattle.trie.specs.Trie.{Trie, idOf}
 use Rattle.rows.specs.Columns.{Columns, rowsOf}
 use Rattle.build.specs.Names.{names}
 use Rattle.build.specs.Rules.{tokensOf}
@@ -33,7 +33,7 @@ module _ {t : Trie} {unknown maxChars : ℕ} {prefix w ids after : List ℕ} {an
   fault = encodeFault t prefix w ids
 
   abbrev count : ℕ
-  count = length (idsOf t unknown maxChars prefix w)
+  count = length (idsOf (idOf t) unknown maxChars prefix w)
 
   pub refused-exactly : (f : Fault) → (answer ≡ Refused f) ↔ (encodeFault t prefix w ids ≡ some f)
   unfolding encodeAnswer
@@ -48,7 +48,7 @@ module _ {t : Trie} {unknown maxChars : ℕ} {prefix w ids after : List ℕ} {an
           let same : g ≡ f = cc in
           e ∙ ap (λ (x : Fault). some x) same
 
-  pub accepted-exactly : (answer ≡ Ids (length (idsOf t unknown maxChars prefix w))) ↔ (encodeFault t prefix w ids ≡ none)
+  pub accepted-exactly : (answer ≡ Ids (length (idsOf (idOf t) unknown maxChars prefix w))) ↔ (encodeFault t prefix w ids ≡ none)
   unfolding encodeAnswer
   accepted-exactly = (λ q. says q fault refl, λ e. p .answered ∙ ap (λ (o : Option Fault). encodeAnswer o count) e)
     where

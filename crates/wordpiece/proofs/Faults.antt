@@ -15,7 +15,7 @@ use Rattle.refusal.specs.Sizes.{maxText, maxPrefix}
 use Rattle.refusal.specs.Refusal.{refuse}
 use Rattle.refusal.proofs.Tests.{found, not-found, passed}
 use Rattle.text.specs.Text.{wellFormed, characters}
-use Rattle.trie.specs.Trie.{Trie}
+use Rattle.trie.specs.Trie.{Trie, idOf}
 use Rattle.trie.specs.Sound.{sound}
 use Rattle.trie.proofs.SoundParts.{sound-of}
 use Rattle.wordpiece.specs.declared.EncodeAnswer.the-variants.{Ids, Refused}
@@ -99,14 +99,14 @@ module _ (t : Trie) (prefix w ids : List ℕ) where
     unfolding encodeAnswer encodeLeaves
     encoded-refused e =
         record {
-          answered = sym (ap (λ o. encodeAnswer o (length (idsOf t unknown maxChars prefix w))) e);
-          left = sym (ap (λ o. encodeLeaves o (idsOf t unknown maxChars prefix w) ids) e);
+          answered = sym (ap (λ o. encodeAnswer o (length (idsOf (idOf t) unknown maxChars prefix w))) e);
+          left = sym (ap (λ o. encodeLeaves o (idsOf (idOf t) unknown maxChars prefix w) ids) e);
         }
 
-    pub encoded-ids : {n : ℕ} {after : List ℕ} → encodeFault t prefix w ids ≡ none → n ≡ length (idsOf t unknown maxChars prefix w) → after ≡ overlay (idsOf t unknown maxChars prefix w) ids → Encoded t unknown maxChars prefix w ids (Ids n) after
+    pub encoded-ids : {n : ℕ} {after : List ℕ} → encodeFault t prefix w ids ≡ none → n ≡ length (idsOf (idOf t) unknown maxChars prefix w) → after ≡ overlay (idsOf (idOf t) unknown maxChars prefix w) ids → Encoded t unknown maxChars prefix w ids (Ids n) after
     unfolding encodeAnswer encodeLeaves
     encoded-ids e n a =
         record {
-          answered = ap Ids n ∙ sym (ap (λ o. encodeAnswer o (length (idsOf t unknown maxChars prefix w))) e);
-          left = a ∙ sym (ap (λ o. encodeLeaves o (idsOf t unknown maxChars prefix w) ids) e);
+          answered = ap Ids n ∙ sym (ap (λ o. encodeAnswer o (length (idsOf (idOf t) unknown maxChars prefix w))) e);
+          left = a ∙ sym (ap (λ o. encodeLeaves o (idsOf (idOf t) unknown maxChars prefix w) ids) e);
         }

@@ -1,5 +1,6 @@
 -- Laws of WordPiece that the layers above cite.
 pub mod Longest
+pub mod Turns
 pub mod Rest
 pub mod Plans
 pub mod Few

@@ -6,16 +6,21 @@ use mathlib.Core.List.{List, [], _∷_, _++_}
 use mathlib.Core.Option.{Option, none, some, bind}
 use Prim.Native.Nat.{ℕ, zero, suc, _+_, _-_, _≤_, _<_}
 use native.Mathlib.Omega.{arith}
-use borrow.Author.Tests.{lt-ltb, le-ltb, eqb-true, eqb-false, eq-eqb, ne-eqb}
+use native.Mathlib.Decide.{decLt}
+use borrow.Author.Tests.{lt-ltb, le-ltb, ltb-true, eqb-true, eqb-false, eq-eqb, ne-eqb}
 use lib.Dec.{ltb, eqb}
 use lib.ListN.{length, getD, take, drop, length-drop}
 use lib.Seq.{take-suc, take-add, drop-drop, getD-drop}
 use Rattle.refusal.specs.Sizes.{noId}
 use Rattle.text.specs.Text.{boundary, part}
 use Rattle.trie.specs.Trie.{Trie, walk, step, idAt, idFrom}
+use Rattle.trie.proofs.Every.{first, second}
 use Rattle.trie.proofs.Walking.{walk-snoc, walk-append-none, from-none, from-some, id-none, id-some}
 use Rattle.wordpiece.specs.Pieces.{Found, pieceTo, longestTo}
 use Rattle.wordpiece.specs.Checked.{pick, foundIf, foundSince, endAt}
+
+pub none-some : {A : Type 0} {x : A} → _≡_ {A = Option A} none (some x) → ⊥
+none-some e = let z : _≡_ {A = ℕ} 0 1 = cc in omega arith
 
 -- ---- parts of a word
 
@@ -55,68 +60,86 @@ id-held t k {x} h e = go (eqb (getD (t .id) k 0) noId) refl
     go true p = let no : _≡_ {A = ℕ} 0 1 = cc (id-none t k h (eqb-true (getD (t .id) k 0) noId p)) in absurd (omega arith)
     go false p = cc (id-some t k h (eqb-false (getD (t .id) k 0) noId p))
 
-module _ (t : Trie) (k : ℕ) (w : List ℕ) (i : ℕ) where
-  -- ---- one piece
+-- ---- in any look-up, where p stands before the piece
 
-  -- where the walk ends in a node, the piece there is what the node and the boundary say
-  pub piece-at : (j : ℕ) {n : ℕ} → i < j → walk t k (part w i j) ≡ some n → pieceTo t k w i j ≡ endAt (boundary w j) j (idAt t n)
-  unfolding pieceTo
-  piece-at j {n} h e = go (boundary w j) (idAt t n) (lt-ltb i j h) refl (from-some t k (part w i j) e)
-    where
-      go : (b : Bool) (o : Option ℕ) → ltb i j ≡ true → boundary w j ≡ b → idFrom t k (part w i j) ≡ o → pieceTo t k w i j ≡ endAt b j o
-      go true none p q r = rw (pieceTo, p, q, r)
-      go true (some x) p q r = rw (pieceTo, p, q, r)
-      go false none p q r = rw (pieceTo, p, q)
-      go false (some x) p q r = rw (pieceTo, p, q)
+end-none : (b : Bool) (j : ℕ) → endAt b j none ≡ none
+end-none true j = refl
+end-none false j = refl
 
-  -- where the walk stops, there is none
-  pub piece-stopped : (j : ℕ) → walk t k (part w i j) ≡ none → pieceTo t k w i j ≡ none
+module _ (find : List ℕ → Option ℕ) (p w : List ℕ) (i : ℕ) where
+  -- a piece, by whether it is not empty and ends on a boundary, and by the id of what is spelled
+  pub piece-is : (j : ℕ) → pieceTo find p w i j ≡ endAt (ltb i j && boundary w j) j (find (p ++ part w i j))
   unfolding pieceTo
-  piece-stopped j e = go (ltb i j && boundary w j) refl (from-none t k (part w i j) e)
+  piece-is j = go (ltb i j && boundary w j) (find (p ++ part w i j))
     where
-      go : (b : Bool) → ltb i j && boundary w j ≡ b → idFrom t k (part w i j) ≡ none → pieceTo t k w i j ≡ none
-      go true p r = rw (pieceTo, p, r)
-      go false p r = rw (pieceTo, p)
+      go : (b : Bool) (o : Option ℕ) → _≡_ {A = Option Found} (elim b [ true ↦ elim o [ none ↦ none | some x ↦ some (record { end = j; id = x }) ] | false ↦ none ]) (endAt b j o)
+      go true none = refl
+      go true (some x) = refl
+      go false o = refl
+
+  -- what a piece says
+  pub piece-says : (j : ℕ) {f : Found} → pieceTo find p w i j ≡ some f → (i < j) × (boundary w j ≡ true) × (j ≡ f .end) × (find (p ++ part w i j) ≡ some (f .id))
+  piece-says j {f} e = go (ltb i j && boundary w j) (find (p ++ part w i j)) refl (sym (piece-is j) ∙ e)
+    where
+      go : (b : Bool) (o : Option ℕ) → ltb i j && boundary w j ≡ b → endAt b j o ≡ some f → (i < j) × (boundary w j ≡ true) × (j ≡ f .end) × (o ≡ some (f .id))
+      go true none q r = absurd (none-some r)
+      go true (some x) q r = (ltb-true i j (first (ltb i j) (boundary w j) q), second (ltb i j) (boundary w j) q, cc, cc)
+      go false o q r = absurd (none-some r)
+
+  -- what is not spelled is no piece
+  pub piece-absent : (j : ℕ) → find (p ++ part w i j) ≡ none → pieceTo find p w i j ≡ none
+  piece-absent j e = piece-is j ∙ rw e (end-none (ltb i j && boundary w j) j)
 
   -- a piece is not empty
-  pub piece-empty : (j : ℕ) → j ≤ i → pieceTo t k w i j ≡ none
-  unfolding pieceTo
-  piece-empty j h = let e : ltb i j ≡ false = le-ltb i j h in rw (pieceTo, e)
+  piece-empty : (j : ℕ) → j ≤ i → pieceTo find p w i j ≡ none
+  piece-empty j h = piece-is j ∙ rw (le-ltb i j h)
 
-  -- ---- the longest
-
-  pub longest-more : (j : ℕ) → longestTo t k w i (suc j) ≡ pick (pieceTo t k w i (suc j)) (longestTo t k w i j)
+  pub longest-more : (j : ℕ) → longestTo find p w i (suc j) ≡ pick (pieceTo find p w i (suc j)) (longestTo find p w i j)
   unfolding longestTo
-  longest-more j = go (pieceTo t k w i (suc j)) refl
+  longest-more j = go (pieceTo find p w i (suc j))
     where
-      go : (o : Option Found) → pieceTo t k w i (suc j) ≡ o → longestTo t k w i (suc j) ≡ pick o (longestTo t k w i j)
-      go none e = rw (longestTo, e)
-      go (some f) e = rw (longestTo, e)
+      go : (o : Option Found) → _≡_ {A = Option Found} (elim o [ some f ↦ some f | none ↦ longestTo find p w i j ]) (pick o (longestTo find p w i j))
+      go none = refl
+      go (some f) = refl
 
-  pub longest-start : (j : ℕ) → j ≤ i → longestTo t k w i j ≡ none
+  -- where no piece ends after m, the longest is the one that ends at m or before
+  pub longest-until : (m n : ℕ) → m ≤ n → ((j : ℕ) → m < j → j ≤ n → pieceTo find p w i j ≡ none) → longestTo find p w i n ≡ longestTo find p w i m
+  longest-until m zero h none-at = let same : 0 ≡ m = omega arith in ap (longestTo find p w i) same
+  longest-until m (suc n) h none-at = go (decLt m (suc n)) (longest-until m n)
+    where
+      go :
+          Dec (m < suc n) → (m ≤ n → ((j : ℕ) → m < j → j ≤ n → pieceTo find p w i j ≡ none) → longestTo find p w i n ≡ longestTo find p w i m)
+          → longestTo find p w i (suc n) ≡ longestTo find p w i m
+      go (no l) on = let same : suc n ≡ m = omega (arith, l) in ap (longestTo find p w i) same
+      go (yes l) on =
+          longest-more n ∙ rw (none-at (suc n) l (omega arith)) (on (omega arith) (λ j a b. none-at j a (omega arith)))
+
+  pub longest-start : (j : ℕ) → j ≤ i → longestTo find p w i j ≡ none
   unfolding longestTo
-  longest-start zero h = refl
-  longest-start (suc j) h =
-      longest-more j
-      ∙ ap (λ (o : Option Found). pick o (longestTo t k w i j)) (piece-empty (suc j) h)
-      ∙ longest-start j (omega arith)
+  longest-start j h = longest-until 0 j (omega arith) (λ m a b. piece-empty m (omega arith))
+
+-- ---- going on from node k: the look-up is the walk from there, and nothing stands before the piece
+
+module _ (t : Trie) (k : ℕ) (w : List ℕ) (i : ℕ) where
+  abbrev best : ℕ → Option Found
+  best j = longestTo (idFrom t k) [] w i j
 
   -- one step more
   pub longest-step :
-      (j : ℕ) {n m : ℕ} → i ≤ j → j < length w → walk t k (part w i j) ≡ some n → step t n (getD w j 0) ≡ some m → (walk t k (part w i (suc j)) ≡ some m) × (longestTo t k w i (suc j) ≡ pick (endAt (boundary w (suc j)) (suc j) (idAt t m)) (longestTo t k w i j))
+      (j : ℕ) {n m : ℕ} → i ≤ j → j < length w → walk t k (part w i j) ≡ some n → step t n (getD w j 0) ≡ some m → (walk t k (part w i (suc j)) ≡ some m) × (best (suc j) ≡ pick (endAt (boundary w (suc j)) (suc j) (idAt t m)) (best j))
   unfolding bind
   longest-step j {n} {m} h b e s =
       let on : walk t k (part w i (suc j)) ≡ some m =
       ap (walk t k) (part-more w i j h b) ∙ walk-snoc t k (part w i j) (getD w j 0) ∙ rw e s in
-      (on, longest-more j ∙ ap (λ (o : Option Found). pick o (longestTo t k w i j)) (piece-at (suc j) (omega arith) on))
+      (on, longest-more (idFrom t k) [] w i j ∙ rw (piece-is (idFrom t k) [] w i (suc j), lt-ltb i (suc j) (omega arith), from-some t k (part w i (suc j)) on))
 
   -- no step: nothing beyond is a piece
   pub longest-stops :
-      (j : ℕ) {n : ℕ} → i ≤ j → j < length w → walk t k (part w i j) ≡ some n → step t n (getD w j 0) ≡ none → longestTo t k w i (length w) ≡ longestTo t k w i j
+      (j : ℕ) {n : ℕ} → i ≤ j → j < length w → walk t k (part w i j) ≡ some n → step t n (getD w j 0) ≡ none → best (length w) ≡ best j
   unfolding bind
   longest-stops j {n} h b e s =
-      let last : j + (length w - j) ≡ length w = omega arith in
-      ap (longestTo t k w i) (sym last) ∙ beyond (length w - j) (omega arith)
+      longest-until (idFrom t k) [] w i j (length w) (omega arith)
+      (λ m q l. piece-absent (idFrom t k) [] w i m (from-none t k (part w i m) (none-at m q)))
     where
       stopped : walk t k (part w i (suc j)) ≡ none
       stopped = ap (walk t k) (part-more w i j h b) ∙ walk-snoc t k (part w i j) (getD w j 0) ∙ rw e s
@@ -124,12 +147,3 @@ module _ (t : Trie) (k : ℕ) (w : List ℕ) (i : ℕ) where
       none-at : (m : ℕ) → j < m → walk t k (part w i m) ≡ none
       none-at m q =
           ap (walk t k) (part-on w i (suc j) m (omega arith) q) ∙ walk-append-none t k (part w i (suc j)) (part w (suc j) m) stopped
-
-      beyond : (d : ℕ) → j + d ≤ length w → longestTo t k w i (j + d) ≡ longestTo t k w i j
-      beyond zero q = let same : j + 0 ≡ j = omega arith in ap (longestTo t k w i) same
-      beyond (suc d) q =
-          let next : j + suc d ≡ suc (j + d) = omega arith in
-          ap (longestTo t k w i) next
-          ∙ longest-more (j + d)
-          ∙ ap (λ (o : Option Found). pick o (longestTo t k w i (j + d))) (piece-stopped (suc (j + d)) (none-at (suc (j + d)) (omega arith)))
-          ∙ beyond d (omega arith)

@@ -3,8 +3,8 @@
 use mathlib.Core.Path.{_≡_, refl, sym, ap, _∙_}
 use mathlib.Core.Bool.{Bool, true, false, cond}
 use mathlib.Core.List.{List, [], _∷_, _++_}
-use mathlib.Core.Option.{Option, none, some}
-use Prim.Native.Nat.{ℕ, suc, _+_, _≤_, _<_}
+use mathlib.Core.Option.{Option, none, some, bind}
+use Prim.Native.Nat.{ℕ, suc, _+_, _-_, _≤_, _<_}
 use native.Mathlib.Omega.{arith}
 use borrow.Author.Tests.{le-ltb}
 use lib.Dec.{ltb}
@@ -12,88 +12,101 @@ use lib.ListN.{length, take, drop}
 use lib.Seq.{sets, length-sets, sets-eq, take-at}
 use Rattle.refusal.specs.Places.{overlay}
 use Rattle.text.specs.Text.{wellFormed, characters}
-use Rattle.text.proofs.Boundaries.{characters-le}
-use Rattle.trie.specs.Trie.{Trie, walk}
-use Rattle.trie.specs.Sound.{Sound}
-use Rattle.trie.proofs.Walking.{walk-inside}
+use Rattle.text.proofs.Boundaries.{characters-le, boundary-zero}
+use Rattle.trie.specs.Trie.{Trie, walk, idFrom, idOf}
 use Rattle.wordpiece.specs.declared.checked.Count.{Count}
 use Rattle.wordpiece.specs.Pieces.{Found, longestTo, before, piecesOf, orUnknown, idsOf}
 use Rattle.wordpiece.specs.Checked.{restFrom, counted, countIn, Walked, Held, First}
-use Rattle.wordpiece.proofs.Rest.{none-some, Ends, longest-ends, pieces-empty, pieces-alone, pieces-absent, pieces-with, rest-few, some-character, piece-character}
+use Rattle.wordpiece.proofs.Longest.{none-some}
+use Rattle.wordpiece.proofs.Rest.{Ends, longest-ends, pieces-empty, pieces-alone, pieces-absent, after-prefix, pieces-with, pieces-few, one-more, some-character}
 
--- the ids `all` are x and then the pieces of w from i on, which go on from node k; these are no more than the characters from i on
-pub record Follows (t : Trie) (w : List ℕ) (k i x : ℕ) (all : List ℕ) : Type 0 where
-  pub inside : k < length (t .edgeAt)
+-- the ids `all` are x and then those of the pieces of w from i on; these are no more than the characters from i on
+pub record Follows (find : List ℕ → Option ℕ) (w : List ℕ) (i x : ℕ) (all : List ℕ) : Type 0 where
   pub below : i ≤ length w
   pub ids : List ℕ
-  pub rest : restFrom t k w i ≡ some ids
+  pub rest : restFrom find w i ≡ some ids
   pub whole : all ≡ x ∷ ids
   pub few : suc (length ids) ≤ characters w
 
 -- ---- max_chars
 
-module _ (t : Trie) (unknown maxChars : ℕ) (prefix w : List ℕ) where
-  pub ids-long : ltb maxChars (characters w) ≡ true → idsOf t unknown maxChars prefix w ≡ unknown ∷ []
+module _ (find : List ℕ → Option ℕ) (unknown maxChars : ℕ) (prefix w : List ℕ) where
+  pub ids-long : ltb maxChars (characters w) ≡ true → idsOf find unknown maxChars prefix w ≡ unknown ∷ []
   unfolding idsOf
-  ids-long e = ap (λ (b : Bool). cond b (unknown ∷ []) (orUnknown unknown (piecesOf t prefix w))) e
+  ids-long e = ap (λ (b : Bool). cond b (unknown ∷ []) (orUnknown unknown (piecesOf find prefix w))) e
 
-  pub ids-short : ltb maxChars (characters w) ≡ false → idsOf t unknown maxChars prefix w ≡ orUnknown unknown (piecesOf t prefix w)
+  pub ids-short : ltb maxChars (characters w) ≡ false → idsOf find unknown maxChars prefix w ≡ orUnknown unknown (piecesOf find prefix w)
   unfolding idsOf
-  ids-short e = ap (λ (b : Bool). cond b (unknown ∷ []) (orUnknown unknown (piecesOf t prefix w))) e
+  ids-short e = ap (λ (b : Bool). cond b (unknown ∷ []) (orUnknown unknown (piecesOf find prefix w))) e
 
-  pub ids-empty : length w ≡ 0 → idsOf t unknown maxChars prefix w ≡ []
+  pub ids-empty : length w ≡ 0 → idsOf find unknown maxChars prefix w ≡ []
   unfolding orUnknown
   ids-empty e =
-      ids-short (le-ltb maxChars (characters w) (omega (arith, characters-le w))) ∙ ap (orUnknown unknown) (pieces-empty t prefix w e)
+      ids-short (le-ltb maxChars (characters w) (omega (arith, characters-le w))) ∙ ap (orUnknown unknown) (pieces-empty find prefix w e)
 
 -- ---- misses
 
-module _ (t : Trie) (unknown : ℕ) (prefix w : List ℕ) (well : wellFormed w ≡ true) where
+-- a non-empty word that is one id
+abbrev pub One : (List ℕ → Option ℕ) → ℕ → List ℕ → List ℕ → ℕ → Type 0
+One find unknown prefix w x = (orUnknown unknown (piecesOf find prefix w) ≡ x ∷ []) × (1 ≤ characters w)
+
+module _ (find : List ℕ → Option ℕ) (unknown : ℕ) (prefix w : List ℕ) (well : wellFormed w ≡ true) (some-byte : 0 < length w) where
   -- one unknown
-  pub missed : 0 < length w → piecesOf t prefix w ≡ none → (orUnknown unknown (piecesOf t prefix w) ≡ unknown ∷ []) × (1 ≤ characters w)
+  pub missed : piecesOf find prefix w ≡ none → One find unknown prefix w unknown
   unfolding orUnknown
-  missed h e = (ap (orUnknown unknown) e, some-character w well h)
+  missed e = (ap (orUnknown unknown) e, some-character w well some-byte)
 
   -- a token that is the whole word
-  pub alone : {f : Found} → 0 < length w → longestTo t 0 w 0 (length w) ≡ some f → f .end ≡ length w → (orUnknown unknown (piecesOf t prefix w) ≡ f .id ∷ []) × (1 ≤ characters w)
+  pub alone : {f : Found} → longestTo find [] w 0 (length w) ≡ some f → f .end ≡ length w → One find unknown prefix w (f .id)
   unfolding orUnknown
-  alone h e last = (ap (orUnknown unknown) (pieces-alone t prefix w h e last), some-character w well h)
+  alone e last = (ap (orUnknown unknown) (pieces-alone find prefix w some-byte e last), some-character w well some-byte)
 
-  module _ {end id : ℕ} (first : First t w end id) where
-    some-byte : 0 < length w
-    some-byte = omega (arith, first .below)
+module _ (t : Trie) (unknown : ℕ) (prefix w : List ℕ) (well : wellFormed w ≡ true) {end id : ℕ} (first : First (idOf t) w end id) where
+  some-byte : 0 < length w
+  some-byte = omega (arith, first .below)
 
-    pub absent : walk t 0 prefix ≡ none → (orUnknown unknown (piecesOf t prefix w) ≡ unknown ∷ []) × (1 ≤ characters w)
-    absent e = missed some-byte (pieces-absent t prefix w some-byte (first .longest) (first .below) e)
+  -- the prefix leads nowhere
+  pub absent : walk t 0 prefix ≡ none → One (idOf t) unknown prefix w unknown
+  unfolding bind
+  absent e =
+      missed (idOf t) unknown prefix w well some-byte
+      (pieces-absent (idOf t) prefix w some-byte (after-prefix t prefix w e) (first .longest) (first .below))
 
-    module _ {k : ℕ} (at : walk t 0 prefix ≡ some k) where
-      pub late : none ≡ counted (restFrom t k w end) → (orUnknown unknown (piecesOf t prefix w) ≡ unknown ∷ []) × (1 ≤ characters w)
-      unfolding before
-      late e = go (restFrom t k w end) refl
-        where
-          go : (o : Option (List ℕ)) → restFrom t k w end ≡ o → (orUnknown unknown (piecesOf t prefix w) ≡ unknown ∷ []) × (1 ≤ characters w)
-          go none g = missed some-byte (pieces-with t prefix w some-byte (first .longest) at ∙ ap (before id) g)
-          go (some ids) g = absurd (none-some (e ∙ ap counted g))
+  module _ {k : ℕ} (at : walk t 0 prefix ≡ some k) where
+    whole : piecesOf (idOf t) prefix w ≡ before id (restFrom (idFrom t k) w end)
+    whole = pieces-with t prefix w some-byte (first .longest) at
 
-      -- all pieces are there
-      pub follows : {n : ℕ} → Sound t → some n ≡ counted (restFrom t k w end) → Follows t w k end id (orUnknown unknown (piecesOf t prefix w))
-      unfolding before orUnknown
-      follows {n} s e = go (restFrom t k w end) refl
-        where
-          ends : Ends w 0 (length w) (record { end = end; id = id })
-          ends = longest-ends t 0 w 0 (length w) (first .longest)
+    pub late : none ≡ counted (restFrom (idFrom t k) w end) → One (idOf t) unknown prefix w unknown
+    unfolding before
+    late e = go (restFrom (idFrom t k) w end) refl
+      where
+        go : (o : Option (List ℕ)) → restFrom (idFrom t k) w end ≡ o → One (idOf t) unknown prefix w unknown
+        go none g = missed (idOf t) unknown prefix w well some-byte (whole ∙ ap (before id) g)
+        go (some ids) g = absurd (none-some (e ∙ ap counted g))
 
-          go : (o : Option (List ℕ)) → restFrom t k w end ≡ o → Follows t w k end id (orUnknown unknown (piecesOf t prefix w))
-          go none g = absurd (none-some (sym (e ∙ ap counted g)))
-          go (some ids) g =
-              record {
-                inside = walk-inside s 0 prefix (s .some-node) at;
-                below = ends .below;
-                ids = ids;
-                rest = g;
-                whole = ap (orUnknown unknown) (pieces-with t prefix w some-byte (first .longest) at ∙ ap (before id) g);
-                few = omega (arith, rest-few w well t k end (ends .at) g, piece-character w well ends);
-              }
+    -- all pieces are there
+    pub follows : {n : ℕ} → some n ≡ counted (restFrom (idFrom t k) w end) → Follows (idFrom t k) w end id (orUnknown unknown (piecesOf (idOf t) prefix w))
+    unfolding before orUnknown
+    follows {n} e = go (restFrom (idFrom t k) w end) refl
+      where
+        ends : Ends w 0 (length w) (record { end = end; id = id })
+        ends = longest-ends (idOf t) [] w 0 (length w) (first .longest)
+
+        go : (o : Option (List ℕ)) → restFrom (idFrom t k) w end ≡ o → Follows (idFrom t k) w end id (orUnknown unknown (piecesOf (idOf t) prefix w))
+        go none g = absurd (none-some (sym (e ∙ ap counted g)))
+        go (some ids) g =
+            record {
+              below = ends .below;
+              ids = ids;
+              rest = g;
+              whole = ap (orUnknown unknown) (whole ∙ ap (before id) g);
+              few =
+                  omega (
+                    arith,
+                    pieces-few w well (idFrom t k) [] (suc (length w - end)) [] end ids (ends .at) g,
+                    one-more w well 0 end (boundary-zero w well) (ends .at) (ends .above),
+                  );
+            }
 
 -- ---- what is written
 

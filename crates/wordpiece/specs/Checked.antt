@@ -2,7 +2,7 @@
 use mathlib.Core.Path.{_≡_}
 use Prim.Native.Nat.{ℕ, suc, _+_, _-_, _≤_, _<_}
 use mathlib.Core.Bool.{Bool, true, false, not}
-use mathlib.Core.List.{List}
+use mathlib.Core.List.{List, []}
 use mathlib.Core.Option.{Option, none, some}
 use lib.Dec.{eqb}
 use lib.ListN.{length, take}
@@ -11,8 +11,8 @@ use Rattle.refusal.specs.declared.Fault.{Fault}
 use Rattle.text.specs.Text.{wellFormed, characters}
 use Rattle.trie.specs.Trie.{Trie}
 use Rattle.trie.specs.Sound.{Sound}
-use Rattle.wordpiece.specs.declared.Judged.{Judged}
-use Rattle.wordpiece.specs.declared.Judged.the-variants as judged-is
+use Rattle.wordpiece.specs.declared.checked.Judged.{Judged}
+use Rattle.wordpiece.specs.declared.checked.Judged.the-variants as judged-is
 use Rattle.wordpiece.specs.declared.checked.Match.{Match}
 use Rattle.wordpiece.specs.declared.checked.Match.the-variants as match-is
 use Rattle.wordpiece.specs.declared.checked.Count.{Count}
@@ -47,9 +47,10 @@ foundIf true j x = some (record { end = j; id = x })
 abbrev pub foundSince : ℕ → ℕ → ℕ → Option Found
 foundSince i end x = foundIf (not (eqb end i)) end x
 
--- the ids of the pieces of w from i on, each going on from node k; none at a miss
-abbrev pub restFrom : Trie → ℕ → List ℕ → ℕ → Option (List ℕ)
-restFrom t k w i = piecesFrom t (some k) w (suc (length w - i)) (some k) i
+-- the ids of the pieces of w from i on, with nothing before any of them; none at a miss. From node k on, the look-up is
+-- `idFrom t k`.
+abbrev pub restFrom : (List ℕ → Option ℕ) → List ℕ → ℕ → Option (List ℕ)
+restFrom find w i = piecesFrom find [] w (suc (length w - i)) [] i
 
 -- how many there are
 abbrev pub counted : Option (List ℕ) → Option ℕ
@@ -76,15 +77,15 @@ pub record Held (ids held : List ℕ) (n : ℕ) : Type 0 where
   pub same : n ≤ length held → take n held ≡ ids
 
 -- there are pieces from i on, and places for them from the second on
-pub record Fitting (t : Trie) (k : ℕ) (w : List ℕ) (i : ℕ) (places : List ℕ) : Type 0 where
+pub record Fitting (find : List ℕ → Option ℕ) (w : List ℕ) (i : ℕ) (places : List ℕ) : Type 0 where
   pub below : i ≤ length w
   pub ids : List ℕ
-  pub rest : restFrom t k w i ≡ some ids
+  pub rest : restFrom find w i ≡ some ids
   pub room : suc (length ids) ≤ length places
 
 -- the longest piece at the start of w, which is not all of w
-pub record First (t : Trie) (w : List ℕ) (end id : ℕ) : Type 0 where
-  pub longest : longestTo t 0 w 0 (length w) ≡ some (record { end = end; id = id })
+pub record First (find : List ℕ → Option ℕ) (w : List ℕ) (end id : ℕ) : Type 0 where
+  pub longest : longestTo find [] w 0 (length w) ≡ some (record { end = end; id = id })
   pub below : end < length w
 
 -- Sound parts, a tested word, and room for an id a character.

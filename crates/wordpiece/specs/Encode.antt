@@ -12,7 +12,7 @@ use Rattle.refusal.specs.Sizes.{maxText, maxPrefix, above}
 use Rattle.refusal.specs.Refusal.{refuse}
 use Rattle.refusal.specs.Places.{overlay}
 use Rattle.text.specs.Text.{wellFormed, characters}
-use Rattle.trie.specs.Trie.{Trie}
+use Rattle.trie.specs.Trie.{Trie, idOf}
 use Rattle.trie.specs.Sound.{sound}
 use Rattle.wordpiece.specs.declared.EncodeAnswer.{EncodeAnswer}
 use Rattle.wordpiece.specs.declared.EncodeAnswer.the-variants.{Ids, Refused}
@@ -38,5 +38,5 @@ encodeLeaves (some f) answer before = before
 
 -- What `encode` promises of its answer and of the lent id places, before and after.
 pub record Encoded (t : Trie) (unknown maxChars : ℕ) (prefix w before : List ℕ) (answer : EncodeAnswer) (after : List ℕ) : Type 0 where
-  pub answered : answer ≡ encodeAnswer (encodeFault t prefix w before) (length (idsOf t unknown maxChars prefix w))
-  pub left : after ≡ encodeLeaves (encodeFault t prefix w before) (idsOf t unknown maxChars prefix w) before
+  pub answered : answer ≡ encodeAnswer (encodeFault t prefix w before) (length (idsOf (idOf t) unknown maxChars prefix w))
+  pub left : after ≡ encodeLeaves (encodeFault t prefix w before) (idsOf (idOf t) unknown maxChars prefix w) before

@@ -1,6 +1,7 @@
 // The ids of a word, for layers above that have tested the parts, or all. But for `encode_tested` nothing here refuses.
 use crate::EncodeAnswer;
-use crate::Judged;
+use refusal::Fault;
+use text::MAX_TEXT;
 use trie::checked::NodeId;
 use trie::checked::Step;
 use trie::checked::Walk;
@@ -14,11 +15,13 @@ ghost use lib.ListN.{length, getD, take, set};
 ghost use lib.Seq.{sets};
 ghost use Rattle.refusal.specs.Places.{overlay};
 ghost use Rattle.text.specs.Text.{wellFormed, boundary, characters};
-ghost use Rattle.trie.specs.Trie.{Trie, idAt, parts, partsNow};
-ghost use Rattle.trie.specs.Sound.{sound, Sound};
+ghost use Rattle.trie.specs.Trie.{Trie, idAt, idFrom, idOf, parts, partsNow};
+ghost use Rattle.trie.specs.Sound as soundness;
+ghost use Rattle.trie.specs.Sound.{Sound};
 ghost use Rattle.wordpiece.specs.Pieces.{longestTo, piecesOf, orUnknown, idsOf};
-ghost use Rattle.wordpiece.specs.Encode.{Encoded};
-ghost use Rattle.wordpiece.specs.Checked.{foundIn, foundIf, foundSince, endAt, restFrom, Walked, Fitting, Held, First, Ready};
+ghost use Rattle.wordpiece.specs.Encode.{encodeFault, Encoded};
+ghost use Rattle.wordpiece.specs.Checked.{foundIn, foundIf, foundSince, endAt, restFrom, faultIn};
+ghost use Rattle.wordpiece.specs.Checked.{Walked, Fitting, Held, First, Ready};
 ghost use Rattle.refusal.specs.Lent.{is, was};
 
 // A piece that was found: where it ends, and its id.
@@ -38,6 +41,15 @@ pub enum Count {
     Pieces(usize),
     Miss,
 }
+
+// What is found of a call of `encode`.
+pub enum Judged {
+    Fine,
+    Bad(Fault),
+}
+
+// The longest prefix, in bytes.
+const MAX_PREFIX: usize = 64;
 
 // How many ids the first walk over a word's later pieces keeps. A word with more of them is walked again.
 const HELD: usize = 32;
@@ -84,7 +96,7 @@ pub(crate) fn longest(
     requires { ⌜ from .node < length (now «edge_at») ⌝ }
     requires { ⌜ i ≤ length (now w) ⌝ }
     ensures { λ r.
-        ⌜ foundIn r ≡ longestTo (parts «edge_at» «edge_n» id byte to) (from .node) (was w) i (length (was w)) ⌝ }
+        ⌜ foundIn r ≡ longestTo (idFrom (parts «edge_at» «edge_n» id byte to) (from .node)) [] (was w) i (length (was w)) ⌝ }
 {
     let mut node = from.node;
     let mut j = i;
@@ -131,7 +143,7 @@ fn count_rest(
     requires { ⌜ rest .node < length (now «edge_at») ⌝ }
     requires { ⌜ i ≤ length (now w) ⌝ }
     ensures { λ r.
-        ⌜ Walked (restFrom (parts «edge_at» «edge_n» id byte to) (rest .node) (was w) i) (was held) r (is held) ⌝ }
+        ⌜ Walked (restFrom (idFrom (parts «edge_at» «edge_n» id byte to) (rest .node)) (was w) i) (was held) r (is held) ⌝ }
 {
     let mut at = i;
     let mut n: usize = 0;
@@ -160,9 +172,9 @@ fn write_rest(
 ) -> usize
     requires { ⌜ Sound (partsNow «edge_at» «edge_n» id byte to) ⌝ }
     requires { ⌜ rest .node < length (now «edge_at») ⌝ }
-    requires { ⌜ Fitting (partsNow «edge_at» «edge_n» id byte to) (rest .node) (now w) i (now ids) ⌝ }
+    requires { ⌜ Fitting (idFrom (partsNow «edge_at» «edge_n» id byte to) (rest .node)) (now w) i (now ids) ⌝ }
     ensures { λ r.
-        ⌜ ((xs : List ℕ) → restFrom (parts «edge_at» «edge_n» id byte to) (rest .node) (was w) i ≡ some xs →
+        ⌜ ((xs : List ℕ) → restFrom (idFrom (parts «edge_at» «edge_n» id byte to) (rest .node)) (was w) i ≡ some xs →
         (r ≡ 1 + length xs) × (is ids ≡ sets (was ids) 1 xs)) ⌝ }
 {
     let mut at = i;
@@ -230,12 +242,12 @@ fn put_all(
 ) -> usize
     requires { ⌜ Sound (partsNow «edge_at» «edge_n» id byte to) ⌝ }
     requires { ⌜ rest .node < length (now «edge_at») ⌝ }
-    requires { ⌜ Fitting (partsNow «edge_at» «edge_n» id byte to) (rest .node) (now w) (first .end) (now ids) ⌝ }
-    requires { ⌜ ((xs : List ℕ) → restFrom (partsNow «edge_at» «edge_n» id byte to) (rest .node) (now w) (first .end)
-        ≡ some xs → Held xs (now held) n) ⌝ }
+    requires { ⌜ Fitting (idFrom (partsNow «edge_at» «edge_n» id byte to) (rest .node)) (now w) (first .end) (now ids) ⌝ }
+    requires { ⌜ ((xs : List ℕ) → restFrom (idFrom (partsNow «edge_at» «edge_n» id byte to) (rest .node)) (now w)
+        (first .end) ≡ some xs → Held xs (now held) n) ⌝ }
     ensures { λ r.
-        ⌜ ((xs : List ℕ) → restFrom (parts «edge_at» «edge_n» id byte to) (rest .node) (was w) (first .end) ≡ some
-        xs → (r ≡ 1 + length xs) × (is ids ≡ overlay (first .id ∷ xs) (was ids))) ⌝ }
+        ⌜ ((xs : List ℕ) → restFrom (idFrom (parts «edge_at» «edge_n» id byte to) (rest .node)) (was w) (first .end)
+        ≡ some xs → (r ≡ 1 + length xs) × (is ids ≡ overlay (first .id ∷ xs) (was ids))) ⌝ }
 {
     let end = first.end;
     ids[0] = first.id;
@@ -260,9 +272,9 @@ fn encode_rest(
     ids: &mut [u32],
 ) -> usize
     requires { ⌜ Ready (partsNow «edge_at» «edge_n» id byte to) (now w) (now ids) ⌝ }
-    requires { ⌜ First (partsNow «edge_at» «edge_n» id byte to) (now w) (first .end) (first .id) ⌝ }
+    requires { ⌜ First (idOf (partsNow «edge_at» «edge_n» id byte to)) (now w) (first .end) (first .id) ⌝ }
     ensures { λ r.
-        ⌜ (let all = orUnknown unknown (piecesOf (parts «edge_at» «edge_n» id byte to) (was prefix) (was w)) in
+        ⌜ (let all = orUnknown unknown (piecesOf (idOf (parts «edge_at» «edge_n» id byte to)) (was prefix) (was w)) in
         (r ≡ length all) × (is ids ≡ overlay all (was ids))) ⌝ }
 {
     let Step::To(rest) = Walk::root().over(edge_at, edge_n, byte, to, prefix) else {
@@ -291,7 +303,7 @@ pub fn encode(
 ) -> usize
     requires { ⌜ Ready (partsNow «edge_at» «edge_n» id byte to) (now w) (now ids) ⌝ }
     ensures { λ r.
-        ⌜ (let all = idsOf (parts «edge_at» «edge_n» id byte to) unknown «max_chars» (was prefix) (was w) in
+        ⌜ (let all = idsOf (idOf (parts «edge_at» «edge_n» id byte to)) unknown «max_chars» (was prefix) (was w) in
         (r ≡ length all) × (is ids ≡ overlay all (was ids))) ⌝ }
 {
     if w.len() == 0 {
@@ -321,9 +333,37 @@ pub fn encode(
     )
 }
 
-// As `wordpiece::encode`, where the soundness of the parts has been tested: `tested` is what was found. So that one test serves many words.
+// The first fault of a call of `encode` in parts that are sound or not, lent this many id places: the sizes, the parts, the
+// word, the prefix, the places.
+fn judge(sound: bool, prefix: &[u8], word: &[u8], places: usize) -> Judged
+    ensures { λ r.
+        ⌜ ((t : Trie) (ids : List ℕ) → soundness.sound t ≡ sound → length ids ≡ places → faultIn r ≡ encodeFault t
+        (was prefix) (was word) ids) ⌝ }
+{
+    if MAX_TEXT < word.len() {
+        return Judged::Bad(Fault::Size);
+    }
+    if MAX_PREFIX < prefix.len() {
+        return Judged::Bad(Fault::Size);
+    }
+    if !sound {
+        return Judged::Bad(Fault::Trie);
+    }
+    if text::utf8::valid_up_to(word) < word.len() {
+        return Judged::Bad(Fault::Text);
+    }
+    if text::utf8::valid_up_to(prefix) < prefix.len() {
+        return Judged::Bad(Fault::Text);
+    }
+    if places < text::checked::characters(word) {
+        return Judged::Bad(Fault::Ids);
+    }
+    Judged::Fine
+}
+
+// As `wordpiece::encode`, where the parts have been tested: `sound` is what was found. So that one test serves many words.
 pub fn encode_tested(
-    tested: bool,
+    sound: bool,
     edge_at: &[u32],
     edge_n: &[u16],
     id: &[u32],
@@ -335,12 +375,12 @@ pub fn encode_tested(
     word: &[u8],
     ids: &mut [u32],
 ) -> EncodeAnswer
-    requires { ⌜ tested ≡ sound (partsNow «edge_at» «edge_n» id byte to) ⌝ }
+    requires { ⌜ sound ≡ soundness.sound (partsNow «edge_at» «edge_n» id byte to) ⌝ }
     ensures { λ r.
         ⌜ Encoded (parts «edge_at» «edge_n» id byte to) unknown «max_chars» (was prefix) (was word) (was ids) r (is ids)
         ⌝ }
 {
-    let judged = crate::judge(tested, prefix, word, ids.len());
+    let judged = judge(sound, prefix, word, ids.len());
     match judged {
         Judged::Bad(f) => EncodeAnswer::Refused(f),
         Judged::Fine => EncodeAnswer::Ids(encode(

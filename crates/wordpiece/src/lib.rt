@@ -4,25 +4,15 @@ use refusal::Fault;
 use refusal::Reason;
 use rows::Kind;
 use rows::columns::RowsAnswer;
-use text::MAX_TEXT;
 
 pub mod checked;
 
-ghost use mathlib.Core.Path.{_≡_};
-ghost use mathlib.Core.List.{List};
-ghost use Prim.Native.Nat.{ℕ};
-ghost use lib.ListN.{length};
-ghost use Rattle.trie.specs.Trie.{Trie, parts};
-ghost use Rattle.trie.specs.Sound.{sound};
+ghost use Rattle.trie.specs.Trie.{parts};
 ghost use Rattle.rows.specs.Answers.{columnsWas};
 ghost use Rattle.build.specs.Memory.{memoryIs, memoryWas};
 ghost use Rattle.wordpiece.specs.Build as promise;
-ghost use Rattle.wordpiece.specs.Encode.{encodeFault, Encoded};
-ghost use Rattle.wordpiece.specs.Checked.{faultIn};
+ghost use Rattle.wordpiece.specs.Encode.{Encoded};
 ghost use Rattle.refusal.specs.Lent.{is, was};
-
-// The longest prefix, in bytes.
-const MAX_PREFIX: usize = 64;
 
 // What `from_rows` answers: how many nodes the trie has, or why nothing was built.
 pub enum BuildAnswer {
@@ -83,40 +73,6 @@ pub enum EncodeAnswer {
     Refused(Fault),
 }
 
-// What is found of a call of `encode`.
-pub enum Judged {
-    Fine,
-    Bad(Fault),
-}
-
-// The first fault of a call of `encode` in parts that are sound or not, lent this many id places: the sizes, the parts, the word, the prefix, the
-// places.
-fn judge(tested: bool, prefix: &[u8], word: &[u8], places: usize) -> Judged
-    ensures { λ r.
-        ⌜ ((t : Trie) (ids : List ℕ) → sound t ≡ tested → length ids ≡ places → faultIn r ≡ encodeFault t
-        (was prefix) (was word) ids) ⌝ }
-{
-    if MAX_TEXT < word.len() {
-        return Judged::Bad(Fault::Size);
-    }
-    if MAX_PREFIX < prefix.len() {
-        return Judged::Bad(Fault::Size);
-    }
-    if !tested {
-        return Judged::Bad(Fault::Trie);
-    }
-    if text::utf8::valid_up_to(word) < word.len() {
-        return Judged::Bad(Fault::Text);
-    }
-    if text::utf8::valid_up_to(prefix) < prefix.len() {
-        return Judged::Bad(Fault::Text);
-    }
-    if places < text::checked::characters(word) {
-        return Judged::Bad(Fault::Ids);
-    }
-    Judged::Fine
-}
-
 // The ids of a word, in the first of the lent places. Refused are a word or prefix above its limit, parts that are not sound, an ill-formed word,
 // an ill-formed prefix, and fewer id places than characters. Places past the answer stay as they are, and a refused call writes nothing.
 pub fn encode(
@@ -135,9 +91,9 @@ pub fn encode(
         ⌜ Encoded (parts «edge_at» «edge_n» id byte to) unknown «max_chars» (was prefix) (was word) (was ids) r (is ids)
         ⌝ }
 {
-    let found = trie::soundness::sound(edge_at, edge_n, id, byte, to);
+    let sound = trie::soundness::sound(edge_at, edge_n, id, byte, to);
     checked::encode_tested(
-        found,
+        sound,
         edge_at,
         edge_n,
         id,

@@ -48,7 +48,7 @@ unfolding records.scoreOf records.offered records.candidate records.best records
 unigram-opened = tt
 
 unfoldable pub wordpiece-opened : Unit {0}
-unfolding wordpiece.pieceTo wordpiece.longestTo wordpiece.longest wordpiece.before wordpiece.piecesFrom wordpiece.piecesOf wordpiece.orUnknown wordpiece.idsOf encode.encodeFault
+unfolding wordpiece.pieceTo wordpiece.longestTo wordpiece.before wordpiece.piecesFrom wordpiece.piecesOf wordpiece.orUnknown wordpiece.idsOf encode.encodeFault
 wordpiece-opened = tt
 
 unfoldable pub pack-opened : Unit {0}

@@ -5,6 +5,7 @@ use mathlib.Core.List.{List, [], _∷_, map, flatten}
 use mathlib.Core.Option.{Option, none, some}
 use lib.ListN.{length, replicate}
 use Rattle.doubles.specs.Double.{Double, plusZero, same}
+use Rattle.trie.specs.Trie.{idOf}
 use Rattle.rows.specs.declared.Kind.{Kind}
 use Rattle.rows.specs.declared.Kind.the-variants.{Unigram, WordPiece}
 use Rattle.rows.specs.Rows.{Row, Worth, firstBad}
@@ -86,7 +87,7 @@ unigramHolds m g =
 unfoldable pub wordpieceHolds : Example → Given → Bool
 wordpieceHolds x g =
     let t = wordpieceTrie (tableOf (x .entries)) (rowsAt 0 (x .entries)) in
-    isNone (encodeFault t (x .prefix) (g .text) places) && names.same (wordpiece.idsOf t (x .unknown) (g .maxChars) (x .prefix) (g .text)) (g .ids)
+    isNone (encodeFault t (x .prefix) (g .text) places) && names.same (wordpiece.idsOf (idOf t) (x .unknown) (g .maxChars) (x .prefix) (g .text)) (g .ids)
 
 unfoldable pub kindHolds : Kind → Example → Bool
 kindHolds Unigram x = let m = modelOf x in scoreIs (x .unknownScore) (m .unknown .score) && allOf (unigramHolds m) (x .given)

@@ -11,20 +11,21 @@ use native.Mathlib.Omega.{arith}
 use borrow.Author.Needs.{needs}
 use lib.ListN.{length, set}
 use lib.Seq.{sets}
-use Rattle.trie.specs.Trie.{Trie, partsOf}
+use Rattle.trie.specs.Trie.{partsOf, idFrom}
 use Rattle.wordpiece.specs.Pieces.{Found, longestTo}
 use Rattle.wordpiece.specs.Checked.{foundIn, restFrom, counted, more}
-use Rattle.wordpiece.proofs.Rest.{none-some, Ends, longest-ends, rest-end, rest-miss, rest-piece, count-piece, more-one, before-some}
+use Rattle.wordpiece.proofs.Longest.{none-some}
+use Rattle.wordpiece.proofs.Rest.{Ends, longest-ends, rest-end, rest-miss, rest-piece, count-piece, more-one, before-some}
 use Rattle.wordpiece.proofs.checked.count_rest.Statement.{statement}
 use Rattle.wordpiece.proofs.checked.count_rest.Tie as tie
 
 -- where the loop stands
-pub record Here (t : Trie) (k : ℕ) (w : List ℕ) (i : ℕ) (places held : List ℕ) (at n : ℕ) : Type 0 where
+pub record Here (find : List ℕ → Option ℕ) (w : List ℕ) (i : ℕ) (places held : List ℕ) (at n : ℕ) : Type 0 where
   pub below : at ≤ length w
   pub few : n ≤ at
-  pub same : counted (restFrom t k w i) ≡ more n (counted (restFrom t k w at))
+  pub same : counted (restFrom find w i) ≡ more n (counted (restFrom find w at))
   pub level : length held ≡ length places
-  pub stored : (xs : List ℕ) → restFrom t k w i ≡ some xs → (left : List ℕ) × (restFrom t k w at ≡ some left) × (sets places 0 xs ≡ sets held n left)
+  pub stored : (xs : List ℕ) → restFrom find w i ≡ some xs → (left : List ℕ) × (restFrom find w at ≡ some left) × (sets places 0 xs ≡ sets held n left)
 
 more-none : (o : Option ℕ) → o ≡ more 0 o
 more-none none = refl
@@ -32,7 +33,7 @@ more-none (some m) = ap (λ (k : ℕ). some k) (sym (zero-add m))
 
 abbrev Inv-loop : tie.InvT-loop
 Inv-loop edge-at edge-n id byte to rest w i held₀ at₀ n₀ held at n =
-    Here (partsOf edge-at edge-n id byte to) (rest .node) w i held₀ held at n
+    Here (idFrom (partsOf edge-at edge-n id byte to) (rest .node)) w i held₀ held at n
 
 abbrev μ-loop : tie.MeasureT-loop
 μ-loop edge-at edge-n id byte to rest w i held₀ at₀ n₀ held at n = length w - at
@@ -43,11 +44,10 @@ entry h = h .before .before .before .before .before .before .before .before
 abbrev head : tie.After-longest Inv-loop μ-loop → tie.At-loop Inv-loop μ-loop
 head c = c .before .before
 
-abbrev parts : tie.Start Inv-loop μ-loop → Trie
-parts e = partsOf (e .args .edge-at .now) (e .args .edge-n .now) (e .args .id .now) (e .args .byte .now) (e .args .to .now)
-
-abbrev node : tie.Start Inv-loop μ-loop → ℕ
-node e = e .args .rest .node
+-- the look-up that goes on from the walk's node
+abbrev find : tie.Start Inv-loop μ-loop → List ℕ → Option ℕ
+find e =
+    idFrom (partsOf (e .args .edge-at .now) (e .args .edge-n .now) (e .args .id .now) (e .args .byte .now) (e .args .to .now)) (e .args .rest .node)
 
 abbrev word : tie.Start Inv-loop μ-loop → List ℕ
 word e = e .args .w .now
@@ -57,13 +57,13 @@ abbrev found : tie.After-hold Inv-loop μ-loop → tie.After-piece Inv-loop μ-l
 found c = c .before .before .before
 
 -- the piece that was found, as the definition has it
-piece : (c : tie.After-piece Inv-loop μ-loop) → longestTo (parts (entry (head (c .before .before)))) (node (entry (head (c .before .before)))) (word (entry (head (c .before .before)))) (head (c .before .before) .loop .at) (length (word (entry (head (c .before .before))))) ≡ some (record { end = c .piece .given .0 .0 .end; id = c .piece .given .0 .0 .id })
+piece : (c : tie.After-piece Inv-loop μ-loop) → longestTo (find (entry (head (c .before .before)))) [] (word (entry (head (c .before .before)))) (head (c .before .before) .loop .at) (length (word (entry (head (c .before .before))))) ≡ some (record { end = c .piece .given .0 .0 .end; id = c .piece .given .0 .0 .id })
 piece c = sym (c .before .before .longest .ensures) ∙ ap foundIn (c .piece .given .1)
 
 ends : (c : tie.After-piece Inv-loop μ-loop) → Ends (word (entry (head (c .before .before)))) (head (c .before .before) .loop .at) (length (word (entry (head (c .before .before))))) (record { end = c .piece .given .0 .0 .end; id = c .piece .given .0 .0 .id })
 ends c =
     let h = head (c .before .before) in
-    longest-ends (parts (entry h)) (node (entry h)) (word (entry h)) (h .loop .at) (length (word (entry h))) (piece c)
+    longest-ends (find (entry h)) [] (word (entry h)) (h .loop .at) (length (word (entry h))) (piece c)
 
 loop-holds : tie.Need-loop-holds Inv-loop μ-loop
 loop-holds c =
@@ -71,7 +71,7 @@ loop-holds c =
     record {
       below = e .pre .1 .1;
       few = omega arith;
-      same = more-none (counted (restFrom (parts e) (node e) (word e) (e .args .i)));
+      same = more-none (counted (restFrom (find e) (word e) (e .args .i)));
       level = refl;
       stored = λ xs g. (xs, g, refl);
     }
@@ -93,7 +93,7 @@ returns c =
     let l = c .before .before in
     let h = head l in
     let e = entry h in
-    let miss = rest-miss (parts e) (node e) (word e) (h .loop .at) (l .before .loop-test .taken) (sym (l .longest .ensures) ∙ ap foundIn (c .enum-told .given .1)) in
+    let miss = rest-miss (find e) (word e) (h .loop .at) (l .before .loop-test .taken) (sym (l .longest .ensures) ∙ ap foundIn (c .enum-told .given .1)) in
     record {
       answered = sym (h .loop .inv .same ∙ ap (λ (o : Option (List ℕ)). more (h .loop .n) (counted o)) miss);
       held = λ xs g. absurd (none-some (sym miss ∙ h .loop .inv .stored xs g .1));
@@ -118,8 +118,8 @@ loop-again c =
     let h = head l in
     let e = entry h in
     let f : Found = record { end = p .piece .given .0 .0 .end; id = p .piece .given .0 .0 .id } in
-    let on = rest-piece (parts e) (node e) (word e) (h .loop .at) (l .before .loop-test .taken) (piece p) in
-    let later = restFrom (parts e) (node e) (word e) (f .end) in
+    let on = rest-piece (find e) (word e) (h .loop .at) (l .before .loop-test .taken) (piece p) in
+    let later = restFrom (find e) (word e) (f .end) in
     let n = h .loop .n in
     let one : n + 1 ≡ suc n = add-one n in
     let placed : call .hold .last .0 ≡ set (h .loop .held) n (f .id) = call .hold .ensures in
@@ -147,7 +147,7 @@ returns-2 c =
     let h = c .before in
     let e = entry h in
     let last : h .loop .at ≡ length (word e) = omega (arith, h .loop .inv .below, c .loop-test .left) in
-    let end = rest-end (parts e) (node e) (word e) (h .loop .at) last in
+    let end = rest-end (find e) (word e) (h .loop .at) last in
     record {
       answered =
           sym

@@ -1,16 +1,16 @@
 -- `wordpiece::checked::encode` meets its contract: by the word's length, its characters, its first piece, and then by the rest; a word has a place
 -- for each character. Assumes nothing.
 use mathlib.Core.Path.{_≡_, refl, sym, ap, _∙_}
-use mathlib.Core.List.{List}
-use mathlib.Core.Option.{some}
+use mathlib.Core.List.{List, []}
+use mathlib.Core.Option.{Option, some}
 use Prim.Native.Nat.{ℕ, _≤_, _<_}
 use native.Mathlib.Omega.{arith}
 use borrow.Author.Needs.{needs}
 use lib.ListN.{length}
-use Rattle.trie.specs.Trie.{Trie, partsOf}
+use Rattle.trie.specs.Trie.{Trie, partsOf, idFrom, idOf}
 use Rattle.wordpiece.specs.Pieces.{longestTo, piecesOf, orUnknown, idsOf}
 use Rattle.wordpiece.specs.Checked.{foundIn}
-use Rattle.wordpiece.proofs.Rest.{longest-ends, pieces-miss, some-character}
+use Rattle.wordpiece.proofs.Rest.{longest-ends, pieces-first, some-character}
 use Rattle.wordpiece.proofs.Plans.{ids-long, ids-short, ids-empty, missed, alone, written}
 use Rattle.wordpiece.proofs.checked.encode.Statement.{statement}
 use Rattle.wordpiece.proofs.checked.encode.Tie as tie
@@ -33,14 +33,18 @@ sought f = f .before .before
 abbrev parts : tie.Start → Trie
 parts e = partsOf (e .args .edge-at .now) (e .args .edge-n .now) (e .args .id .now) (e .args .byte .now) (e .args .to .now)
 
+-- the look-up in them
+abbrev find : tie.Start → List ℕ → Option ℕ
+find e = idOf (parts e)
+
 abbrev word : tie.Start → List ℕ
 word e = e .args .w .now
 
 abbrev pieces : tie.Start → List ℕ
-pieces e = orUnknown (e .args .unknown) (piecesOf (parts e) (e .args .prefix .now) (word e))
+pieces e = orUnknown (e .args .unknown) (piecesOf (find e) (e .args .prefix .now) (word e))
 
 abbrev all : tie.Start → List ℕ
-all e = idsOf (parts e) (e .args .unknown) (e .args .max-chars) (e .args .prefix .now) (word e)
+all e = idsOf (find e) (e .args .unknown) (e .args .max-chars) (e .args .prefix .now) (word e)
 
 -- ---- what is known of the word
 
@@ -55,16 +59,17 @@ place c = let e = entry c in omega (arith, some-character (word e) (e .pre .well
 short : (l : tie.After-longest) → all (begun l) ≡ pieces (begun l)
 short l =
     let e = begun l in
-    ids-short (parts e) (e .args .unknown) (e .args .max-chars) (e .args .prefix .now) (word e)
+    ids-short (find e) (e .args .unknown) (e .args .max-chars) (e .args .prefix .now) (word e)
     (sym (l .before .before .before .too-long .ensures) ∙ l .before .before .if2 .left)
 
 -- the longest piece at the start, as the definition has it
-found : (l : tie.After-longest) → longestTo (parts (begun l)) 0 (word (begun l)) 0 (length (word (begun l))) ≡ foundIn (l .longest .result)
+found : (l : tie.After-longest) → longestTo (find (begun l)) [] (word (begun l)) 0 (length (word (begun l))) ≡ foundIn (l .longest .result)
+unfolding idOf
 found l =
     let e = begun l in
-    sym (l .longest .ensures ∙ ap (λ (k : ℕ). longestTo (parts e) k (word e) 0 (length (word e))) (l .before .root .ensures))
+    sym (l .longest .ensures ∙ ap (λ (k : ℕ). longestTo (idFrom (parts e) k) [] (word e) 0 (length (word e))) (l .before .root .ensures))
 
-first : (f : tie.After-first) → longestTo (parts (begun (sought f))) 0 (word (begun (sought f))) 0 (length (word (begun (sought f)))) ≡ some (record { end = f .first .given .0 .0 .end; id = f .first .given .0 .0 .id })
+first : (f : tie.After-first) → longestTo (find (begun (sought f))) [] (word (begun (sought f))) 0 (length (word (begun (sought f)))) ≡ some (record { end = f .first .given .0 .0 .end; id = f .first .given .0 .0 .id })
 first f = found (sought f) ∙ ap foundIn (f .first .given .1)
 
 -- ---- the needs
@@ -72,7 +77,7 @@ first f = found (sought f) ∙ ap foundIn (f .first .given .1)
 returns : tie.Need-returns
 returns c =
     let e = c .before .before .before .before .before .before .before .before .before in
-    written (e .args .ids .now) (ids-empty (parts e) (e .args .unknown) (e .args .max-chars) (e .args .prefix .now) (word e) (c .if1 .taken)) (refl, refl)
+    written (e .args .ids .now) (ids-empty (find e) (e .args .unknown) (e .args .max-chars) (e .args .prefix .now) (word e) (c .if1 .taken)) (refl, refl)
 
 too-long-requires : tie.Need-too-long-requires
 too-long-requires c κs = search needs
@@ -89,7 +94,7 @@ returns-2 c =
     let arm = called .before .before in
     let e = entry (arm .before .before) in
     written (e .args .ids .now)
-    (ids-long (parts e) (e .args .unknown) (e .args .max-chars) (e .args .prefix .now) (word e) (sym (arm .before .too-long .ensures) ∙ arm .if2 .taken))
+    (ids-long (find e) (e .args .unknown) (e .args .max-chars) (e .args .prefix .now) (word e) (sym (arm .before .too-long .ensures) ∙ arm .if2 .taken))
     (called .put .ensures)
 
 root-requires : tie.Need-root-requires
@@ -120,8 +125,8 @@ returns-3 c =
     let n = nonempty l in
     let e = entry n in
     let m =
-    missed (parts e) (e .args .unknown) (e .args .prefix .now) (word e) (e .pre .well) (some-byte n)
-    (pieces-miss (parts e) (e .args .prefix .now) (word e) (some-byte n) (found l ∙ ap foundIn (told .enum-told .given .1))) in
+    missed (find e) (e .args .unknown) (e .args .prefix .now) (word e) (e .pre .well) (some-byte n)
+    (pieces-first (find e) (e .args .prefix .now) (word e) (some-byte n) (found l ∙ ap foundIn (told .enum-told .given .1))) in
     written (e .args .ids .now) (short l ∙ m .0) (called .put2 .ensures)
 
 put-requires-3 : tie.Need-put-requires-3
@@ -137,7 +142,7 @@ returns-4 c =
     let f = arm .before .before in
     let n = nonempty (sought f) in
     let e = entry n in
-    let m = alone (parts e) (e .args .unknown) (e .args .prefix .now) (word e) (e .pre .well) (some-byte n) (first f) (arm .if3 .taken) in
+    let m = alone (find e) (e .args .unknown) (e .args .prefix .now) (word e) (e .pre .well) (some-byte n) (first f) (arm .if3 .taken) in
     written (e .args .ids .now) (short (sought f) ∙ m .0) (called .put3 .ensures)
 
 encode-rest-requires : tie.Need-encode-rest-requires
@@ -145,7 +150,7 @@ encode-rest-requires c κs =
     let arm = c .before in
     let f = arm .before .before in
     let e = begun (sought f) in
-    let s = longest-ends (parts e) 0 (word e) 0 (length (word e)) (first f) in
+    let s = longest-ends (find e) [] (word e) 0 (length (word e)) (first f) in
     (e .pre, record { longest = first f; below = omega (arith, s .below, arm .if3 .left) })
 
 same-length-4 : tie.Need-same-length-4

@@ -3,11 +3,12 @@
 use mathlib.Core.Path.{_≡_, sym, ap, _∙_}
 use mathlib.Core.List.{List, [], _∷_}
 use mathlib.Core.Option.{some}
-use Prim.Native.Nat.{ℕ, _≤_}
+use Prim.Native.Nat.{ℕ, _≤_, _<_}
 use native.Mathlib.Omega.{arith}
 use borrow.Author.Needs.{needs}
+use lib.ListN.{length}
 use Rattle.text.specs.Text.{characters}
-use Rattle.trie.specs.Trie.{Trie, partsOf, walk}
+use Rattle.trie.specs.Trie.{Trie, partsOf, walk, idFrom, idOf}
 use Rattle.trie.specs.Walks.{nextOf}
 use Rattle.trie.proofs.Walking.{walk-inside}
 use Rattle.wordpiece.specs.Pieces.{piecesOf, orUnknown}
@@ -31,7 +32,7 @@ abbrev prefix : tie.Start → List ℕ
 prefix e = e .args .prefix .now
 
 abbrev all : tie.Start → List ℕ
-all e = orUnknown (e .args .unknown) (piecesOf (parts e) (prefix e) (word e))
+all e = orUnknown (e .args .unknown) (piecesOf (idOf (parts e)) (prefix e) (word e))
 
 -- from the node that the rest goes on from, and to it from the walk over the rest
 abbrev begun : tie.After-rest → tie.Start
@@ -51,6 +52,9 @@ walked o =
 -- to the node that the rest goes on from
 at : (r : tie.After-rest) → walk (parts (begun r)) 0 (prefix (begun r)) ≡ some (r .rest .given .0 .0 .node)
 at r = walked (r .before .before) ∙ ap nextOf (r .rest .given .1)
+
+inside : (r : tie.After-rest) → r .rest .given .0 .0 .node < length (parts (begun r) .edgeAt)
+inside r = let s = begun r .pre .0 .parts in walk-inside s 0 (prefix (begun r)) (s .some-node) (at r)
 
 -- nowhere
 missing : (c : tie.After-enum-told) → (all (entry (c .before .before)) ≡ entry (c .before .before) .args .unknown ∷ []) × (1 ≤ characters (word (entry (c .before .before))))
@@ -77,12 +81,12 @@ missed c =
 abbrev counting : tie.After-n → tie.After-count-rest
 counting c = c .before .before .before
 
-pieces : (c : tie.After-n) → Follows (parts (begun (walked-from (counting c)))) (word (begun (walked-from (counting c)))) (walked-from (counting c) .rest .given .0 .0 .node) (begun (walked-from (counting c)) .args .first .end) (begun (walked-from (counting c)) .args .first .id) (all (begun (walked-from (counting c))))
+pieces : (c : tie.After-n) → Follows (idFrom (parts (begun (walked-from (counting c)))) (walked-from (counting c) .rest .given .0 .0 .node)) (word (begun (walked-from (counting c)))) (begun (walked-from (counting c)) .args .first .end) (begun (walked-from (counting c)) .args .first .id) (all (begun (walked-from (counting c))))
 pieces c =
     let k = counting c in
     let r = walked-from k in
     let e = begun r in
-    follows (parts e) (e .args .unknown) (prefix e) (word e) (e .pre .0 .well) (e .pre .1) (at r) (e .pre .0 .parts)
+    follows (parts e) (e .args .unknown) (prefix e) (word e) (e .pre .0 .well) (e .pre .1) (at r)
     (sym (ap countIn (c .n .given .1)) ∙ k .count-rest .ensures .answered)
 
 root-requires : tie.Need-root-requires
@@ -120,7 +124,7 @@ count-rest-requires : tie.Need-count-rest-requires
 count-rest-requires c κs =
     let r = c .before .before in
     let e = begun r in
-    (e .pre .0 .parts, (walk-inside (e .pre .0 .parts) 0 (prefix e) (e .pre .0 .parts .some-node) (at r), omega (arith, e .pre .1 .below)))
+    (e .pre .0 .parts, (inside r, omega (arith, e .pre .1 .below)))
 
 enum-known-n : tie.Need-enum-known-n
 enum-known-n c = search needs
@@ -136,7 +140,7 @@ put-all-requires c κs =
     let f = pieces bound in (
       e .pre .0 .parts,
       (
-        f .inside,
+        inside (walked-from k),
         (
           record { below = f .below; ids = f .ids; rest = f .rest; room = omega (arith, f .few, e .pre .0 .room) },
           walk-holds (k .count-rest .ensures) (ap countIn (bound .n .given .1)),

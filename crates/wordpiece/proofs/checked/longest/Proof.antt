@@ -3,7 +3,7 @@
 -- measure is what is left of the word. Assumes nothing.
 use mathlib.Core.Path.{_≡_, refl, sym, ap, _∙_}
 use mathlib.Core.Bool.{Bool}
-use mathlib.Core.List.{List}
+use mathlib.Core.List.{List, []}
 use mathlib.Core.Option.{Option, some}
 use Prim.Native.Nat.{ℕ, suc, _+_, _-_, _≤_, _<_}
 use native.Mathlib.Numerals.{add-one}
@@ -11,7 +11,7 @@ use native.Mathlib.Omega.{arith}
 use borrow.Author.Needs.{needs}
 use lib.ListN.{length, getD, take, drop}
 use Rattle.text.specs.Text.{part}
-use Rattle.trie.specs.Trie.{Trie, partsOf, walk, step}
+use Rattle.trie.specs.Trie.{Trie, partsOf, walk, step, idFrom}
 use Rattle.trie.specs.Walks.{nextOf}
 use Rattle.trie.proofs.Walking.{walk-nil, step-inside}
 use Rattle.wordpiece.specs.Pieces.{Found, longestTo}
@@ -26,7 +26,7 @@ pub record Here (t : Trie) (k : ℕ) (w : List ℕ) (i node j end last : ℕ) : 
   pub below : j ≤ length w
   pub inside : node < length (t .edgeAt)
   pub walked : walk t k (part w i j) ≡ some node
-  pub longest : foundSince i end last ≡ longestTo t k w i j
+  pub longest : foundSince i end last ≡ longestTo (idFrom t k) [] w i j
 
 abbrev Inv-loop : tie.InvT-loop
 Inv-loop edge-at edge-n id byte to w i node₀ j₀ end₀ last₀ node j end last =
@@ -58,7 +58,7 @@ word e = e .args .w .now
 
 -- the longest piece that ends at j or before, j from the loop's head
 abbrev longest-to : tie.At-loop Inv-loop μ-loop → ℕ → Option Found
-longest-to h j = let e = entry h in longestTo (parts e) (e .args .from .node) (word e) (e .args .i) j
+longest-to h j = let e = entry h in longestTo (idFrom (parts e) (e .args .from .node)) [] (word e) (e .args .i) j
 
 -- where the step leads
 stepped : (s : tie.After-step Inv-loop μ-loop) → nextOf (s .step .result) ≡ step (parts (entry (head s))) (head s .loop .node) (getD (word (entry (head s))) (head s .loop .j) 0)
@@ -112,7 +112,7 @@ loop-holds c =
       walked =
           ap (λ (n : ℕ). walk (parts e) (e .args .from .node) (take n (drop i (word e)))) none-yet
           ∙ walk-nil (parts e) (e .args .from .node);
-      longest = since-none i i 0 refl ∙ sym (longest-start (parts e) (e .args .from .node) (word e) i i (omega arith));
+      longest = since-none i i 0 refl ∙ sym (longest-start (idFrom (parts e) (e .args .from .node)) [] (word e) i i (omega arith));
     }
 
 shared-slice-read-step : tie.Need-shared-slice-read-step Inv-loop μ-loop

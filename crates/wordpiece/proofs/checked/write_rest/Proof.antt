@@ -10,25 +10,26 @@ use native.Mathlib.Omega.{arith}
 use borrow.Author.Needs.{needs}
 use lib.ListN.{length, set, length-set}
 use lib.Seq.{sets}
-use Rattle.trie.specs.Trie.{Trie, partsOf}
+use Rattle.trie.specs.Trie.{partsOf, idFrom}
 use Rattle.wordpiece.specs.Pieces.{Found, longestTo}
 use Rattle.wordpiece.specs.Checked.{foundIn, restFrom}
-use Rattle.wordpiece.proofs.Rest.{none-some, Ends, longest-ends, rest-end, rest-miss, rest-piece, before-some}
+use Rattle.wordpiece.proofs.Longest.{none-some}
+use Rattle.wordpiece.proofs.Rest.{Ends, longest-ends, rest-end, rest-miss, rest-piece, before-some}
 use Rattle.wordpiece.proofs.checked.write_rest.Statement.{statement}
 use Rattle.wordpiece.proofs.checked.write_rest.Tie as tie
 
 -- where the loop stands: `left` is still to be written, from place n on
-pub record Here (t : Trie) (k : ℕ) (w : List ℕ) (i : ℕ) (places : List ℕ) (ids : List ℕ) (at n : ℕ) : Type 0 where
+pub record Here (find : List ℕ → Option ℕ) (w : List ℕ) (i : ℕ) (places : List ℕ) (ids : List ℕ) (at n : ℕ) : Type 0 where
   pub below : at ≤ length w
   pub left : List ℕ
-  pub rest : restFrom t k w at ≡ some left
+  pub rest : restFrom find w at ≡ some left
   pub room : n + length left ≤ length ids
   pub level : length ids ≡ length places
-  pub all : (xs : List ℕ) → restFrom t k w i ≡ some xs → (1 + length xs ≡ n + length left) × (sets places 1 xs ≡ sets ids n left)
+  pub all : (xs : List ℕ) → restFrom find w i ≡ some xs → (1 + length xs ≡ n + length left) × (sets places 1 xs ≡ sets ids n left)
 
 abbrev Inv-loop : tie.InvT-loop
 Inv-loop edge-at edge-n id byte to rest w i ids₀ at₀ n₀ ids at n =
-    Here (partsOf edge-at edge-n id byte to) (rest .node) w i ids₀ ids at n
+    Here (idFrom (partsOf edge-at edge-n id byte to) (rest .node)) w i ids₀ ids at n
 
 abbrev μ-loop : tie.MeasureT-loop
 μ-loop edge-at edge-n id byte to rest w i ids₀ at₀ n₀ ids at n = length w - at
@@ -39,32 +40,31 @@ entry h = h .before .before .before .before .before .before .before .before
 abbrev head : tie.After-longest Inv-loop μ-loop → tie.At-loop Inv-loop μ-loop
 head c = c .before .before
 
-abbrev parts : tie.Start Inv-loop μ-loop → Trie
-parts e = partsOf (e .args .edge-at .now) (e .args .edge-n .now) (e .args .id .now) (e .args .byte .now) (e .args .to .now)
-
-abbrev node : tie.Start Inv-loop μ-loop → ℕ
-node e = e .args .rest .node
+-- the look-up that goes on from the walk's node
+abbrev find : tie.Start Inv-loop μ-loop → List ℕ → Option ℕ
+find e =
+    idFrom (partsOf (e .args .edge-at .now) (e .args .edge-n .now) (e .args .id .now) (e .args .byte .now) (e .args .to .now)) (e .args .rest .node)
 
 abbrev word : tie.Start Inv-loop μ-loop → List ℕ
 word e = e .args .w .now
 
 -- the piece that was found, as the definition has it
-piece : (c : tie.After-piece Inv-loop μ-loop) → longestTo (parts (entry (head (c .before .before)))) (node (entry (head (c .before .before)))) (word (entry (head (c .before .before)))) (head (c .before .before) .loop .at) (length (word (entry (head (c .before .before))))) ≡ some (record { end = c .piece .given .0 .0 .end; id = c .piece .given .0 .0 .id })
+piece : (c : tie.After-piece Inv-loop μ-loop) → longestTo (find (entry (head (c .before .before)))) [] (word (entry (head (c .before .before)))) (head (c .before .before) .loop .at) (length (word (entry (head (c .before .before))))) ≡ some (record { end = c .piece .given .0 .0 .end; id = c .piece .given .0 .0 .id })
 piece c = sym (c .before .before .longest .ensures) ∙ ap foundIn (c .piece .given .1)
 
 ends : (c : tie.After-piece Inv-loop μ-loop) → Ends (word (entry (head (c .before .before)))) (head (c .before .before) .loop .at) (length (word (entry (head (c .before .before))))) (record { end = c .piece .given .0 .0 .end; id = c .piece .given .0 .0 .id })
 ends c =
     let h = head (c .before .before) in
-    longest-ends (parts (entry h)) (node (entry h)) (word (entry h)) (h .loop .at) (length (word (entry h))) (piece c)
+    longest-ends (find (entry h)) [] (word (entry h)) (h .loop .at) (length (word (entry h))) (piece c)
 
 -- the piece is the first of what is left
-turn : (c : tie.After-piece Inv-loop μ-loop) → (zs : List ℕ) × (restFrom (parts (entry (head (c .before .before)))) (node (entry (head (c .before .before)))) (word (entry (head (c .before .before)))) (c .piece .given .0 .0 .end) ≡ some zs) × (head (c .before .before) .loop .inv .left ≡ c .piece .given .0 .0 .id ∷ zs)
+turn : (c : tie.After-piece Inv-loop μ-loop) → (zs : List ℕ) × (restFrom (find (entry (head (c .before .before)))) (word (entry (head (c .before .before)))) (c .piece .given .0 .0 .end) ≡ some zs) × (head (c .before .before) .loop .inv .left ≡ c .piece .given .0 .0 .id ∷ zs)
 turn c =
     let l = c .before .before in
     let h = head l in
     let e = entry h in
-    before-some (c .piece .given .0 .0 .id) (restFrom (parts e) (node e) (word e) (c .piece .given .0 .0 .end))
-    (sym (rest-piece (parts e) (node e) (word e) (h .loop .at) (l .before .loop-test .taken) (piece c)) ∙ h .loop .inv .rest)
+    before-some (c .piece .given .0 .0 .id) (restFrom (find e) (word e) (c .piece .given .0 .0 .end))
+    (sym (rest-piece (find e) (word e) (h .loop .at) (l .before .loop-test .taken) (piece c)) ∙ h .loop .inv .rest)
 
 -- so there is a place for it
 place : (c : tie.After-piece Inv-loop μ-loop) → head (c .before .before) .loop .n < length (head (c .before .before) .loop .ids)
@@ -77,7 +77,7 @@ never c =
     let h = head l in
     let e = entry h in
     none-some
-    (sym (rest-miss (parts e) (node e) (word e) (h .loop .at) (l .before .loop-test .taken) (sym (l .longest .ensures) ∙ ap foundIn (c .enum-told .given .1)))
+    (sym (rest-miss (find e) (word e) (h .loop .at) (l .before .loop-test .taken) (sym (l .longest .ensures) ∙ ap foundIn (c .enum-told .given .1)))
     ∙ h .loop .inv .rest)
 
 loop-holds : tie.Need-loop-holds Inv-loop μ-loop
@@ -148,7 +148,7 @@ returns-2 c xs g =
     let h = c .before in
     let e = entry h in
     let last : h .loop .at ≡ length (word e) = omega (arith, h .loop .inv .below, c .loop-test .left) in
-    let none-left : h .loop .inv .left ≡ [] = cc (rest-end (parts e) (node e) (word e) (h .loop .at) last, h .loop .inv .rest) in
+    let none-left : h .loop .inv .left ≡ [] = cc (rest-end (find e) (word e) (h .loop .at) last, h .loop .inv .rest) in
     let r = h .loop .inv .all xs g in
     (omega (arith, r .0, ap length none-left), sym (r .1 ∙ ap (sets (h .loop .ids) (h .loop .n)) none-left))
 

@@ -1,4 +1,4 @@
--- `wordpiece::judge` meets its contract: each test that is passed is a fact for the next. Assumes nothing.
+-- `wordpiece::checked::judge` meets its contract: each test that is passed is a fact for the next. Assumes nothing.
 use mathlib.Core.Path.{_≡_, sym, _∙_}
 use mathlib.Core.Bool.{true}
 use mathlib.Core.List.{List}
@@ -11,8 +11,8 @@ use Rattle.text.proofs.Valid.{short-ill, whole-well}
 use Rattle.trie.specs.Trie.{Trie}
 use Rattle.trie.specs.Sound.{sound}
 use Rattle.wordpiece.proofs.Faults.{fault-word, fault-prefix, fault-trie, fault-text, fault-mark, fault-ids, fault-none}
-use Rattle.wordpiece.proofs.judge.Statement.{statement}
-use Rattle.wordpiece.proofs.judge.Tie as tie
+use Rattle.wordpiece.proofs.checked.judge.Statement.{statement}
+use Rattle.wordpiece.proofs.checked.judge.Tie as tie
 
 -- ---- the ways back: from each test that was passed to the one before
 
@@ -40,7 +40,7 @@ prefix e = e .args .prefix .now
 -- ---- what each says
 
 -- parts of which the test was right
-sound-parts : (c : tie.Else3) (t : Trie) → sound t ≡ tested c .args .tested → sound t ≡ true
+sound-parts : (c : tie.Else3) (t : Trie) → sound t ≡ tested c .args .sound → sound t ≡ true
 sound-parts c t s = s ∙ not-false _ (c .if3 .left)
 
 word-well : (c : tie.Else4) → wellFormed (word (read c)) ≡ true
