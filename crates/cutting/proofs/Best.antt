@@ -1,21 +1,24 @@
--- A record meets the law of demand 3, and nothing else does, for any rule of what a piece is. What carries the law (`Standing`): a full record is
--- one of the candidates offered, every candidate is at most it, and those from earlier starts are strictly less. The one real step: a cutting
--- before i scores at most the record at i, so with a further piece it scores at most the candidate offered (`sum-mono`). Assumes nothing.
+-- A record meets the law of demand 3, and nothing else does, by any rule. What carries the law (`Standing`): a full record is
+-- one of the pieces offered, every piece offered has at most its sum, and those that were offered sooner have less. The one
+-- real step: a cutting before i scores at most what stands there, so with a further piece it scores at most what that piece was
+-- offered with (`sum-mono`). Assumes nothing.
 use mathlib.Core.Path.{_≡_, refl, sym, ap, subst, _∙_}
 use mathlib.Core.Bool.{Bool, true, false, not, _&&_, _||_, cond}
+use mathlib.Core.List.{List, [], _∷_}
 use mathlib.Core.Logic.{_⊎_, inl, inr, ⊎-elim}
 use mathlib.Core.Option.{Option, none, some}
-use Prim.Native.Nat.{ℕ, zero, suc, _+_, _≤_, _<_}
+use Prim.Native.Nat.{ℕ, zero, suc, _+_, _-_, _≤_, _<_}
+use native.Mathlib.Nat.{zero-add}
 use native.Mathlib.Omega.{arith}
 use lib.Dec.{T, eqb, eqb→eq, ltb→lt}
-use Rattle.doubles.specs.Double.{Double, notANumber, infinite, finite, plusZero, sum, less, same, atMost, isNumber, isFinite}
+use Rattle.doubles.specs.Double.{Double, notANumber, infinite, finite, plusZero, sum, less, same, atMost, isNumber}
 use Rattle.doubles.proofs.Order.{less-at-most, at-most-refl, not-less-at-most, at-most-antisymm, at-most-trans, at-most-less-trans, same-equal}
 use Rattle.doubles.proofs.Sums.{sum-number, sum-mono, never-minus-zero}
-use Rattle.cutting.specs.Cuttings.{Piece, Slot, Cutting, empty, then, total, whole, Best}
-use Rattle.cutting.specs.Records.{scoreOf, offered, candidate, best}
+use Rattle.cutting.specs.Cuttings.{Piece, Rule, Slot, nth, Cutting, empty, then, total, Through, whole, Best}
+use Rattle.cutting.specs.Records.{offered, candidate, offeredAll, best, standsAt}
 use Rattle.cutting.proofs.Laws.{keeps, takes}
 use Rattle.cutting.proofs.Lists.{below-or}
-use Rattle.cutting.proofs.Working.{Pieces, no-piece, looked, worked, passed, none-before, true-false}
+use Rattle.cutting.proofs.Working.{Pieces, no-piece, true-false, looked, worked, passed, none-before, stands-first, stands-record, record-stands}
 
 some-same : {A : Type 0} {x y : A} → some x ≡ some y → x ≡ y
 some-same e = cc
@@ -63,6 +66,13 @@ same-less (finite true m) (finite true n) e l =
     let h : m ≡ n = eqb→eq m n (both (eqb m n) (true || eqb m 0) e .0) in
     omega (arith, ltb→lt n m l)
 
+none-true : (t : Bool) → (T t → ⊥) → T (not t)
+none-true true h = absurd (h tt)
+none-true false h = tt
+
+same-at-most : (a b : Double) → T (isNumber a) → T (isNumber b) → T (same a b) → T (atMost b a)
+same-at-most a b m n e = not-less-at-most a b m n (none-true (less a b) (same-less a b e))
+
 pub zero-number : T (isNumber plusZero)
 unfolding isNumber
 zero-number = tt
@@ -70,245 +80,309 @@ zero-number = tt
 pub zero-plus : plusZero ≡ finite true 0 → ⊥
 zero-plus e = let z : true ≡ false = cc in true-false refl z
 
-pub score-of : {o : Option Slot} (r : Slot) → o ≡ some r → scoreOf o ≡ r .score
-unfolding scoreOf
-score-of r e = ap scoreOf e
+-- ---- what is offered, and in which order
 
-zero-at-most : T (atMost plusZero (scoreOf none))
-unfolding scoreOf
-zero-at-most = at-most-refl plusZero zero-number
+-- piece k from i comes before piece m from `from`
+abbrev pub Sooner : ℕ → ℕ → ℕ → ℕ → Type 0
+Sooner i k from m = (i < from) ⊎ ((i ≡ from) × (k < m))
 
--- ---- what stands in a record
+sooner-more : {i k from m : ℕ} → Sooner i k from (suc m) → Sooner i k from m ⊎ ((i ≡ from) × (k ≡ m))
+sooner-more (inl l) = inl (inl l)
+sooner-more {k = k} {m = m} (inr w) = ⊎-elim (λ (h : k < m). inl (inr (w .0, h))) (λ (h : m ≤ k). inr (w .0, let l = w .1 in omega arith)) (below-or k m)
 
-module _ {boundary : ℕ → Bool} {end : ℕ} {P : ℕ → ℕ → Option Piece} (g : Pieces boundary end P) where
-  -- the score that stands before i
-  abbrev before : ℕ → Double
-  before i = scoreOf (best P i i)
+sooner-wide : {i k from m : ℕ} → Sooner i k from m → Sooner i k from (suc m)
+sooner-wide (inl l) = inl l
+sooner-wide (inr w) = inr (w .0, let l = w .1 in omega arith)
 
-  offered-score : (Q : Double → Type 0) (o : Option Slot) (q : Slot) → Q (scoreOf o) → Q (q .score) → Q (scoreOf (some (offered o q)))
-  unfolding scoreOf offered
-  offered-score Q none q a b = b
-  offered-score Q (some r) q a b = pick (less (r .score) (q .score))
-    where
-      pick : (t : Bool) → Q (scoreOf (some (cond t q r)))
-      pick true = b
-      pick false = a
+sooner-start : {i k from m : ℕ} → Sooner i k from m → Sooner i k (suc from) 0
+sooner-start (inl l) = inl (omega arith)
+sooner-start (inr w) = inl (let e = w .0 in omega arith)
 
-  -- what holds of +0, and with any x of x and a piece's score added, holds of every record's score
-  scores : (Q : Double → Type 0) → Q plusZero → ((x : Double) (p : Piece) → T (isFinite (p .score)) → Q x → Q (sum x (p .score))) → (from j : ℕ) → Q (scoreOf (best P from j))
-  unfolding scoreOf candidate
-  scores Q base more zero j = subst (λ (o : Option Slot). Q (scoreOf o)) (sym (none-before P j)) base
-  scores Q base more (suc i) j =
-      ⊎-elim
-      (λ (e : P i j ≡ none). subst (λ (o : Option Slot). Q (scoreOf o)) (sym (passed P i j e)) (scores Q base more i j))
-      (λ (w : (p : Piece) × (P i j ≡ some p)).
-      subst (λ (o : Option Slot). Q (scoreOf o)) (sym (worked P i j (w .0) (w .1)))
-      (offered-score Q (best P i j) (candidate (before i) i (w .0)) (scores Q base more i j) (more (before i) (w .0) (g .finite i j (w .0) (w .1)) (scores Q base more i i))))
-      (looked (P i j))
+pub sooner-below : {i k from : ℕ} → Sooner i k from 0 → i < from
+sooner-below (inl l) = l
+sooner-below (inr w) = absurd (let l = w .1 in omega arith)
 
-  pub score-number : (from j : ℕ) → T (isNumber (scoreOf (best P from j)))
-  score-number = scores (λ x. T (isNumber x)) zero-number (λ x p f h. sum-number x (p .score) h f)
-
-  pub score-not-minus : (from j : ℕ) → scoreOf (best P from j) ≡ finite true 0 → ⊥
-  score-not-minus = scores (λ x. x ≡ finite true 0 → ⊥) zero-plus (λ x p f h. never-minus-zero x (p .score) h)
-
-  -- the candidate from i that the piece p ends
-  abbrev cand : ℕ → Piece → Double
-  cand i p = sum (before i) (p .score)
-
-  cand-number : (i j : ℕ) (p : Piece) → P i j ≡ some p → T (isNumber (cand i p))
-  cand-number i j p e = sum-number (before i) (p .score) (score-number i i) (g .finite i j p e)
-
-  -- a full record at j when the starts below `from` have been worked
-  pub record Standing (from j : ℕ) (r : Slot) : Type 0 where
-    pub below : r .start < from
+module _ {end : ℕ} {rule : Rule} (g : Pieces end rule) where
+  -- piece k from i to j is offered with the sum y, which counts
+  pub record Offer (j i k : ℕ) (y : Double) : Type 0 where
+    pub till : Double
+    pub stands : standsAt rule i ≡ some till
     pub piece : Piece
-    pub is : P (r .start) j ≡ some piece
-    pub named : piece .id ≡ r .id
-    pub scored : cand (r .start) piece ≡ r .score
-    pub greatest : (i : ℕ) (q : Piece) → i < from → P i j ≡ some q → T (atMost (cand i q) (r .score))
-    pub earlier : (i : ℕ) (q : Piece) → i < r .start → P i j ≡ some q → T (less (cand i q) (r .score))
+    pub is : nth (rule .pieces i j) k ≡ some piece
+    pub sums : sum till (piece .score) ≡ y
+    pub counts : T (rule .counts y)
 
-  abbrev Status : ℕ → ℕ → Option Slot → Type 0
-  Status from j o = ((o ≡ none) × ((i : ℕ) → i < from → P i j ≡ none)) ⊎ ((r : Slot) × (o ≡ some r) × Standing from j r)
+  -- a full record at j when the starts below `from` have been worked, and the first m pieces from there
+  pub record Standing (from m j : ℕ) (r : Slot) : Type 0 where
+    pub place : ℕ
+    pub offer : Offer j (r .start) place (r .score)
+    pub named : offer .piece .id ≡ r .id
+    pub below : Sooner (r .start) place from m
+    pub greatest : (i k : ℕ) (y : Double) → Sooner i k from m → Offer j i k y → T (atMost y (r .score))
+    pub earlier : (i k : ℕ) (y : Double) → Sooner i k (r .start) place → Offer j i k y → T (less y (r .score))
 
-  -- every index below suc i is below i or i
-  split : {Q : ℕ → Type 0} (i : ℕ) → ((k : ℕ) → k < i → Q k) → Q i → (k : ℕ) → k < suc i → Q k
-  split {Q} i all here k l =
-      ⊎-elim (λ (h : k < i). all k h) (λ (h : i ≤ k). subst Q (let e : i ≡ k = omega arith in e) here) (below-or k i)
+  abbrev Status : ℕ → ℕ → ℕ → Option Slot → Type 0
+  Status from m j o = ((o ≡ none) × ((i k : ℕ) (y : Double) → Sooner i k from m → Offer j i k y → ⊥)) ⊎ ((r : Slot) × (o ≡ some r) × Standing from m j r)
 
-  -- with no piece from i
-  still : (i j : ℕ) (o : Option Slot) → P i j ≡ none → Status i j o → Status (suc i) j o
-  still i j o e (inl w) = inl (w .0, split {Q = λ k. P k j ≡ none} i (w .1) e)
-  still i j o e (inr w) =
+  -- with nothing offered by piece m from i
+  still : (i m j : ℕ) (o : Option Slot) → ((y : Double) → Offer j i m y → ⊥) → Status i m j o → Status i (suc m) j o
+  still i m j o no-such (inl w) =
+      inl (w .0, λ a b y l f. ⊎-elim (λ (h : Sooner a b i m). w .1 a b y h f) (λ (h : (a ≡ i) × (b ≡ m)). no-such y (moved h f)) (sooner-more l))
+    where
+      moved : {a b : ℕ} {y : Double} → (a ≡ i) × (b ≡ m) → Offer j a b y → Offer j i m y
+      moved {a} {b} {y} h f = subst (λ (n : ℕ). Offer j i n y) (h .1) (subst (λ (n : ℕ). Offer j n b y) (h .0) f)
+  still i m j o no-such (inr w) =
       let s = w .2 in
       inr (
         w .0,
         w .1,
         record {
-          below = omega (arith, s .below);
-          piece = s .piece;
-          is = s .is;
+          place = s .place;
+          offer = s .offer;
           named = s .named;
-          scored = s .scored;
-          greatest = λ k q l h. split {Q = λ n. (q : Piece) → P n j ≡ some q → T (atMost (cand n q) (w .0 .score))} i (λ n m q. s .greatest n q m) (λ q h. absurd (no-piece (sym e ∙ h))) k l q h;
-          earlier = s .earlier;
-        },
-      )
-
-  -- the candidate itself stands, where all before it are strictly less
-  fresh : (i j : ℕ) (p : Piece) → P i j ≡ some p → ((k : ℕ) (q : Piece) → k < i → P k j ≡ some q → T (less (cand k q) (cand i p))) → Standing (suc i) j (candidate (before i) i p)
-  unfolding candidate
-  fresh i j p e all =
-      record {
-        below = omega arith;
-        piece = p;
-        is = e;
-        named = refl;
-        scored = refl;
-        greatest = λ k q l h.
-            split {Q = λ n. (q : Piece) → P n j ≡ some q → T (atMost (cand n q) (cand i p))} i (λ n m q h. less-at-most (cand n q) (cand i p) (all n q m h))
-            (λ q h. subst (λ (x : Piece). T (atMost (cand i x) (cand i p))) (some-same (sym e ∙ h)) (at-most-refl (cand i p) (cand-number i j p e))) k l q h;
-        earlier = λ k q l h. all k q l h;
-      }
-
-  -- offered to a full record
-  weigh :
-      (i j : ℕ) (p : Piece) (o : Option Slot) → P i j ≡ some p → (r : Slot) → o ≡ some r → Standing i j r → (t : Bool) → less (r .score) (cand i p) ≡ t
-      → Status (suc i) j (some (offered o (candidate (before i) i p)))
-  unfolding candidate
-  weigh i j p o e r full s true h =
-      inr (
-        candidate (before i) i p,
-        ap (λ (x : Option Slot). some (offered x (candidate (before i) i p))) full ∙ ap some (takes r (candidate (before i) i p) h),
-        fresh i j p e (λ k q l f. at-most-less-trans (cand k q) (r .score) (cand i p) (s .greatest k q l f) (of-true h)),
-      )
-  weigh i j p o e r full s false h =
-      inr (
-        r,
-        ap (λ (x : Option Slot). some (offered x (candidate (before i) i p))) full ∙ ap some (keeps r (candidate (before i) i p) h),
-        record {
-          below = omega (arith, s .below);
-          piece = s .piece;
-          is = s .is;
-          named = s .named;
-          scored = s .scored;
-          greatest = λ k q l f.
-              split {Q = λ n. (q : Piece) → P n j ≡ some q → T (atMost (cand n q) (r .score))} i (λ n m q. s .greatest n q m)
-              (λ q f. subst (λ (x : Piece). T (atMost (cand i x) (r .score))) (some-same (sym e ∙ f)) (not-less-at-most (r .score) (cand i p) number (cand-number i j p e) (of-false h))) k l q f;
+          below = sooner-wide (s .below);
+          greatest = λ a b y l f. ⊎-elim (λ (h : Sooner a b i m). s .greatest a b y h f) (λ (h : (a ≡ i) × (b ≡ m)). absurd (no-such y (moved h f))) (sooner-more l);
           earlier = s .earlier;
         },
       )
     where
-      number : T (isNumber (r .score))
-      number = subst (λ (x : Double). T (isNumber x)) (s .scored) (cand-number (r .start) j (s .piece) (s .is))
+      moved : {a b : ℕ} {y : Double} → (a ≡ i) × (b ≡ m) → Offer j a b y → Offer j i m y
+      moved {a} {b} {y} h f = subst (λ (n : ℕ). Offer j i n y) (h .1) (subst (λ (n : ℕ). Offer j n b y) (h .0) f)
 
-  -- the piece p from i is offered to a record
-  offers : (i j : ℕ) (p : Piece) (o : Option Slot) → P i j ≡ some p → Status i j o → Status (suc i) j (some (offered o (candidate (before i) i p)))
-  unfolding offered
-  offers i j p o e (inl w) =
-      inr (candidate (before i) i p, ap (λ (x : Option Slot). some (offered x (candidate (before i) i p))) (w .0), fresh i j p e (λ k q l h. absurd (no-piece (sym (w .1 k l) ∙ h))))
-  offers i j p o e (inr w) = weigh i j p o e (w .0) (w .1) (w .2) (less (w .0 .score) (cand i p)) refl
+  -- with no more pieces from i
+  later : (i m j : ℕ) (o : Option Slot) → ((k : ℕ) (y : Double) → m ≤ k → Offer j i k y → ⊥) → Status i m j o → Status (suc i) 0 j o
+  later i m j o no-such st = go st
+    where
+      before-m : (a b : ℕ) (y : Double) → Sooner a b (suc i) 0 → Offer j a b y → Sooner a b i m
+      before-m a b y l f =
+          ⊎-elim (λ (h : a < i). inl h)
+          (λ (h : i ≤ a).
+          let e : a ≡ i = let q = sooner-below l in omega arith in
+          ⊎-elim (λ (q : b < m). inr (e, q)) (λ (q : m ≤ b). absurd (no-such b y q (subst (λ (n : ℕ). Offer j n b y) e f))) (below-or b m))
+          (below-or a i)
 
-  pub status : (from j : ℕ) → Status from j (best P from j)
-  status zero j = inl (none-before P j, λ i l. absurd (omega arith))
+      go : Status i m j o → Status (suc i) 0 j o
+      go (inl w) = inl (w .0, λ a b y l f. w .1 a b y (before-m a b y l f) f)
+      go (inr w) =
+          let s = w .2 in
+          inr (
+            w .0,
+            w .1,
+            record {
+              place = s .place;
+              offer = s .offer;
+              named = s .named;
+              below = sooner-start (s .below);
+              greatest = λ a b y l f. s .greatest a b y (before-m a b y l f) f;
+              earlier = s .earlier;
+            },
+          )
+
+  module _ (i j m : ℕ) (x : Double) (p : Piece) (stands : standsAt rule i ≡ some x) (is : nth (rule .pieces i j) m ≡ some p) where
+    abbrev cand : Double
+    cand = sum x (p .score)
+
+    -- piece m from i has one sum
+    one-sum : (y : Double) → Offer j i m y → y ≡ cand
+    one-sum y f =
+        let a : f .till ≡ x = some-same (sym (f .stands) ∙ stands) in
+        let b : f .piece ≡ p = some-same (sym (f .is) ∙ is) in
+        sym (f .sums) ∙ ap (λ (z : Double). sum z (f .piece .score)) a ∙ ap (λ (q : Piece). sum x (q .score)) b
+
+    module _ (counts : T (rule .counts cand)) where
+      abbrev here : Offer j i m cand
+      here = record { till = x; stands = stands; piece = p; is = is; sums = refl; counts = counts }
+
+      at-here : (r : Slot) → ((a b : ℕ) (y : Double) → Sooner a b i m → Offer j a b y → T (atMost y (r .score))) → T (atMost cand (r .score)) → (a b : ℕ) (y : Double) → Sooner a b i (suc m) → Offer j a b y → T (atMost y (r .score))
+      at-here r all most a b y l f =
+          ⊎-elim (λ (h : Sooner a b i m). all a b y h f)
+          (λ (h : (a ≡ i) × (b ≡ m)).
+          let f′ : Offer j i m y = subst (λ (n : ℕ). Offer j i n y) (h .1) (subst (λ (n : ℕ). Offer j n b y) (h .0) f) in
+          subst (λ (z : Double). T (atMost z (r .score))) (sym (one-sum y f′)) most)
+          (sooner-more l)
+
+      -- it stands, where all before it are strictly less
+      fresh : ((a b : ℕ) (y : Double) → Sooner a b i m → Offer j a b y → T (less y cand)) → Standing i (suc m) j (candidate x i p)
+      unfolding candidate
+      fresh all =
+          record {
+            place = m;
+            offer = here;
+            named = refl;
+            below = inr (refl, omega arith);
+            greatest = at-here (candidate x i p) (λ a b y l f. less-at-most y cand (all a b y l f)) (at-most-refl cand (g .number cand counts));
+            earlier = all;
+          }
+
+      -- offered to a full record
+      weigh : (r : Slot) → Standing i m j r → (t : Bool) → less (r .score) cand ≡ t → (q : Slot) × (offered (some r) (candidate x i p) ≡ q) × Standing i (suc m) j q
+      unfolding candidate
+      weigh r s true h =
+          (candidate x i p, takes r (candidate x i p) h, fresh (λ a b y l f. at-most-less-trans y (r .score) cand (s .greatest a b y l f) (of-true h)))
+      weigh r s false h = (
+        r,
+        keeps r (candidate x i p) h,
+        record {
+          place = s .place;
+          offer = s .offer;
+          named = s .named;
+          below = sooner-wide (s .below);
+          greatest = at-here r (s .greatest) (not-less-at-most (r .score) cand (g .number (r .score) (s .offer .counts)) (g .number cand counts) (of-false h));
+          earlier = s .earlier;
+        },
+      )
+
+      offers : (o : Option Slot) → Status i m j o → Status i (suc m) j (some (offered o (candidate x i p)))
+      unfolding offered
+      offers o (inl w) =
+          inr (candidate x i p, ap (λ (u : Option Slot). some (offered u (candidate x i p))) (w .0), fresh (λ a b y l f. absurd (w .1 a b y l f)))
+      offers o (inr w) =
+          let v = weigh (w .0) (w .2) (less (w .0 .score) cand) refl in
+          inr (v .0, ap (λ (u : Option Slot). some (offered u (candidate x i p))) (w .1) ∙ ap some (v .1), v .2)
+
+    -- piece m from i is offered where its sum counts
+    turn : (o : Option Slot) → Status i m j o → (t : Bool) → rule .counts cand ≡ t → Status i (suc m) j (cond t (some (offered o (candidate x i p))) o)
+    turn o s true e = offers (of-true e) o s
+    turn o s false e = still i m j o (λ y f. not-both (rule .counts y) (f .counts) (subst (λ (z : Double). T (not (rule .counts z))) (sym (one-sum y f)) (of-false e))) s
+
+  -- the pieces from i that are left
+  turns :
+      (i j : ℕ) (x : Double) → standsAt rule i ≡ some x → (m : ℕ) (ps : List Piece) (o : Option Slot) → ((k : ℕ) → nth (rule .pieces i j) (m + k) ≡ nth ps k)
+      → Status i m j o → Status (suc i) 0 j (offeredAll (rule .counts) (some x) i ps o)
+  unfolding offeredAll candidate nth
+  turns i j x e m [] o rest s =
+      later i m j o
+      (λ k y l f.
+      let there : m + (k - m) ≡ k = omega arith in
+      no-piece (sym (rest (k - m)) ∙ ap (nth (rule .pieces i j)) there ∙ f .is))
+      s
+  turns i j x e m (p ∷ ps) o rest s =
+      turns i j x e (suc m) ps (cond (rule .counts (sum x (p .score))) (some (offered o (candidate x i p))) o)
+      (λ k. ap (nth (rule .pieces i j)) (let z : suc m + k ≡ m + suc k = omega arith in z) ∙ rest (suc k))
+      (turn i j m x p e (ap (nth (rule .pieces i j)) (let z : m ≡ m + 0 = omega arith in z) ∙ rest 0) o s (rule .counts (sum x (p .score))) refl)
+
+  pub status : (from j : ℕ) → Status from 0 j (best rule from j)
+  status zero j = inl (none-before rule j, λ i k y l f. absurd (let h = sooner-below l in omega arith))
   status (suc i) j =
       ⊎-elim
-      (λ (e : P i j ≡ none). subst (Status (suc i) j) (sym (passed P i j e)) (still i j (best P i j) e (status i j)))
-      (λ (w : (p : Piece) × (P i j ≡ some p)).
-      subst (Status (suc i) j) (sym (worked P i j (w .0) (w .1))) (offers i j (w .0) (best P i j) (w .1) (status i j)))
-      (looked (P i j))
+      (λ (e : standsAt rule i ≡ none).
+      subst (Status (suc i) 0 j) (sym (passed rule i j e)) (later i 0 j (best rule i j) (λ k y l f. no-piece (sym e ∙ f .stands)) (status i j)))
+      (λ (w : (x : Double) × (standsAt rule i ≡ some x)).
+      subst (Status (suc i) 0 j) (sym (worked rule i j (w .0) (w .1)))
+      (turns i j (w .0) (w .1) 0 (rule .pieces i j) (best rule i j) (λ k. ap (nth (rule .pieces i j)) (zero-add k)) (status i j)))
+      (looked (standsAt rule i))
 
-  -- ---- every boundary after the first has a record
+  -- ---- positions that are reached
 
-  -- the last boundary before j
-  last-before : (j : ℕ) → 0 < j → (i : ℕ) × (i < j) × (boundary i ≡ true) × ((k : ℕ) → i < k → k < j → boundary k ≡ false)
-  last-before zero l = absurd (omega arith)
-  last-before (suc j) l = at-last (boundary j) refl (last-before j)
-    where
-      at-last :
-          (t : Bool) → boundary j ≡ t → (0 < j → (i : ℕ) × (i < j) × (boundary i ≡ true) × ((k : ℕ) → i < k → k < j → boundary k ≡ false))
-          → (i : ℕ) × (i < suc j) × (boundary i ≡ true) × ((k : ℕ) → i < k → k < suc j → boundary k ≡ false)
-      at-last true e earlier = (j, omega arith, e, λ k p q. absurd (omega arith))
-      at-last false e earlier =
-          ⊎-elim
-          (λ (h : 0 < j).
-          let w = earlier h in
-          (w .0, omega (arith, w .1), w .2, λ k p q. split {Q = λ n. w .0 < n → boundary n ≡ false} j (λ n m r. w .3 n r m) (λ r. e) k q p))
-          (λ (h : j ≤ 0). absurd (true-false (g .first) (ap boundary (let z : 0 ≡ j = omega arith in z) ∙ e)))
-          (below-or 0 j)
+  pub stood : (from j : ℕ) (r : Slot) → best rule from j ≡ some r → Standing from 0 j r
+  stood from j r e = ⊎-elim (λ v. absurd (no-piece (sym (v .0) ∙ e))) (λ v. subst (Standing from 0 j) (some-same (sym (v .1) ∙ e)) (v .2)) (status from j)
 
-  -- a piece ends at every boundary after the first
-  reaches : (j : ℕ) → 0 < j → j ≤ end → boundary j ≡ true → (i : ℕ) × (p : Piece) × (P i j ≡ some p)
-  reaches j l inside at =
-      let w = last-before j l in
-      let i = w .0 in
-      let v = g .single i (omega (arith, w .1)) (w .2) in
-      let above : i < v .0 = g .forward i (v .0) (v .1) (v .2) in
-      let no-less : v .0 < j → ⊥ = λ h. true-false (g .to i (v .0) (v .1) (v .2)) (w .3 (v .0) above h) in
-      let no-more : j < v .0 → ⊥ = λ h. true-false at (v .3 j (w .1) h) in
-      (i, v .1, subst (λ (k : ℕ). P i k ≡ some (v .1)) (meet (v .0) j no-less no-more) (v .2))
-    where
-      meet : (a b : ℕ) → (a < b → ⊥) → (b < a → ⊥) → a ≡ b
-      meet a b p q = ⊎-elim (λ (h : a < b). absurd (p h)) (λ (h : b ≤ a). ⊎-elim (λ (k : b < a). absurd (q k)) (λ (k : a ≤ b). omega arith) (below-or b a)) (below-or a b)
+  -- a position after the first has a record where something stands
+  pub filled : (j : ℕ) (x : Double) → 0 < j → standsAt rule j ≡ some x → (r : Slot) × (best rule j j ≡ some r) × (r .score ≡ x) × Standing j 0 j r
+  filled j x l e = let w = record-stands rule j x l e in (w .0, w .1, w .2, stood j j (w .0) (w .1))
 
-  -- "That every boundary has a record" is the Rust's `debug_assert!`.
-  pub filled : (j : ℕ) → 0 < j → j ≤ end → boundary j ≡ true → (r : Slot) × (best P j j ≡ some r) × Standing j j r
-  filled j l inside at =
-      let w = reaches j l inside at in
-      ⊎-elim (λ v. absurd (no-piece (sym (v .1 (w .0) (g .forward (w .0) j (w .1) (w .2))) ∙ w .2))) (λ v. v) (status j j)
+  -- what stands counts
+  pub stands-counts : (j : ℕ) (x : Double) → standsAt rule j ≡ some x → T (rule .counts x)
+  stands-counts zero x e = subst (λ (z : Double). T (rule .counts z)) (some-same (sym (stands-first rule) ∙ e)) (g .zero-counts)
+  stands-counts (suc j) x e = let w = filled (suc j) x (omega arith) e in subst (λ (z : Double). T (rule .counts z)) (w .2) (w .3 .offer .counts)
+
+  -- and something stands where a piece is offered
+  pub taken-in : (j i k : ℕ) (y : Double) → Offer j i k y → (r : Slot) × (best rule j j ≡ some r) × T (atMost y (r .score))
+  taken-in j i k y f =
+      let l : Sooner i k j 0 = inl (g .forward i j k (f .piece) (f .is)) in
+      ⊎-elim (λ v. absurd (v .1 i k y l f)) (λ v. (v .0, v .1, v .2 .greatest i k y l f)) (status j j)
 
   -- ---- the law
 
-  -- a cutting before j scores at most what stands in the record
-  pub at-most-best : {j : ℕ} (c : Cutting P j) → T (atMost (total c) (before j))
+  -- where a cutting's sum counts something stands, and it is at least that sum
+  pub at-most-best : {j : ℕ} (c : Cutting rule j) → T (rule .counts (total c)) → (x : Double) × (standsAt rule j ≡ some x) × T (atMost (total c) x)
   unfolding total
-  at-most-best empty = subst (λ (o : Option Slot). T (atMost plusZero (scoreOf o))) (sym (none-before P 0)) zero-at-most
-  at-most-best (then {i = i} c j p e) =
-      ⊎-elim
-      (λ v. absurd (no-piece (sym (v .1 i (g .forward i j p e)) ∙ e)))
-      (λ v.
-      subst (λ (x : Double). T (atMost (sum (total c) (p .score)) x)) (sym (score-of (v .0) (v .1)))
-      (at-most-trans (sum (total c) (p .score)) (cand i p) (v .0 .score) (sum-mono (total c) (before i) (p .score) (g .finite i j p e) (at-most-best c)) (v .2 .greatest i p (g .forward i j p e) e)))
-      (status j j)
+  at-most-best empty t = (plusZero, stands-first rule, at-most-refl plusZero zero-number)
+  at-most-best (then {i = i} c j k p e) t =
+      let finite = g .finite i j k p e in
+      let w = at-most-best c (g .back (total c) (p .score) finite t) in
+      let more : T (atMost (sum (total c) (p .score)) (sum (w .0) (p .score))) = sum-mono (total c) (w .0) (p .score) finite (w .2) in
+      let y = sum (w .0) (p .score) in
+      let f : Offer j i k y = record { till = w .0; stands = w .1; piece = p; is = e; sums = refl; counts = g .up (sum (total c) (p .score)) y t more } in
+      let v = taken-in j i k y f in
+      let l : i < j = g .forward i j k p e in
+      (v .0 .score, stands-record rule j (v .0) (omega arith) (v .1), at-most-trans (sum (total c) (p .score)) y (v .0 .score) more (v .2))
 
-  -- and one of them scores just that
-  pub attained : (n j : ℕ) → j ≤ n → j ≤ end → boundary j ≡ true → (c : Cutting P j) × (total c ≡ before j)
-  unfolding total scoreOf
-  attained zero zero l inside at = (empty, sym (ap scoreOf (none-before P 0)))
-  attained (suc n) zero l inside at = (empty, sym (ap scoreOf (none-before P 0)))
-  attained zero (suc j) l inside at = absurd (omega arith)
-  attained (suc n) (suc j) l inside at =
-      let w = filled (suc j) (omega arith) inside at in
-      let r = w .0 in
-      let s = w .2 in
-      let v = attained n (r .start) (omega (arith, s .below)) (omega (arith, s .below)) (g .from (r .start) (suc j) (s .piece) (s .is)) in
-      (then (v .0) (suc j) (s .piece) (s .is), ap (λ (x : Double). sum x (s .piece .score)) (v .1) ∙ s .scored ∙ sym (score-of r (w .1)))
-
-  -- The record at j "holds the greatest left-to-right rounded sum of any allowed cutting before it, names the last piece of such a cutting (the
-  -- earliest start among equals)".
-  pub is-best : (j : ℕ) (r : Slot) → j ≤ end → best P j j ≡ some r → Best P j r
+  -- and some cutting has just that sum
+  pub attained : (n j : ℕ) (x : Double) → j ≤ n → standsAt rule j ≡ some x → (c : Cutting rule j) × (total c ≡ x)
   unfolding total
-  is-best j r inside full = ⊎-elim (λ v. absurd (no-piece (sym (v .0) ∙ full))) (λ v. of-standing (subst (Standing j j) (some-same (sym (v .1) ∙ full)) (v .2))) (status j j)
+  attained zero zero x l e = (empty, some-same (sym (stands-first rule) ∙ e))
+  attained (suc n) zero x l e = (empty, some-same (sym (stands-first rule) ∙ e))
+  attained zero (suc j) x l e = absurd (omega arith)
+  attained (suc n) (suc j) x l e =
+      let w = filled (suc j) x (omega arith) e in
+      let s = w .3 in
+      let f = s .offer in
+      let v = attained n (w .0 .start) (f .till) (let h = sooner-below (s .below) in omega arith) (f .stands) in
+      (then (v .0) (suc j) (s .place) (f .piece) (f .is), ap (λ (z : Double). sum z (f .piece .score)) (v .1) ∙ f .sums ∙ w .2)
+
+  -- no sum of pieces fails to be a number
+  pub total-number : {j : ℕ} (c : Cutting rule j) → T (isNumber (total c))
+  unfolding total
+  total-number empty = zero-number
+  total-number (then {i = i} c j k p e) = sum-number (total c) (p .score) (total-number c) (g .finite i j k p e)
+
+  -- The record at j "holds the greatest left-to-right rounded sum of any allowed cutting before it, names the last piece of
+  -- such a cutting (the earliest start among equals)".
+  pub is-best : (j : ℕ) (r : Slot) → best rule j j ≡ some r → Best rule j r
+  unfolding total
+  is-best j r full =
+      record {
+        greatest = λ c. most c (rule .counts (total c)) refl;
+        reached = record { before = v .0; place = s .place; last = f .piece; is = f .is };
+        named = s .named;
+        scored = ap (λ (z : Double). sum z (f .piece .score)) (v .1) ∙ f .sums;
+        earliest = λ i t e. not-sooner i t e (below-or (r .start) i) (below-or (t .place) (s .place));
+      }
     where
-      of-standing : Standing j j r → Best P j r
-      of-standing s =
-          let i = r .start in
-          let v = attained i i (omega arith) (omega (arith, s .below)) (g .from i j (s .piece) (s .is)) in
-          record {
-            greatest = λ c. subst (λ (x : Double). T (atMost (total c) x)) (score-of r full) (at-most-best c);
-            reached = record { before = v .0; last = s .piece; is = s .is };
-            named = s .named;
-            scored = ap (λ (x : Double). sum x (s .piece .score)) (v .1) ∙ s .scored;
-            earliest = λ k t e.
-                ⊎-elim
-                (λ (h : k < i).
-                let p = t .last in
-                let most : T (atMost (total (whole t)) (cand k p)) = sum-mono (total (t .before)) (before k) (p .score) (g .finite k j p (t .is)) (at-most-best (t .before)) in
-                absurd (same-less (total (whole t)) (r .score) e (at-most-less-trans (total (whole t)) (cand k p) (r .score) most (s .earlier k p h (t .is)))))
-                (λ (h : i ≤ k). h)
-                (below-or k i);
-          }
+      s : Standing j 0 j r
+      s = stood j j r full
+
+      f : Offer j (r .start) (s .place) (r .score)
+      f = s .offer
+
+      v : (c : Cutting rule (r .start)) × (total c ≡ f .till)
+      v = attained (r .start) (r .start) (f .till) (omega arith) (f .stands)
+
+      positive : 0 < j
+      positive = let h : r .start < j = sooner-below (s .below) in omega arith
+
+      most : (c : Cutting rule j) (t : Bool) → rule .counts (total c) ≡ t → T (atMost (total c) (r .score))
+      most c true e =
+          let w = at-most-best c (of-true e) in
+          subst (λ (z : Double). T (atMost (total c) z)) (some-same (sym (w .1) ∙ stands-record rule j r positive full)) (w .2)
+      most c false e =
+          not-less-at-most (r .score) (total c) (g .number (r .score) (f .counts)) (total-number c)
+          (none-true (less (r .score) (total c)) (λ h. not-both (rule .counts (total c)) (g .up (r .score) (total c) (f .counts) (less-at-most (r .score) (total c) h)) (of-false e)))
+
+      -- what was offered sooner has less
+      too-soon : (i : ℕ) (t : Through rule i j) → T (same (total (whole t)) (r .score)) → Sooner i (t .place) (r .start) (s .place) → ⊥
+      too-soon i t e l =
+          let c = t .before in
+          let p = t .last in
+          let finite = g .finite i j (t .place) p (t .is) in
+          let whole-counts : T (rule .counts (sum (total c) (p .score))) = g .up (r .score) (sum (total c) (p .score)) (f .counts) (same-at-most (sum (total c) (p .score)) (r .score) (total-number (whole t)) (g .number (r .score) (f .counts)) e) in
+          let w = at-most-best c (g .back (total c) (p .score) finite whole-counts) in
+          let y = sum (w .0) (p .score) in
+          let more : T (atMost (sum (total c) (p .score)) y) = sum-mono (total c) (w .0) (p .score) finite (w .2) in
+          let q : Offer j i (t .place) y = record { till = w .0; stands = w .1; piece = p; is = t .is; sums = refl; counts = g .up (sum (total c) (p .score)) y whole-counts more } in
+          same-less (sum (total c) (p .score)) (r .score) e (at-most-less-trans (sum (total c) (p .score)) y (r .score) more (s .earlier i (t .place) y l q))
+
+      not-sooner :
+          (i : ℕ) (t : Through rule i j) → T (same (total (whole t)) (r .score)) → (r .start < i) ⊎ (i ≤ r .start) → (t .place < s .place) ⊎ (s .place ≤ t .place)
+          → (r .start < i) ⊎ ((r .start ≡ i) × (s .place ≤ t .place))
+      not-sooner i t e (inl l) q = inl l
+      not-sooner i t e (inr l) q =
+          ⊎-elim (λ (h : i < r .start). absurd (too-soon i t e (inl h)))
+          (λ (h : r .start ≤ i).
+          let one : i ≡ r .start = omega arith in
+          ⊎-elim (λ (k : t .place < s .place). absurd (too-soon i t e (inr (one, k)))) (λ (k : s .place ≤ t .place). inr (sym one, k)) q)
+          (below-or i (r .start))
 
 -- ---- only one slot is the best
 
@@ -321,14 +395,21 @@ same-slot a b p q r =
     ∙ ap (λ (x : ℕ). slot (b .start) x (a .score)) q
     ∙ ap (λ (x : Double). slot (b .start) (b .id) x) r
 
-module _ {P : ℕ → ℕ → Option Piece} where
+-- each at most as late as the other
+meet : (i j k m : ℕ) → (i < j) ⊎ ((i ≡ j) × (k ≤ m)) → (j < i) ⊎ ((j ≡ i) × (m ≤ k)) → (i ≡ j) × (k ≡ m)
+meet i j k m (inl l) (inl h) = absurd (omega arith)
+meet i j k m (inl l) (inr h) = absurd (let e = h .0 in omega arith)
+meet i j k m (inr l) (inl h) = absurd (let e = l .0 in omega arith)
+meet i j k m (inr l) (inr h) = (l .0, let a = l .1 in let b = h .1 in omega arith)
+
+module _ {rule : Rule} where
   -- sums from +0 are never -0
-  pub total-not-minus : {j : ℕ} (c : Cutting P j) → total c ≡ finite true 0 → ⊥
+  pub total-not-minus : {j : ℕ} (c : Cutting rule j) → total c ≡ finite true 0 → ⊥
   unfolding total
   total-not-minus empty = zero-plus
-  total-not-minus (then c j p e) = never-minus-zero (total c) (p .score) (total-not-minus c)
+  total-not-minus (then c j k p e) = never-minus-zero (total c) (p .score) (total-not-minus c)
 
-  pub only-best : (j : ℕ) (a b : Slot) → Best P j a → Best P j b → a ≡ b
+  pub only-best : (j : ℕ) (a b : Slot) → Best rule j a → Best rule j b → a ≡ b
   only-best j a b p q =
       let ca = whole (p .reached) in
       let cb = whole (q .reached) in
@@ -336,11 +417,12 @@ module _ {P : ℕ → ℕ → Option Piece} where
       let least : T (atMost (b .score) (a .score)) = subst (λ (x : Double). T (atMost x (a .score))) (q .scored) (p .greatest cb) in
       let one : T (same (a .score) (b .score)) = at-most-antisymm (a .score) (b .score) most least in
       let other : T (same (b .score) (a .score)) = at-most-antisymm (b .score) (a .score) least most in
-      let first : a .start ≤ b .start = p .earliest (b .start) (q .reached) (subst (λ (x : Double). T (same x (a .score))) (sym (q .scored)) other) in
-      let second : b .start ≤ a .start = q .earliest (a .start) (p .reached) (subst (λ (x : Double). T (same x (b .score))) (sym (p .scored)) one) in
-      let starts : a .start ≡ b .start = omega arith in
+      let first = p .earliest (b .start) (q .reached) (subst (λ (x : Double). T (same x (a .score))) (sym (q .scored)) other) in
+      let second = q .earliest (a .start) (p .reached) (subst (λ (x : Double). T (same x (b .score))) (sym (p .scored)) one) in
+      let both-ways = meet (a .start) (b .start) (p .reached .place) (q .reached .place) first second in
+      let starts = both-ways .0 in
       let scores : a .score ≡ b .score =
       same-equal (a .score) (b .score) (λ e. total-not-minus ca (p .scored ∙ e)) (λ e. total-not-minus cb (q .scored ∙ e)) one
       in
-      let pieces : p .reached .last ≡ q .reached .last = some-same (sym (p .reached .is) ∙ ap (λ (i : ℕ). P i j) starts ∙ q .reached .is) in
+      let pieces : p .reached .last ≡ q .reached .last = some-same (sym (p .reached .is) ∙ ap (λ (i : ℕ). nth (rule .pieces i j) (p .reached .place)) starts ∙ ap (nth (rule .pieces (b .start) j)) (both-ways .1) ∙ q .reached .is) in
       same-slot a b starts (sym (p .named) ∙ ap (λ (x : Piece). x .id) pieces ∙ q .named) scores

@@ -1,102 +1,127 @@
--- Slots that hold the records, a start at a time: empty slots hold them before the first start, and when each piece from a start has been offered
--- they hold them for one start more. So the law of demand 3 holds at every boundary come to. Assumes nothing.
+-- Slots that hold the records, a start at a time: empty slots hold them before the first start, and when each piece from a
+-- start has been offered they hold them for one start more. So the law of demand 3 holds at every position come to where
+-- something stands. Assumes nothing.
 use mathlib.Core.Path.{_≡_, refl, sym, ap, subst, _∙_}
 use mathlib.Core.Bool.{Bool, true, false, cond}
-use mathlib.Core.Logic.{_⊎_, ⊎-elim}
+use mathlib.Core.List.{List, [], _∷_}
 use mathlib.Core.Option.{Option, none, some}
-use Prim.Native.Nat.{ℕ, suc, _≤_, _<_}
+use Prim.Native.Nat.{ℕ, zero, suc, _≤_, _<_}
 use native.Mathlib.Omega.{arith}
 use borrow.Author.Tests.{lt-leb, le-leb}
-use Rattle.doubles.specs.Double.{Double}
+use Rattle.doubles.specs.Double.{Double, sum, less}
 use Rattle.refusal.specs.Sizes.{noId}
-use Rattle.cutting.specs.Cuttings.{Piece, Slot, Best}
-use Rattle.cutting.specs.Records.{scoreOf, offered, candidate, best, shown}
-use Rattle.cutting.specs.Slots.{Slots, slotAt, Cleared, taken, afterOffer}
+use Rattle.cutting.specs.Cuttings.{Piece, Rule, Slot, nth, Best}
+use Rattle.cutting.specs.Records.{offered, candidate, offeredAll, best, shown, standsAt}
+use Rattle.cutting.specs.Slots.{Slots, slotAt, Cleared, taken, afterOffers}
 use Rattle.cutting.specs.Law.{Holds, Recorded}
-use Rattle.cutting.proofs.Working.{Pieces, no-piece, looked, worked, passed, none-before, jumped, settled-le}
-use Rattle.cutting.proofs.Best.{status, filled, is-best}
+use Rattle.cutting.proofs.Working.{Pieces, worked, none-before, unchanged, absent, stands-first, record-stands, settled-le}
+use Rattle.cutting.proofs.Best.{sooner-below, stood, filled, is-best}
 use Rattle.cutting.proofs.Columns.{taken-empty, taken-weighed}
 
 -- each piece from `at` has been offered; x stands before them
-pub record AllOffered (P : ℕ → ℕ → Option Piece) (at : ℕ) (x : Double) (before after : Slots) : Type 0 where
-  pub slots : (k : ℕ) → slotAt after k ≡ afterOffer (P at k) x at (slotAt before k)
+pub record AllOffered (rule : Rule) (at : ℕ) (x : Double) (before after : Slots) : Type 0 where
+  pub slots : (k : ℕ) → slotAt after k ≡ afterOffers (rule .counts) (rule .pieces at k) x at (slotAt before k)
 
-taken-shown : (o : Option Slot) (q : Slot) → ((r : Slot) → o ≡ some r → r .start ≡ noId → ⊥) → taken (shown o) q ≡ offered o q
+-- a record whose start is no mark
+abbrev Full : Option Slot → Type 0
+Full o = (r : Slot) → o ≡ some r → r .start ≡ noId → ⊥
+
+taken-shown : (o : Option Slot) (q : Slot) → Full o → taken (shown o) q ≡ offered o q
 unfolding shown offered
 taken-shown none q full = taken-empty (shown none) q refl
 taken-shown (some r) q full = taken-weighed r q (full r refl)
 
-shown-score : (o : Option Slot) → shown o .score ≡ scoreOf o
-unfolding shown scoreOf
-shown-score none = refl
-shown-score (some r) = refl
+offered-full : (o : Option Slot) (q : Slot) → Full o → (q .start ≡ noId → ⊥) → offered o q .start ≡ noId → ⊥
+unfolding offered
+offered-full none q full fits mark = fits mark
+offered-full (some r) q full fits mark = pick (less (r .score) (q .score)) mark
+  where
+    pick : (t : Bool) → cond t q r .start ≡ noId → ⊥
+    pick true e = fits e
+    pick false e = full r refl e
+
+-- a slot and its record are offered the same
+offers-shown : (counts : Double → Bool) (x : Double) (at : ℕ) → (at ≡ noId → ⊥) → (ps : List Piece) (o : Option Slot) → Full o → afterOffers counts ps x at (shown o) ≡ shown (offeredAll counts (some x) at ps o)
+unfolding afterOffers offeredAll candidate shown
+offers-shown counts x at fits [] o full = refl
+offers-shown counts x at fits (p ∷ ps) o full =
+    by-test (counts (sum x (p .score))) refl (offers-shown counts x at fits ps o full)
+    (offers-shown counts x at fits ps (some (offered o (candidate x at p)))
+    (λ r h mark. offered-full o (candidate x at p) full fits (let one : offered o (candidate x at p) ≡ r = cc in ap (λ (u : Slot). u .start) one ∙ mark)))
+  where
+    by-test :
+        (t : Bool) → counts (sum x (p .score)) ≡ t → afterOffers counts ps x at (shown o) ≡ shown (offeredAll counts (some x) at ps o)
+        → afterOffers counts ps x at (offered o (candidate x at p)) ≡ shown (offeredAll counts (some x) at ps (some (offered o (candidate x at p))))
+        → afterOffers counts ps x at (cond (counts (sum x (p .score))) (taken (shown o) (candidate x at p)) (shown o)) ≡ shown (offeredAll counts (some x) at ps (cond (counts (sum x (p .score))) (some (offered o (candidate x at p))) o))
+    by-test true e keeps takes =
+        ap (λ (t : Bool). afterOffers counts ps x at (cond t (taken (shown o) (candidate x at p)) (shown o))) e
+        ∙ ap (λ (r : Slot). afterOffers counts ps x at r) (taken-shown o (candidate x at p) full)
+        ∙ takes
+        ∙ ap (λ (t : Bool). shown (offeredAll counts (some x) at ps (cond t (some (offered o (candidate x at p))) o))) (sym e)
+    by-test false e keeps takes =
+        ap (λ (t : Bool). afterOffers counts ps x at (cond t (taken (shown o) (candidate x at p)) (shown o))) e
+        ∙ keeps
+        ∙ ap (λ (t : Bool). shown (offeredAll counts (some x) at ps (cond t (some (offered o (candidate x at p))) o))) (sym e)
 
 -- ---- before the first start
 
-pub holds-none : {P : ℕ → ℕ → Option Piece} {before after : Slots} {n : ℕ} → Cleared before n after → Holds P n 0 after
-holds-none {P} {before} {after} {n} c =
+pub holds-none : {rule : Rule} {before after : Slots} {n : ℕ} → Cleared before n after → Holds rule n 0 after
+holds-none {rule} {before} {after} {n} c =
     record {
       slots = λ k l.
           c .slots k
           ∙ ap (λ (t : Bool). cond t (shown none) (slotAt before k)) (le-leb k n l)
-          ∙ ap shown (sym (none-before P k));
+          ∙ ap shown (sym (none-before rule k));
     }
 
 pub cleared-past : {before after : Slots} {n : ℕ} → Cleared before n after → (k : ℕ) → n < k → slotAt after k ≡ slotAt before k
 cleared-past {before} {after} {n} c k l = c .slots k ∙ ap (λ (t : Bool). cond t (shown none) (slotAt before k)) (lt-leb k n l)
 
-module _ {boundary : ℕ → Bool} {end : ℕ} {P : ℕ → ℕ → Option Piece} (g : Pieces boundary end P) where
+module _ {end : ℕ} {rule : Rule} (g : Pieces end rule) where
   -- a start lies below the starts to come, and is no mark
-  start-small : (from k : ℕ) → from ≤ noId → (r : Slot) → best P from k ≡ some r → r .start ≡ noId → ⊥
-  start-small from k l r e mark =
-      ⊎-elim
-      (λ v. no-piece (sym (v .0) ∙ e))
-      (λ v. let h : v .0 .start < from = v .2 .below in let same : v .0 ≡ r = cc in omega (arith, ap (λ (q : Slot). q .start) same))
-      (status g from k)
+  start-small : (from k : ℕ) → from ≤ noId → Full (best rule from k)
+  start-small from k l r e mark = let h : r .start < from = sooner-below (stood g from k r e .below) in omega arith
 
-  -- the law of demand 3 at a boundary that has been come to
-  pub best-held : (from : ℕ) (c : Slots) → Holds P end from c → (j : ℕ) → 0 < j → j ≤ from → j ≤ end → boundary j ≡ true → Best P j (slotAt c j)
+  -- the law of demand 3 at a position that has been come to, where something stands
+  pub best-held : (from : ℕ) (c : Slots) → Holds rule end from c → (j : ℕ) (x : Double) → 0 < j → j ≤ from → j ≤ end → standsAt rule j ≡ some x → Best rule j (slotAt c j)
   unfolding shown
-  best-held from c h j l p inside at =
-      let w = filled g j l inside at in
-      subst (Best P j) (sym (h .slots j inside ∙ ap shown (settled-le g from j p ∙ w .1))) (is-best g j (w .0) inside (w .1))
+  best-held from c h j x l p inside at =
+      let w = filled g j x l at in
+      subst (Best rule j) (sym (h .slots j inside ∙ ap shown (settled-le g from j p ∙ w .1))) (is-best g j (w .0) (w .1))
+
+  -- what stands at the start come to is the score in its slot
+  pub stands-held : (at : ℕ) (c : Slots) (x : Double) → Holds rule end at c → at ≤ end → standsAt rule at ≡ some x → standsAt rule at ≡ some (slotAt c at .score)
+  unfolding shown
+  stands-held zero c x h inside e = stands-first rule ∙ ap (λ (q : Slot). some (q .score)) (sym (h .slots 0 inside ∙ ap shown (none-before rule 0)))
+  stands-held (suc at) c x h inside e =
+      let w = record-stands rule (suc at) x (omega arith) e in
+      e ∙ ap some (sym (w .2)) ∙ ap (λ (q : Slot). some (q .score)) (sym (h .slots (suc at) inside ∙ ap shown (w .1)))
 
   -- no piece from `at` ends past the end
-  pub offered-past : {at : ℕ} {x : Double} {before after : Slots} → AllOffered P at x before after → (k : ℕ) → end < k → slotAt after k ≡ slotAt before k
-  unfolding afterOffer
+  pub offered-past : {at : ℕ} {x : Double} {before after : Slots} → AllOffered rule at x before after → (k : ℕ) → end < k → slotAt after k ≡ slotAt before k
+  unfolding afterOffers
   offered-past {at} {x} {before} o k l =
-      ⊎-elim
-      (λ (n : P at k ≡ none). o .slots k ∙ ap (λ (p : Option Piece). afterOffer p x at (slotAt before k)) n)
-      (λ (w : (p : Piece) × (P at k ≡ some p)). absurd (let h : k ≤ end = g .inside at k (w .0) (w .1) in omega arith))
-      (looked (P at k))
+      o .slots k
+      ∙ ap (λ (ps : List Piece). afterOffers (rule .counts) ps x at (slotAt before k)) (absent (rule .pieces at k) (λ n p e. let h : k ≤ end = g .inside at k n p e in omega arith))
 
   -- one start more
-  pub holds-more : {at : ℕ} {x : Double} {before after : Slots} → at ≤ end → at ≤ noId → Holds P end at before → x ≡ slotAt before at .score → AllOffered P at x before after → Holds P end (suc at) after
-  unfolding shown afterOffer
-  holds-more {at} {x} {before} {after} inside small h e o = record { slots = λ k l. o .slots k ∙ one-more k l }
-    where
-      score : x ≡ scoreOf (best P at at)
-      score = e ∙ ap (λ (q : Slot). q .score) (h .slots at inside) ∙ shown-score (best P at at)
+  pub holds-more : {at : ℕ} {x : Double} {before after : Slots} → at ≤ end → at < noId → Holds rule end at before → standsAt rule at ≡ some x → AllOffered rule at x before after → Holds rule end (suc at) after
+  holds-more {at} {x} {before} {after} inside small h e o =
+      record {
+        slots = λ k l.
+            o .slots k
+            ∙ ap (λ (r : Slot). afterOffers (rule .counts) (rule .pieces at k) x at r) (h .slots k l)
+            ∙ offers-shown (rule .counts) x at (λ mark. omega arith) (rule .pieces at k) (best rule at k) (start-small at k (omega arith))
+            ∙ sym (ap shown (worked rule at k x e));
+      }
 
-      one-more : (k : ℕ) → k ≤ end → afterOffer (P at k) x at (slotAt before k) ≡ shown (best P (suc at) k)
-      one-more k l =
-          ⊎-elim
-          (λ (n : P at k ≡ none).
-          ap (λ (p : Option Piece). afterOffer p x at (slotAt before k)) n ∙ h .slots k l ∙ ap shown (sym (passed P at k n)))
-          (λ (w : (p : Piece) × (P at k ≡ some p)).
-          ap (λ (p : Option Piece). afterOffer p x at (slotAt before k)) (w .1)
-          ∙ ap (λ (q : Slot). taken q (candidate x at (w .0))) (h .slots k l)
-          ∙ taken-shown (best P at k) (candidate x at (w .0)) (start-small at k small)
-          ∙ ap (λ (y : Double). offered (best P at k) (candidate y at (w .0))) score
-          ∙ sym (ap shown (worked P at k (w .0) (w .1))))
-          (looked (P at k))
+  -- positions with no piece change nothing
+  pub holds-jumped : {from upto : ℕ} {c : Slots} → from ≤ upto → ((i j k : ℕ) (p : Piece) → from ≤ i → i < upto → nth (rule .pieces i j) k ≡ some p → ⊥) → Holds rule end from c → Holds rule end upto c
+  holds-jumped {from} {upto} l off h =
+      record { slots = λ j inside. h .slots j inside ∙ ap shown (sym (unchanged rule from upto j l (λ i a b. absent (rule .pieces i j) (λ k p e. off i j k p a b e)))) }
 
-  -- positions that are no boundary change nothing
-  pub holds-jumped : {from upto : ℕ} {c : Slots} → from ≤ upto → ((i : ℕ) → from ≤ i → i < upto → boundary i ≡ false) → Holds P end from c → Holds P end upto c
-  holds-jumped {from} {upto} l off h = record { slots = λ k inside. h .slots k inside ∙ ap shown (sym (jumped g from upto k l off)) }
-
-  -- after the last start
-  pub recorded : {from : ℕ} {before after : Slots} → from ≡ end → Holds P end from after → ((k : ℕ) → end < k → slotAt after k ≡ slotAt before k) → Recorded P boundary end before after
-  recorded {before = before} {after = after} e h past =
-      let all : Holds P end end after = subst (λ (n : ℕ). Holds P end n after) e h in
-      record { holds = all; best = λ j l inside at. best-held end after all j l inside inside at; past = past }
+  -- after the last start; something stands wherever is come to
+  pub recorded : {come : ℕ → Type 0} {from : ℕ} {before after : Slots} → ((j : ℕ) → j ≤ end → come j → (x : Double) × (standsAt rule j ≡ some x)) → from ≡ end → Holds rule end from after → ((k : ℕ) → end < k → slotAt after k ≡ slotAt before k) → Recorded rule come end before after
+  recorded {before = before} {after = after} reach e h past =
+      let all : Holds rule end end after = subst (λ (n : ℕ). Holds rule end n after) e h in
+      record { holds = all; best = λ j l inside at. let w = reach j inside at in best-held end after all j (w .0) l inside inside (w .1); past = past }

@@ -1,10 +1,10 @@
--- What stands once all starts have been worked. Columns that hold the records place by place are the columns of `slotsLeft`; the path that they give
--- is that of the best cutting's pieces; and the laws of the records hold of the slots, which is demand 3. Assumes nothing.
+-- What stands once all starts have been worked. Columns that hold the records place by place are the columns of `slotsLeft`;
+-- the path that they give is that of the best cutting's pieces; and the laws of the records hold of the slots, which is demand
+-- 3. Assumes nothing.
 use mathlib.Core.Path.{_≡_, refl, sym, ap, subst, _∙_}
-use mathlib.Core.Bool.{Bool, true}
 use mathlib.Core.List.{List, [], _∷_, _++_, map}
 use mathlib.Core.Logic.{_⊎_, ⊎-elim}
-use mathlib.Core.Option.{Option}
+use mathlib.Core.Option.{Option, some}
 use Prim.Native.Nat.{ℕ, zero, suc, _+_, _-_, _≤_, _<_}
 use native.Mathlib.Nat.{add-zero}
 use native.Mathlib.Omega.{arith}
@@ -13,31 +13,31 @@ use lib.Seq.{ext-getD, length-front, length-take-le, getD-append-add, getD-drop,
 use Rattle.doubles.specs.Double.{Double, plusZero}
 use Rattle.refusal.specs.Sizes.{noId, maxText}
 use Rattle.refusal.specs.Places.{overlay}
-use Rattle.cutting.specs.Cuttings.{Piece, Slot, Best, Step}
-use Rattle.cutting.specs.Records.{best, shown, recordsFrom, followed}
+use Rattle.cutting.specs.Cuttings.{Rule, Slot, Best, Step}
+use Rattle.cutting.specs.Records.{best, shown, recordsFrom, followed, standsAt}
 use Rattle.cutting.specs.Slots.{Slots, slotAt}
 use Rattle.cutting.specs.Tracing.{followedIn, endsFrom, stepsAt, Ends, Falling, Traced}
 use Rattle.cutting.specs.Law.{Recorded, bestPieces, slotsLeft, pathLeft, RecordLaw}
 use Rattle.cutting.proofs.Lists.{below-or, map-inside}
 use Rattle.cutting.proofs.Working.{Pieces, settled-le}
-use Rattle.cutting.proofs.Best.{is-true, filled, is-best, score-of}
-use Rattle.cutting.proofs.Following.{piece-to, followed-first, followed-more, chained, chain-ends, adds, covers, named}
+use Rattle.cutting.proofs.Best.{sooner-below, filled, is-best}
+use Rattle.cutting.proofs.Following.{piece-to, followed-first, followed-more, chained, chain-ends, covers, named}
 use Rattle.cutting.proofs.Tracing.{falling, ends-followed}
 
 -- ---- the records as a list
 
-module _ (P : ℕ → ℕ → Option Piece) where
-  length-records : (j n : ℕ) → length (recordsFrom P j n) ≡ n
+module _ (rule : Rule) where
+  length-records : (j n : ℕ) → length (recordsFrom rule j n) ≡ n
   unfolding recordsFrom
   length-records j zero = refl
   length-records j (suc n) = ap suc (length-records (suc j) n)
 
-  record-at : (j n k : ℕ) (d : Slot) → k < n → getD (recordsFrom P j n) k d ≡ shown (best P (j + k) (j + k))
+  record-at : (j n k : ℕ) (d : Slot) → k < n → getD (recordsFrom rule j n) k d ≡ shown (best rule (j + k) (j + k))
   unfolding recordsFrom
   record-at j zero k d l = absurd (omega arith)
-  record-at j (suc n) zero d l = ap (λ (i : ℕ). shown (best P i i)) (sym (add-zero j))
+  record-at j (suc n) zero d l = ap (λ (i : ℕ). shown (best rule i i)) (sym (add-zero j))
   record-at j (suc n) (suc k) d l =
-      record-at (suc j) n k d (omega arith) ∙ ap (λ (i : ℕ). shown (best P i i)) (let e : suc j + k ≡ j + suc k = omega arith in e)
+      record-at (suc j) n k d (omega arith) ∙ ap (λ (i : ℕ). shown (best rule i i)) (let e : suc j + k ≡ j + suc k = omega arith in e)
 
 -- ---- whole columns
 
@@ -89,53 +89,53 @@ same-slots a b x y z =
     ∙ ap (λ (u : List ℕ). slots-of (b .start) u (a .score)) y
     ∙ ap (λ (u : List Double). slots-of (b .start) (b .id) u) z
 
-module _ {boundary : ℕ → Bool} {end : ℕ} {P : ℕ → ℕ → Option Piece} (g : Pieces boundary end P) {b a : Slots} (r : Recorded P boundary end b a) where
+module _ {end : ℕ} {rule : Rule} (g : Pieces end rule) {come : ℕ → Type 0} {b a : Slots} (r : Recorded rule come end b a) where
   -- every slot up to the end holds its record
-  pub slot-holds : (j : ℕ) → j ≤ end → slotAt a j ≡ shown (best P j j)
+  pub slot-holds : (j : ℕ) → j ≤ end → slotAt a j ≡ shown (best rule j j)
   slot-holds j l = r .holds .slots j l ∙ ap shown (settled-le g end j l)
 
-  start-holds : (j : ℕ) → j ≤ end → getD (a .start) j noId ≡ shown (best P j j) .start
+  start-holds : (j : ℕ) → j ≤ end → getD (a .start) j noId ≡ shown (best rule j j) .start
   unfolding slotAt
   start-holds j l = ap (λ (q : Slot). q .start) (slot-holds j l)
 
-  id-holds : (j : ℕ) → j ≤ end → getD (a .id) j noId ≡ shown (best P j j) .id
+  id-holds : (j : ℕ) → j ≤ end → getD (a .id) j noId ≡ shown (best rule j j) .id
   unfolding slotAt
   id-holds j l = ap (λ (q : Slot). q .id) (slot-holds j l)
 
-  column-is : {A : Type 0} (f : Slot → A) (d : A) (before after : List A) → length after ≡ length before → end < length before → ((k : ℕ) → getD after k d ≡ f (slotAt a k)) → ((k : ℕ) → getD before k d ≡ f (slotAt b k)) → after ≡ overlay (map f (recordsFrom P 0 (end + 1))) before
+  column-is : {A : Type 0} (f : Slot → A) (d : A) (before after : List A) → length after ≡ length before → end < length before → ((k : ℕ) → getD after k d ≡ f (slotAt a k)) → ((k : ℕ) → getD before k d ≡ f (slotAt b k)) → after ≡ overlay (map f (recordsFrom rule 0 (end + 1))) before
   column-is f d before after level fits now was =
-      let many = length-records P 0 (end + 1) in
-      column-whole f d (recordsFrom P 0 (end + 1)) before after level (omega arith)
+      let many = length-records rule 0 (end + 1) in
+      column-whole f d (recordsFrom rule 0 (end + 1)) before after level (omega arith)
       (λ k l.
       now k
-      ∙ ap f (slot-holds k (omega arith) ∙ sym (record-at P 0 (end + 1) k empty-slot (omega arith) ∙ ap (λ (i : ℕ). shown (best P i i)) (let e : 0 + k ≡ k = omega arith in e))))
+      ∙ ap f (slot-holds k (omega arith) ∙ sym (record-at rule 0 (end + 1) k empty-slot (omega arith) ∙ ap (λ (i : ℕ). shown (best rule i i)) (let e : 0 + k ≡ k = omega arith in e))))
       (λ k l. now k ∙ ap f (r .past k (omega arith)) ∙ sym (was k))
 
-  pub slots-are : Level b a → Reaching end b → a ≡ slotsLeft P end b
+  pub slots-are : Level b a → Reaching end b → a ≡ slotsLeft rule end b
   unfolding slotsLeft slotAt
   slots-are level fits =
-      same-slots a (slotsLeft P end b) (column-is (λ q. q .start) noId (b .start) (a .start) (level .start) (fits .start) (λ k. refl) (λ k. refl))
+      same-slots a (slotsLeft rule end b) (column-is (λ q. q .start) noId (b .start) (a .start) (level .start) (fits .start) (λ k. refl) (λ k. refl))
       (column-is (λ q. q .id) noId (b .id) (a .id) (level .id) (fits .id) (λ k. refl) (λ k. refl))
       (column-is (λ q. q .score) plusZero (b .score) (a .score) (level .score) (fits .score) (λ k. refl) (λ k. refl))
 
   -- ---- the path
 
-  module _ (at-end : boundary end ≡ true) where
+  module _ (x : Double) (at-end : standsAt rule end ≡ some x) where
     pub falls : end < length (a .start) → end ≤ maxText → Falling (a .start) end
-    falls inside size = falling g (a .start) start-holds inside size at-end
+    falls inside size = falling g (a .start) start-holds x inside size at-end
 
-    pub path-is : endsFrom (a .start) end end ≡ map (λ e. e .end) (bestPieces P end)
-    path-is = ends-followed g (a .start) start-holds end end (omega arith) (omega arith) at-end
+    pub path-is : endsFrom (a .start) end end ≡ map (λ e. e .end) (bestPieces rule end)
+    path-is = ends-followed g (a .start) start-holds end end x (omega arith) (omega arith) at-end
 
-    pub ends-rise : Ends end 0 (map (λ e. e .end) (bestPieces P end))
-    ends-rise = chain-ends g 0 end (bestPieces P end) (chained g end end (omega arith) (omega arith) at-end)
+    pub ends-rise : Ends end 0 (map (λ e. e .end) (bestPieces rule end))
+    ends-rise = chain-ends g 0 end plusZero x (bestPieces rule end) (chained g end end x (omega arith) at-end)
 
-    pub steps-are : stepsAt (a .id) (map (λ e. e .end) (bestPieces P end)) ≡ bestPieces P end
+    pub steps-are : stepsAt (a .id) (map (λ e. e .end) (bestPieces rule end)) ≡ bestPieces rule end
     unfolding shown
     steps-are =
-        sym (named g (λ k. getD (a .id) k noId) (λ j q l e. id-holds j l ∙ ap (λ (o : Option Slot). shown o .id) e) end end (omega arith) (omega arith) at-end)
+        sym (named g (λ k. getD (a .id) k noId) (λ j q l e. id-holds j l ∙ ap (λ (o : Option Slot). shown o .id) e) end end x (omega arith) at-end)
 
-    pub path-left : {before after : List ℕ} → Traced (a .start) end before after → after ≡ pathLeft P end before
+    pub path-left : {before after : List ℕ} → Traced (a .start) end before after → after ≡ pathLeft rule end before
     unfolding pathLeft
     path-left {before} t = t .path ∙ ap (λ (u : List ℕ). overlay u before) path-is
 
@@ -143,43 +143,44 @@ module _ {boundary : ℕ → Bool} {end : ℕ} {P : ℕ → ℕ → Option Piece
 
 -- slots that hold the records, followed back, give the records' pieces
 module _
-    {boundary : ℕ → Bool} {end : ℕ} {P : ℕ → ℕ → Option Piece} (g : Pieces boundary end P) (c : Slots)
-    (holds : (j : ℕ) → 0 < j → j ≤ end → slotAt c j ≡ shown (best P j j))
+    {end : ℕ} {rule : Rule} (g : Pieces end rule) (c : Slots)
+    (holds : (j : ℕ) → 0 < j → j ≤ end → slotAt c j ≡ shown (best rule j j))
   where
-    slots-followed : (n j : ℕ) → j ≤ n → j ≤ end → boundary j ≡ true → followedIn c n j ≡ followed P n j
+    slots-followed : (n j : ℕ) (x : Double) → j ≤ n → j ≤ end → standsAt rule j ≡ some x → followedIn c n j ≡ followed rule n j
     unfolding followedIn shown
-    slots-followed zero zero l inside at = sym (followed-first g 0)
-    slots-followed (suc n) zero l inside at = sym (followed-first g (suc n))
-    slots-followed zero (suc j) l inside at = absurd (omega arith)
-    slots-followed (suc n) (suc j) l inside at =
-        let w = filled g (suc j) (omega arith) inside at in
+    slots-followed zero zero x l inside at = sym (followed-first g 0)
+    slots-followed (suc n) zero x l inside at = sym (followed-first g (suc n))
+    slots-followed zero (suc j) x l inside at = absurd (omega arith)
+    slots-followed (suc n) (suc j) x l inside at =
+        let w = filled g (suc j) x (omega arith) at in
         let r = w .0 in
-        let s = w .2 in
-        let from = g .from (r .start) (suc j) (s .piece) (s .is) in
+        let s = w .3 in
+        let h : r .start < suc j = sooner-below (s .below) in
         let slot : slotAt c (suc j) ≡ r = holds (suc j) (omega arith) inside ∙ ap shown (w .1) in
-        let below : r .start ≤ n = omega (arith, s .below) in
         ap (λ (q : Slot). followedIn c n (q .start) ++ (piece-to (suc j) (q .id) ∷ [])) slot
-        ∙ ap (λ (es : List Step). es ++ (piece-to (suc j) (r .id) ∷ [])) (slots-followed n (r .start) below (omega (arith, s .below)) from)
+        ∙ ap (λ (es : List Step). es ++ (piece-to (suc j) (r .id) ∷ [])) (slots-followed n (r .start) (s .offer .till) (omega arith) (omega arith) (s .offer .stands))
         ∙ sym (followed-more g n (suc j) r (w .1))
 
--- slots that hold the records meet the law of demand 3
+-- slots that hold the records meet the law of demand 3, where something stands at the end and wherever is come to
 pub law-of :
-    {boundary : ℕ → Bool} {s : List ℕ} {P : ℕ → ℕ → Option Piece} (g : Pieces boundary (length s) P) → boundary (length s) ≡ true
-    → {most : ℕ} → length (bestPieces P (length s)) ≤ most → (after : Slots)
-    → ((j : ℕ) → 0 < j → j ≤ length s → slotAt after j ≡ shown (best P j j)) → RecordLaw P boundary s most after
+    {come : ℕ → Type 0} {s : List ℕ} {rule : Rule} (g : Pieces (length s) rule) → ((j : ℕ) → j ≤ length s → come j → (x : Double) × (standsAt rule j ≡ some x))
+    → (x : Double) → standsAt rule (length s) ≡ some x → {most : ℕ} → length (bestPieces rule (length s)) ≤ most → (after : Slots)
+    → ((j : ℕ) → 0 < j → j ≤ length s → slotAt after j ≡ shown (best rule j j)) → RecordLaw rule come s most after
 unfolding shown
-law-of {boundary} {s} {P} g at-end few after holds =
+law-of {come} {s} {rule} g reach x at-end few after holds =
     let n = length s in
     let all : n ≤ n = omega arith in
     record {
       best = λ j l inside t.
-          let w = filled g j l inside (is-true (boundary j) t) in
-          subst (Best P j) (sym (holds j l inside ∙ ap shown (w .1))) (is-best g j (w .0) inside (w .1));
-      followed = slots-followed g after holds n n all all at-end;
-      chain = chained g n n all all at-end;
+          let v = reach j inside t in
+          let w = filled g j (v .0) l (v .1) in
+          subst (Best rule j) (sym (holds j l inside ∙ ap shown (w .1))) (is-best g j (w .0) (w .1));
+      followed = slots-followed g after holds n n x all all at-end;
+      added = x;
+      chain = chained g n n x all at-end;
       score = λ l.
-          let w = filled g n l all at-end in
-          adds g n n all all at-end ∙ score-of (w .0) (w .1) ∙ sym (ap (λ (r : Slot). r .score) (holds n l all ∙ ap shown (w .1)));
-      cover = covers g s n n all all at-end ∙ take-length s;
+          let w = filled g n x l at-end in
+          sym (w .2) ∙ sym (ap (λ (r : Slot). r .score) (holds n l all ∙ ap shown (w .1)));
+      cover = covers g s n n x all at-end ∙ take-length s;
       few = few;
     }

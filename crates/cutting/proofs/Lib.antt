@@ -7,6 +7,8 @@ pub mod Laws
 pub mod Working
 -- a record is the best, and only that
 pub mod Best
+-- every boundary is reached, where a piece goes from each to the next
+pub mod Reaching
 -- the records followed back are a cutting
 pub mod Following
 -- slots in their columns

@@ -1,19 +1,20 @@
--- The path by the start column. The ends before j are those before its start and then j; followed from a boundary by slots that hold the records,
--- they are the ends of the records' pieces. Assumes nothing.
+-- The path by the start column. The ends before j are those before its start and then j; followed from where something stands
+-- by slots that hold the records, they are the ends of the records' pieces. Assumes nothing.
 use mathlib.Core.Path.{_≡_, refl, sym, ap, _∙_}
-use mathlib.Core.Bool.{Bool, true}
+use mathlib.Core.Bool.{Bool, true, false}
 use mathlib.Core.List.{List, [], _∷_, _++_, map, append-assoc}
-use mathlib.Core.Option.{Option, some}
+use mathlib.Core.Option.{Option, none, some}
 use Prim.Native.Nat.{ℕ, zero, suc, _+_, _-_, _≤_, _<_}
 use native.Mathlib.Omega.{arith}
 use lib.ListN.{length, getD, take, drop, set, length-append}
 use lib.Seq.{set-split, drop-at, length-take-le}
-use Rattle.refusal.specs.Sizes.{noId}
-use Rattle.cutting.specs.Cuttings.{Piece, Slot, Step}
-use Rattle.cutting.specs.Records.{best, shown, followed}
+use Rattle.doubles.specs.Double.{Double}
+use Rattle.refusal.specs.Sizes.{noId, maxText}
+use Rattle.cutting.specs.Cuttings.{Rule, Slot, Step}
+use Rattle.cutting.specs.Records.{best, shown, followed, standsAt}
 use Rattle.cutting.specs.Tracing.{endsFrom, Falling}
-use Rattle.cutting.proofs.Working.{Pieces}
-use Rattle.cutting.proofs.Best.{filled}
+use Rattle.cutting.proofs.Working.{Pieces, true-false}
+use Rattle.cutting.proofs.Best.{sooner-below, filled}
 use Rattle.cutting.proofs.Following.{piece-to, map-more, followed-first, followed-more}
 
 module _ (starts : List ℕ) where
@@ -73,33 +74,57 @@ written-back es j path k e l = append-assoc es (j ∷ []) (drop (suc k) path) �
 
 -- ---- by slots that hold the records
 
-module _ {boundary : ℕ → Bool} {end : ℕ} {P : ℕ → ℕ → Option Piece} (g : Pieces boundary end P) (starts : List ℕ) (holds : (j : ℕ) → j ≤ end → getD starts j noId ≡ shown (best P j j) .start) where
-  start-is : (j : ℕ) (r : Slot) → j ≤ end → best P j j ≡ some r → getD starts j noId ≡ r .start
+-- whether something stands
+stands? : Option Double → Bool
+stands? none = false
+stands? (some x) = true
+
+stands-there : (o : Option Double) → stands? o ≡ true → (x : Double) × (o ≡ some x)
+unfolding stands?
+stands-there none e = absurd (true-false e refl)
+stands-there (some x) e = (x, refl)
+
+module _ {end : ℕ} {rule : Rule} (g : Pieces end rule) (starts : List ℕ) (holds : (j : ℕ) → j ≤ end → getD starts j noId ≡ shown (best rule j j) .start) where
+  start-is : (j : ℕ) (r : Slot) → j ≤ end → best rule j j ≡ some r → getD starts j noId ≡ r .start
   unfolding shown
   start-is j r inside e = holds j inside ∙ ap (λ (o : Option Slot). shown o .start) e
 
-  pub falling : end < length starts → end ≤ 65536 → boundary end ≡ true → Falling starts end
-  falling inside size at =
+  marks-at : ℕ → Bool
+  marks-at j = stands? (standsAt rule j)
+
+  -- from a marked position after the first, the start is a marked one below
+  back-to : (j : ℕ) → 0 < j → j ≤ end → marks-at j ≡ true → (getD starts j noId < j) × (marks-at (getD starts j noId) ≡ true)
+  unfolding marks-at stands?
+  back-to j l inside at =
+      let v = stands-there (standsAt rule j) at in
+      let w = filled g j (v .0) l (v .1) in
+      let e = start-is j (w .0) inside (w .1) in
+      let h : w .0 .start < j = sooner-below (w .3 .below) in
+      (omega arith, ap (λ (i : ℕ). stands? (standsAt rule i)) e ∙ ap stands? (w .3 .offer .stands))
+
+  pub falling : (x : Double) → end < length starts → end ≤ maxText → standsAt rule end ≡ some x → Falling starts end
+  unfolding marks-at stands?
+  falling x inside size at =
       record {
-        marks = boundary;
+        marks = marks-at;
         inside = inside;
         size = size;
-        marked = at;
-        falls = λ j l k b. let w = filled g j l k b in omega (arith, w .2 .below, start-is j (w .0) k (w .1));
-        stays = λ j l k b. let w = filled g j l k b in ap boundary (start-is j (w .0) k (w .1)) ∙ g .from (w .0 .start) j (w .2 .piece) (w .2 .is);
+        marked = ap stands? at;
+        falls = λ j l k b. back-to j l k b .0;
+        stays = λ j l k b. back-to j l k b .1;
       }
 
-  pub ends-followed : (n j : ℕ) → j ≤ n → j ≤ end → boundary j ≡ true → endsFrom starts n j ≡ map (λ e. e .end) (followed P n j)
-  ends-followed zero zero l inside at = ends-first starts 0 ∙ sym (ap (map (λ (e : Step). e .end)) (followed-first g 0))
-  ends-followed (suc n) zero l inside at = ends-first starts (suc n) ∙ sym (ap (map (λ (e : Step). e .end)) (followed-first g (suc n)))
-  ends-followed zero (suc j) l inside at = absurd (omega arith)
-  ends-followed (suc n) (suc j) l inside at =
-      let w = filled g (suc j) (omega arith) inside at in
+  pub ends-followed : (n j : ℕ) (x : Double) → j ≤ n → j ≤ end → standsAt rule j ≡ some x → endsFrom starts n j ≡ map (λ e. e .end) (followed rule n j)
+  ends-followed zero zero x l inside at = ends-first starts 0 ∙ sym (ap (map (λ (e : Step). e .end)) (followed-first g 0))
+  ends-followed (suc n) zero x l inside at = ends-first starts (suc n) ∙ sym (ap (map (λ (e : Step). e .end)) (followed-first g (suc n)))
+  ends-followed zero (suc j) x l inside at = absurd (omega arith)
+  ends-followed (suc n) (suc j) x l inside at =
+      let w = filled g (suc j) x (omega arith) at in
       let r = w .0 in
-      let s = w .2 in
-      let b = g .from (r .start) (suc j) (s .piece) (s .is) in
+      let s = w .3 in
+      let h : r .start < suc j = sooner-below (s .below) in
       ends-before starts n (suc j) (omega arith)
       ∙ ap (λ (i : ℕ). endsFrom starts n i ++ (suc j ∷ [])) (start-is (suc j) r inside (w .1))
-      ∙ ap (λ (es : List ℕ). es ++ (suc j ∷ [])) (ends-followed n (r .start) (omega (arith, s .below)) (omega (arith, s .below)) b)
-      ∙ sym (map-more (λ (e : Step). e .end) (followed P n (r .start)) (piece-to (suc j) (r .id)))
+      ∙ ap (λ (es : List ℕ). es ++ (suc j ∷ [])) (ends-followed n (r .start) (s .offer .till) (omega arith) (omega arith) (s .offer .stands))
+      ∙ sym (map-more (λ (e : Step). e .end) (followed rule n (r .start)) (piece-to (suc j) (r .id)))
       ∙ sym (ap (map (λ (e : Step). e .end)) (followed-more g n (suc j) r (w .1)))

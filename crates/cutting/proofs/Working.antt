@@ -1,27 +1,29 @@
--- The turns of the work: what a start that has been worked changes in the records, for any rule of what a piece is. A record takes the piece
--- that ends there and starts at the start worked; a piece goes forward, so a record at or below the start is settled. Assumes nothing.
-use mathlib.Core.Path.{_≡_, refl, ap, _∙_}
+-- The turns of the work: what a start that has been worked changes in the records, by any rule. A start that is reached offers
+-- its pieces, in their order, to the record where they end; a piece goes forward, so a record at or below the start is settled.
+-- Assumes nothing.
+use mathlib.Core.Path.{_≡_, refl, sym, ap, _∙_}
 use mathlib.Core.Bool.{Bool, true, false}
+use mathlib.Core.List.{List, [], _∷_}
 use mathlib.Core.Option.{Option, none, some}
 use mathlib.Core.Logic.{_⊎_, inl, inr, ⊎-elim}
 use Prim.Native.Nat.{ℕ, zero, suc, _≤_, _<_}
 use native.Mathlib.Omega.{arith}
 use lib.Dec.{T}
-use Rattle.doubles.specs.Double.{isFinite}
+use Rattle.doubles.specs.Double.{Double, plusZero, sum, atMost, isNumber, isFinite}
+use Rattle.cutting.specs.Cuttings.{Piece, Rule, Slot, nth}
+use Rattle.cutting.specs.Records.{offeredAll, standing, best, standsAt}
 use Rattle.cutting.proofs.Lists.{below-or}
-use Rattle.cutting.specs.Cuttings.{Piece}
-use Rattle.cutting.specs.Records.{scoreOf, offered, candidate, best}
 
--- What is asked of a rule: a piece is not empty, goes from boundary to boundary within the text and has a finite score; and from each boundary
--- before the end there is a piece that reaches the next one.
-pub record Pieces (boundary : ℕ → Bool) (end : ℕ) (pieceOf : ℕ → ℕ → Option Piece) : Type 0 where
-  pub first : boundary 0 ≡ true
-  pub forward : (i j : ℕ) (p : Piece) → pieceOf i j ≡ some p → i < j
-  pub inside : (i j : ℕ) (p : Piece) → pieceOf i j ≡ some p → j ≤ end
-  pub from : (i j : ℕ) (p : Piece) → pieceOf i j ≡ some p → boundary i ≡ true
-  pub to : (i j : ℕ) (p : Piece) → pieceOf i j ≡ some p → boundary j ≡ true
-  pub finite : (i j : ℕ) (p : Piece) → pieceOf i j ≡ some p → T (isFinite (p .score))
-  pub single : (i : ℕ) → i < end → boundary i ≡ true → (j : ℕ) × (p : Piece) × (pieceOf i j ≡ some p) × ((k : ℕ) → i < k → k < j → boundary k ≡ false)
+-- What is asked of a rule. A piece is not empty, ends within the text and has a finite score. A sum that counts is a number,
+-- one that is at least as great counts too, and so does what it was added to.
+pub record Pieces (end : ℕ) (rule : Rule) : Type 0 where
+  pub forward : (i j k : ℕ) (p : Piece) → nth (rule .pieces i j) k ≡ some p → i < j
+  pub inside : (i j k : ℕ) (p : Piece) → nth (rule .pieces i j) k ≡ some p → j ≤ end
+  pub finite : (i j k : ℕ) (p : Piece) → nth (rule .pieces i j) k ≡ some p → T (isFinite (p .score))
+  pub zero-counts : T (rule .counts plusZero)
+  pub number : (x : Double) → T (rule .counts x) → T (isNumber x)
+  pub up : (x y : Double) → T (rule .counts x) → T (atMost x y) → T (rule .counts y)
+  pub back : (x y : Double) → T (isFinite y) → T (rule .counts (sum x y)) → T (rule .counts x)
 
 -- nothing is not something
 pub no-piece : {A : Type 0} {x : A} → none ≡ some x → ⊥
@@ -30,77 +32,73 @@ no-piece e = let z : _≡_ {A = ℕ} 0 1 = cc in omega arith
 pub true-false : {b : Bool} → b ≡ true → b ≡ false → ⊥
 true-false p q = let z : _≡_ {A = ℕ} 0 1 = cc in omega arith
 
--- there is a piece, or there is none
+-- there is one, or there is none
 pub looked : {A : Type 0} (o : Option A) → (o ≡ none) ⊎ ((x : A) × (o ≡ some x))
 looked none = inl refl
 looked (some x) = inr (x, refl)
 
-module _ (P : ℕ → ℕ → Option Piece) where
-  -- the piece from i is offered to the record where it ends
-  pub worked : (i j : ℕ) (p : Piece) → P i j ≡ some p → best P (suc i) j ≡ some (offered (best P i j) (candidate (scoreOf (best P i i)) i p))
-  unfolding best
-  worked i j p e =
-      ap
-      (λ (o : Option Piece). elim o [
-        | none ↦ best P i j
-        | some q ↦ some (offered (best P i j) (candidate (scoreOf (best P i i)) i q))
-      ])
-      e
+-- no pieces where none has a place
+pub absent : (ps : List Piece) → ((k : ℕ) (p : Piece) → nth ps k ≡ some p → ⊥) → ps ≡ []
+unfolding nth
+absent [] no-such = refl
+absent (p ∷ ps) no-such = absurd (no-such 0 p refl)
 
-  -- where there is no piece from i, nothing changes
-  pub passed : (i j : ℕ) → P i j ≡ none → best P (suc i) j ≡ best P i j
-  unfolding best
-  passed i j e =
-      ap
-      (λ (o : Option Piece). elim o [
-        | none ↦ best P i j
-        | some q ↦ some (offered (best P i j) (candidate (scoreOf (best P i i)) i q))
-      ])
-      e
+-- nothing is offered from where nothing stands
+nowhere : (counts : Double → Bool) (i : ℕ) (ps : List Piece) (o : Option Slot) → offeredAll counts none i ps o ≡ o
+unfolding offeredAll
+nowhere counts i [] o = refl
+nowhere counts i (p ∷ ps) o = refl
 
-  pub none-before : (j : ℕ) → best P 0 j ≡ none
+module _ (rule : Rule) where
+  -- the pieces from a start that is reached are offered to the record where they end
+  pub worked : (i j : ℕ) (x : Double) → standsAt rule i ≡ some x → best rule (suc i) j ≡ offeredAll (rule .counts) (some x) i (rule .pieces i j) (best rule i j)
+  unfolding best
+  worked i j x e = ap (λ (o : Option Double). offeredAll (rule .counts) o i (rule .pieces i j) (best rule i j)) e
+
+  -- one that is not changes nothing
+  pub passed : (i j : ℕ) → standsAt rule i ≡ none → best rule (suc i) j ≡ best rule i j
+  unfolding best
+  passed i j e = ap (λ (o : Option Double). offeredAll (rule .counts) o i (rule .pieces i j) (best rule i j)) e ∙ nowhere (rule .counts) i (rule .pieces i j) (best rule i j)
+
+  -- nor does one with no piece that ends there
+  pub pieceless : (i j : ℕ) → rule .pieces i j ≡ [] → best rule (suc i) j ≡ best rule i j
+  unfolding best offeredAll
+  pieceless i j e = ap (λ (ps : List Piece). offeredAll (rule .counts) (standsAt rule i) i ps (best rule i j)) e
+
+  pub none-before : (j : ℕ) → best rule 0 j ≡ none
   unfolding best
   none-before j = refl
 
   -- with no piece from the starts in between, the record stays
-  pub unchanged : (from upto j : ℕ) → from ≤ upto → ((i : ℕ) → from ≤ i → i < upto → P i j ≡ none) → best P upto j ≡ best P from j
-  unchanged from zero j l all = ap (λ (n : ℕ). best P n j) (let e : 0 ≡ from = omega arith in e)
+  pub unchanged : (from upto j : ℕ) → from ≤ upto → ((i : ℕ) → from ≤ i → i < upto → rule .pieces i j ≡ []) → best rule upto j ≡ best rule from j
+  unchanged from zero j l all = ap (λ (n : ℕ). best rule n j) (let e : 0 ≡ from = omega arith in e)
   unchanged from (suc i) j l all =
       ⊎-elim
-      (λ (h : i < from). ap (λ (n : ℕ). best P n j) (let e : suc i ≡ from = omega arith in e))
-      (λ (h : from ≤ i). passed i j (all i h (omega arith)) ∙ unchanged from i j h (λ k p q. all k p (omega arith)))
+      (λ (h : i < from). ap (λ (n : ℕ). best rule n j) (let e : suc i ≡ from = omega arith in e))
+      (λ (h : from ≤ i). pieceless i j (all i h (omega arith)) ∙ unchanged from i j h (λ k p q. all k p (omega arith)))
       (below-or i from)
 
-  -- a record with no piece that ends there is empty
-  pub never : (from j : ℕ) → ((i : ℕ) → P i j ≡ none) → best P from j ≡ none
-  never from j all = unchanged 0 from j (omega arith) (λ i p q. all i) ∙ none-before j
+  -- what stands at the start, and after it
+  pub stands-first : standsAt rule 0 ≡ some plusZero
+  unfolding standing
+  stands-first = refl
 
--- no piece where the rule's facts say so
-pub absent : (P : ℕ → ℕ → Option Piece) (i j : ℕ) → ((p : Piece) → P i j ≡ some p → ⊥) → P i j ≡ none
-absent P i j no-such = go (looked (P i j))
-  where
-    go : (P i j ≡ none) ⊎ ((p : Piece) × (P i j ≡ some p)) → P i j ≡ none
-    go (inl e) = e
-    go (inr w) = absurd (no-such (w .0) (w .1))
+  pub stands-record : (j : ℕ) (r : Slot) → 0 < j → best rule j j ≡ some r → standsAt rule j ≡ some (r .score)
+  unfolding standing
+  stands-record zero r l e = absurd (omega arith)
+  stands-record (suc j) r l e = ap (standing (suc j)) e
 
-module _ {boundary : ℕ → Bool} {end : ℕ} {P : ℕ → ℕ → Option Piece} (g : Pieces boundary end P) where
-  -- records at or below the start come to are settled
-  pub settled-le : (from j : ℕ) → j ≤ from → best P from j ≡ best P j j
-  settled-le from j l =
-      unchanged P j from j l
-      (λ i p q. absent P i j (λ piece e. let h : i < j = g .forward i j piece e in omega arith))
+  pub record-stands : (j : ℕ) (x : Double) → 0 < j → standsAt rule j ≡ some x → (r : Slot) × (best rule j j ≡ some r) × (r .score ≡ x)
+  unfolding standing
+  record-stands zero x l e = absurd (omega arith)
+  record-stands (suc j) x l e = by-record (best rule (suc j) (suc j)) refl
+    where
+      by-record : (o : Option Slot) → best rule (suc j) (suc j) ≡ o → (r : Slot) × (best rule (suc j) (suc j) ≡ some r) × (r .score ≡ x)
+      by-record none h = absurd (no-piece (sym (ap (standing (suc j)) h) ∙ e))
+      by-record (some r) h = (r, h, let same : some (r .score) ≡ some x = sym (ap (standing (suc j)) h) ∙ e in let one : r .score ≡ x = cc in one)
 
-  -- positions that are no boundary change nothing
-  pub jumped : (from upto j : ℕ) → from ≤ upto → ((i : ℕ) → from ≤ i → i < upto → boundary i ≡ false) → best P upto j ≡ best P from j
-  jumped from upto j l all =
-      unchanged P from upto j l (λ i p q. absent P i j (λ piece e. true-false (g .from i j piece e) (all i p q)))
-
-  pub skipped : (i j : ℕ) → boundary i ≡ false → best P (suc i) j ≡ best P i j
-  skipped i j off = passed P i j (absent P i j (λ piece e. true-false (g .from i j piece e) off))
-
-  -- the record at 0 and those inside characters are empty
-  pub first-empty : (from : ℕ) → best P from 0 ≡ none
-  first-empty from = never P from 0 (λ i. absent P i 0 (λ piece e. let h : i < 0 = g .forward i 0 piece e in omega arith))
-
-  pub within-empty : (from j : ℕ) → boundary j ≡ false → best P from j ≡ none
-  within-empty from j off = never P from j (λ i. absent P i j (λ piece e. true-false (g .to i j piece e) off))
+-- records at or below the start come to are settled
+pub settled-le : {end : ℕ} {rule : Rule} → Pieces end rule → (from j : ℕ) → j ≤ from → best rule from j ≡ best rule j j
+settled-le {rule = rule} g from j l =
+    unchanged rule j from j l
+    (λ i p q. absent (rule .pieces i j) (λ k piece e. let h : i < j = g .forward i j k piece e in omega arith))

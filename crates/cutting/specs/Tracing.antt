@@ -9,8 +9,8 @@ use Rattle.refusal.specs.Places.{overlay}
 use Rattle.cutting.specs.Cuttings.{Step}
 use Rattle.cutting.specs.Slots.{Slots, slotAt}
 
--- The pieces before j: those before the start that stands at j, then the piece that ends at j, with the id that stands there. The second
--- argument bounds how many; j is enough.
+-- The pieces before j: those before the start that stands at j, then the piece that ends at j, with the id that stands there.
+-- The second argument bounds how many; j is enough.
 unfoldable pub followedIn : Slots → ℕ → ℕ → List Step
 followedIn c zero j = []
 followedIn c (suc n) zero = []
@@ -33,7 +33,8 @@ pub data Ends (n : ℕ) : ℕ → List ℕ → Type 0 where
   no-more : {at : ℕ} → Ends n at []
   and-then : {at e : ℕ} {es : List ℕ} → at < e → e ≤ n → Ends n e es → Ends n at (e ∷ es)
 
--- From n the starts fall until they come to 0: some positions are marked, n is one of them, and from each above 0 the start is a marked one below.
+-- From n the starts fall until they come to 0: some positions are marked, n is one of them, and from each above 0 the start is
+-- a marked one below.
 pub record Falling (starts : List ℕ) (n : ℕ) : Type 0 where
   pub marks : ℕ → Bool
   pub inside : n < length starts

@@ -36,7 +36,8 @@ pub fn put(start: &mut [u32], slot_id: &mut [u32], slot_score: &mut [f64], j: us
     slot_score[j] = q.score;
 }
 
-// Offers q to the slot at j, which keeps the better: an empty slot takes it, and a full one where its score is strictly greater.
+// Offers q to the slot at j, which keeps the better: an empty slot takes it, and a full one where its score is strictly
+// greater.
 pub fn offer(start: &mut [u32], slot_id: &mut [u32], slot_score: &mut [f64], j: usize, q: Slot)
     requires { ⌜ Inside (now start) (now «slot_id») (now «slot_score») j ⌝ }
     ensures { λ _.

@@ -2,7 +2,7 @@
 -- that a walk ends in is one of the parts, so its score is finite; the character at a boundary ends at the next. Assumes nothing.
 use mathlib.Core.Path.{_≡_, refl, sym, ap, subst, _∙_}
 use mathlib.Core.Bool.{Bool, true, false, _&&_}
-use mathlib.Core.List.{List, [], _∷_, _++_}
+use mathlib.Core.List.{List}
 use mathlib.Core.Logic.{_⊎_, inl, inr, ⊎-elim}
 use mathlib.Core.Option.{Option, none, some}
 use Prim.Native.Nat.{ℕ, zero, suc, _+_, _-_, _≤_, _<_}
@@ -11,16 +11,20 @@ use borrow.Author.Tests.{ltb-true, lt-ltb, eq-eqb}
 use lib.Dec.{T, ltb, eqb}
 use lib.ListN.{length, getD, take, drop}
 use lib.Seq.{take-add}
-use Rattle.doubles.specs.Double.{Double, plusZero, isFinite}
+use Rattle.doubles.specs.Double.{Double, notANumber, infinite, finite, plusZero, sum, isNumber, isFinite}
+use Rattle.doubles.proofs.Order.{at-most-numbers}
 use Rattle.text.specs.Text.{wellFormed, boundary, next, part, characters}
-use Rattle.text.proofs.Boundaries.{boundary-le, boundary-zero, next-above, next-inside, next-boundary, next-first, characters-append, characters-next}
-use Rattle.trie.specs.Trie.{Trie, walk, idAt}
-use Rattle.trie.specs.Sound.{Sound, SoundScored}
+use Rattle.text.proofs.Boundaries.{boundary-le, boundary-zero, next-above, next-boundary, next-first, characters-append, characters-next}
+use Rattle.trie.specs.Trie.{walk, idAt}
+use Rattle.trie.specs.Sound.{SoundScored}
 use Rattle.trie.proofs.Walking.{walk-inside}
-use Rattle.cutting.specs.Cuttings.{Piece}
-use Rattle.unigram.specs.Pieces.{Model, pieceAt, known, pieceHere, pieceOf}
+use Rattle.cutting.specs.Cuttings.{Piece, nth}
+use Rattle.cutting.specs.Records.{standsAt}
+use Rattle.unigram.specs.Pieces.{Model, pieceAt, known, pieceHere, pieceOf, listed, rule}
 use Rattle.cutting.proofs.Lists.{below-or}
-use Rattle.cutting.proofs.Working.{Pieces, no-piece, looked, true-false}
+use Rattle.cutting.proofs.Working.{Pieces, no-piece, true-false}
+use Rattle.cutting.proofs.Best.{zero-number, total-number}
+use Rattle.cutting.proofs.Reaching.{Reach, all-stand}
 
 -- ---- taking the rule apart
 
@@ -78,6 +82,23 @@ unfolding pieceHere
 one-there none u = (u, refl)
 one-there (some p) u = (p, refl)
 
+-- what a list of at most one piece has
+listed-has : (o : Option Piece) (k : ℕ) (p : Piece) → nth (listed o) k ≡ some p → o ≡ some p
+unfolding nth listed
+listed-has none k p e = absurd (no-piece e)
+listed-has (some q) zero p e = e
+listed-has (some q) (suc k) p e = absurd (no-piece e)
+
+listed-first : (o : Option Piece) (p : Piece) → o ≡ some p → nth (listed o) 0 ≡ some p
+unfolding nth listed
+listed-first o p e = ap (λ (q : Option Piece). nth (listed q) 0) e
+
+back-number : (x y : Double) → T (isNumber (sum x y)) → T (isNumber x)
+unfolding sum isNumber
+back-number notANumber y t = absurd t
+back-number (infinite s) y t = tt
+back-number (finite s n) y t = tt
+
 module _ (m : Model) (s : List ℕ) (well : wellFormed s ≡ true) (sound : SoundScored (m .trie) (m .score) (m .unknown .score)) where
   true-test : {t : Bool} → t ≡ true → T t
   true-test {t} e = subst T (sym e) tt
@@ -93,31 +114,49 @@ module _ (m : Model) (s : List ℕ) (well : wellFormed s ≡ true) (sound : Soun
       subst (λ (x : Piece). T (isFinite (x .score))) (w .2) (true-test (sound .finite-unknown)))
       (here-known (known m (part s i j)) (eqb j (next s i)) (m .unknown) p (between m s i j p e .here))
 
-  pub given : Pieces (boundary s) (length s) (pieceOf m s)
+  pub given : Pieces (length s) (rule m s)
   given =
       record {
+        forward = λ i j k p e. between m s i j p (listed-has (pieceOf m s i j) k p e) .forward;
+        inside = λ i j k p e. boundary-le s j (between m s i j p (listed-has (pieceOf m s i j) k p e) .to);
+        finite = λ i j k p e. finite-piece i j p (listed-has (pieceOf m s i j) k p e);
+        zero-counts = zero-number;
+        number = λ x t. t;
+        up = λ x y t l. at-most-numbers x y l .1;
+        back = λ x y f t. back-number x y t;
+      }
+
+  reach : Reach (boundary s) (length s) (rule m s)
+  reach =
+      record {
         first = boundary-zero s well;
-        forward = λ i j p e. between m s i j p e .forward;
-        inside = λ i j p e. boundary-le s j (between m s i j p e .to);
-        from = λ i j p e. between m s i j p e .from;
-        to = λ i j p e. between m s i j p e .to;
-        finite = finite-piece;
+        to = λ i j k p e. between m s i j p (listed-has (pieceOf m s i j) k p e) .to;
         single = λ i l at.
             let j = next s i in
             let w = one-there (known m (part s i j)) (m .unknown) in (
               j,
+              0,
               w .0,
-              piece-between m s i j (next-above s well i at l) at (next-boundary s well i at l)
+              listed-first (pieceOf m s i j) (w .0)
+                  (piece-between m s i j (next-above s well i at l) at (next-boundary s well i at l)
                   ∙ ap (λ (t : Bool). pieceHere (known m (part s i j)) t (m .unknown)) (eq-eqb j j refl)
-                  ∙ w .1,
+                  ∙ w .1),
               next-first s well i at l,
             );
       }
 
+  -- something stands at every boundary
+  pub boundary-stands : (j : ℕ) → j ≤ length s → boundary s j ≡ true → (x : Double) × (standsAt (rule m s) j ≡ some x)
+  boundary-stands = all-stand given reach (λ j c. total-number given c)
+
+  -- no piece starts elsewhere
+  pub starts-on : (i j k : ℕ) (p : Piece) → nth (rule m s .pieces i j) k ≡ some p → boundary s i ≡ true
+  starts-on i j k p e = between m s i j p (listed-has (pieceOf m s i j) k p e) .from
+
   -- a piece takes at least one character
-  pub piece-rises : (i j : ℕ) (p : Piece) → pieceOf m s i j ≡ some p → characters (take i s) < characters (take j s)
-  piece-rises i j p e =
-      let b = between m s i j p e in
+  pub piece-rises : (i j k : ℕ) (p : Piece) → nth (rule m s .pieces i j) k ≡ some p → characters (take i s) < characters (take j s)
+  piece-rises i j place p e =
+      let b = between m s i j p (listed-has (pieceOf m s i j) place p e) in
       let below : i < length s = omega (arith, b .forward, boundary-le s j (b .to)) in
       let reach : next s i ≤ j =
       ⊎-elim (λ (h : j < next s i). absurd (true-false (b .to) (next-first s well i (b .from) below j (b .forward) h))) (λ (h : next s i ≤ j). h) (below-or j (next s i))

@@ -12,21 +12,23 @@ use borrow.Author.Tests.{eq-eqb, ne-eqb, lt-ltb, le-ltb, lt-leb, le-leb}
 use lib.Dec.{eqb, ltb, leb}
 use lib.ListN.{length, getD, take, drop, length-drop}
 use lib.Seq.{take-suc, getD-drop, take-add}
-use Rattle.doubles.specs.Double.{Double, plusZero}
+use Rattle.doubles.specs.Double.{Double, plusZero, sum, isNumber}
+use Rattle.doubles.proofs.Sums.{sum-number}
 use Rattle.text.specs.Text.{wellFormed, boundary, next, part}
 use Rattle.text.proofs.Boundaries.{boundary-le, next-above, next-boundary, next-first}
 use Rattle.trie.specs.Trie.{step, walk, idAt}
 use Rattle.trie.proofs.Walking.{walk-snoc, walk-append-none, walk-nil}
-use Rattle.cutting.specs.Cuttings.{Piece, Slot}
-use Rattle.cutting.specs.Records.{candidate}
-use Rattle.unigram.specs.Pieces.{Model, pieceAt, known, pieceHere, pieceOf}
-use Rattle.cutting.specs.Slots.{Slots, slotAt, PutAt, taken, afterOffer}
+use Rattle.cutting.specs.Cuttings.{Piece, Slot, nth}
+use Rattle.cutting.specs.Records.{candidate, best, standsAt}
+use Rattle.unigram.specs.Pieces.{Model, pieceAt, known, pieceHere, pieceOf, listed, rule}
+use Rattle.cutting.specs.Slots.{Slots, slotAt, PutAt, taken, afterOffer, afterOffers}
 use Rattle.cutting.specs.Law.{Holds}
 use Rattle.unigram.specs.Work.{isSome, endsHere, Ended, knownTo, KnownOffered, Ready, Worked}
 use Rattle.cutting.proofs.Lists.{below-or}
-use Rattle.cutting.proofs.Working.{true-false, absent}
-use Rattle.cutting.proofs.Holding.{AllOffered, best-held, offered-past, holds-more, holds-jumped}
-use Rattle.unigram.proofs.Given.{given, piece-between, between}
+use Rattle.cutting.proofs.Working.{Pieces, true-false, looked}
+use Rattle.cutting.proofs.Best.{is-true, stands-counts}
+use Rattle.cutting.proofs.Holding.{AllOffered, best-held, stands-held, offered-past, holds-more, holds-jumped}
+use Rattle.unigram.proofs.Given.{given, boundary-stands, starts-on, piece-between, between}
 use Rattle.cutting.proofs.Columns.{put-as, put-back, Filled, filled-of, filled-more, filled-below, filled-above}
 
 -- ---- the piece that a node ends
@@ -244,6 +246,10 @@ module _ (m : Model) (s : List ℕ) (at one : ℕ) (x : Double) (b : Slots) wher
 
 -- ---- with the one character that has no id, that is every piece
 
+-- each piece from `at` has been offered
+pub record EachOffered (m : Model) (s : List ℕ) (at : ℕ) (x : Double) (before after : Slots) : Type 0 where
+  pub slots : (k : ℕ) → slotAt after k ≡ afterOffer (pieceOf m s at k) x at (slotAt before k)
+
 here-other : (o : Option Piece) (u : Piece) → pieceHere o false u ≡ o
 unfolding pieceHere
 here-other none u = refl
@@ -268,6 +274,9 @@ is-none none e = refl
 is-none (some p) e = absurd (true-false refl e)
 
 module _ (m : Model) (s : List ℕ) (at : ℕ) (on : boundary s at ≡ true) where
+  absent-piece : (k : ℕ) → ((p : Piece) → pieceOf m s at k ≡ some p → ⊥) → pieceOf m s at k ≡ none
+  absent-piece k no-such = ⊎-elim (λ (e : pieceOf m s at k ≡ none). e) (λ (w : (p : Piece) × (pieceOf m s at k ≡ some p)). absurd (no-such (w .0) (w .1))) (looked (pieceOf m s at k))
+
   -- any other length
   pub piece-known : (k : ℕ) → (k ≡ next s at → ⊥) → pieceOf m s at k ≡ knownTo m s at k
   piece-known k other = by-tests (boundary s k) refl (below-or at k)
@@ -279,8 +288,8 @@ module _ (m : Model) (s : List ℕ) (at : ℕ) (on : boundary s at ≡ true) whe
           ∙ here-other (known m (part s at k)) (m .unknown)
           ∙ sym (known-on m s at k l e)
       by-tests true e (inr l) =
-          absent (pieceOf m s) at k (λ p q. let h : at < k = between m s at k p q .forward in omega arith) ∙ sym (known-back m s at k l)
-      by-tests false e w = absent (pieceOf m s) at k (λ p q. true-false (between m s at k p q .to) e) ∙ sym (known-off m s at k e)
+          absent-piece k (λ p q. let h : at < k = between m s at k p q .forward in omega arith) ∙ sym (known-back m s at k l)
+      by-tests false e w = absent-piece k (λ p q. true-false (between m s at k p q .to) e) ∙ sym (known-off m s at k e)
 
   module _ (well : wellFormed s ≡ true) (below : at < length s) where
     one-char : pieceOf m s at (next s at) ≡ pieceHere (knownTo m s at (next s at)) true (m .unknown)
@@ -296,7 +305,7 @@ module _ (m : Model) (s : List ℕ) (at : ℕ) (on : boundary s at ≡ true) whe
       at-next k = ⊎-elim (λ (l : k < next s at). inr (λ e. omega arith)) (λ (l : next s at ≤ k). ⊎-elim (λ (h : next s at < k). inr (λ e. omega arith)) (λ (h : k ≤ next s at). inl (omega arith)) (below-or (next s at) k)) (below-or k (next s at))
 
       -- a string of one character has an id
-      pub all-known : r ≡ true → AllOffered (pieceOf m s) at x before after
+      pub all-known : r ≡ true → EachOffered m s at x before after
       all-known e =
           let w = is-some (knownTo m s at (next s at)) (sym (o .seen) ∙ e) in
           let here : pieceOf m s at (next s at) ≡ knownTo m s at (next s at) = one-char ∙ here-one (knownTo m s at (next s at)) (m .unknown) (w .0) (w .1) ∙ sym (w .1) in
@@ -308,7 +317,7 @@ module _ (m : Model) (s : List ℕ) (at : ℕ) (on : boundary s at ≡ true) whe
           }
 
       -- none has, and the unknown piece is offered
-      pub all-unknown : {last : Slots} → r ≡ false → PutAt after (next s at) (taken (slotAt after (next s at)) (candidate x at (m .unknown))) last → AllOffered (pieceOf m s) at x before last
+      pub all-unknown : {last : Slots} → r ≡ false → PutAt after (next s at) (taken (slotAt after (next s at)) (candidate x at (m .unknown))) last → EachOffered m s at x before last
       unfolding afterOffer
       all-unknown {last} e put =
           let n = next s at in
@@ -335,19 +344,47 @@ module _ (m : Model) (s : List ℕ) (at : ℕ) (on : boundary s at ≡ true) whe
 
 -- ---- the slots hold the records of one start more
 
+-- as a list of at most one
+offer-listed : (o : Option Piece) (x : Double) (at : ℕ) (r : Slot) → ((p : Piece) → o ≡ some p → isNumber (sum x (p .score)) ≡ true) → afterOffer o x at r ≡ afterOffers isNumber (listed o) x at r
+unfolding afterOffer afterOffers listed candidate
+offer-listed none x at r number = refl
+offer-listed (some p) x at r number = ap (λ (t : Bool). cond t (taken r (candidate x at p)) r) (sym (number p refl))
+
 pub worked-all :
     {m : Model} {s : List ℕ} (ready : Ready m s) (at : ℕ) (on : boundary s at ≡ true) (below : at < length s) {x : Double} {before after : Slots}
-    → Holds (pieceOf m s) (length s) at before → x ≡ slotAt before at .score → AllOffered (pieceOf m s) at x before after
+    → Holds (rule m s) (length s) at before → x ≡ slotAt before at .score → EachOffered m s at x before after
     → Worked m s at before after (next s at)
+unfolding listed nth
 worked-all {m} {s} ready at on below {x} {before} {after} h e o =
-    let well = ready .well in
-    let rule = given m s well (ready .sound) in
-    let held : Holds (pieceOf m s) (length s) (next s at) after =
-    holds-jumped rule (next-above s well at on below) (next-first s well at on below) (holds-more rule (omega arith) (omega (arith, ready .size)) h e o)
-    in
     record {
       next = refl;
       holds = held;
-      best = λ j l p b. best-held rule (next s at) after held j l p (boundary-le s j b) b;
-      past = offered-past rule o;
+      best = λ j l p b. let w = boundary-stands m s well (ready .sound) j (boundary-le s j b) b in best-held laws (next s at) after held j (w .0) l p (boundary-le s j b) (w .1);
+      past = offered-past laws all;
     }
+  where
+    well : wellFormed s ≡ true
+    well = ready .well
+
+    laws : Pieces (length s) (rule m s)
+    laws = given m s well (ready .sound)
+
+    stands : standsAt (rule m s) at ≡ some x
+    stands =
+        let w = boundary-stands m s well (ready .sound) at (omega arith) on in
+        stands-held laws at before (w .0) h (omega arith) (w .1) ∙ ap some (sym e)
+
+    all : AllOffered (rule m s) at x before after
+    all =
+        record {
+          slots = λ k.
+              o .slots k
+              ∙ offer-listed (pieceOf m s at k) x at (slotAt before k)
+              (λ p q. is-true (isNumber (sum x (p .score))) (sum-number x (p .score) (stands-counts laws at x stands) (laws .finite at k 0 p (ap (λ (u : Option Piece). nth (listed u) 0) q))));
+        }
+
+    held : Holds (rule m s) (length s) (next s at) after
+    held =
+        holds-jumped laws (next-above s well at on below)
+        (λ i j k p a b q. true-false (starts-on m s well (ready .sound) i j k p q) (next-first s well at on below i a b))
+        (holds-more laws (omega arith) (omega (arith, ready .size)) h stands all)

@@ -1,14 +1,14 @@
 -- Which pieces a text has in a Unigram trie, and its ids. Definitions only; assumes nothing.
 use Prim.Native.Nat.{ℕ}
-use mathlib.Core.Bool.{Bool, true, false, _&&_, cond}
-use mathlib.Core.List.{List}
+use mathlib.Core.Bool.{Bool, true, false, _&&_}
+use mathlib.Core.List.{List, [], _∷_}
 use mathlib.Core.Option.{Option, none, some}
 use lib.Dec.{ltb, eqb}
 use lib.ListN.{length, getD}
-use Rattle.doubles.specs.Double.{Double, plusZero}
+use Rattle.doubles.specs.Double.{Double, plusZero, isNumber}
 use Rattle.text.specs.Text.{boundary, next, part}
 use Rattle.trie.specs.Trie.{Trie, walk, idAt, idOf}
-use Rattle.cutting.specs.Cuttings.{Piece, Step}
+use Rattle.cutting.specs.Cuttings.{Piece, Rule, Step}
 use Rattle.cutting.specs.Law.{bestPieces}
 use Rattle.unigram.specs.Runs.{merged}
 
@@ -40,9 +40,19 @@ pieceOf m s i j =
       | false ↦ none
     ]
 
+-- the piece, if there is one, as a list
+unfoldable pub listed : Option Piece → List Piece
+listed none = []
+listed (some p) = p ∷ []
+
+-- The rule of Unigram: a span has at most one piece. "A sum beyond the largest double is infinite as IEEE 754 has it and still
+-- compares": every sum that is a number counts.
+abbrev pub rule : Model → List ℕ → Rule
+rule m s = record { pieces = λ i j. listed (pieceOf m s i j); counts = isNumber }
+
 -- the pieces of the best cutting of s, in order
 abbrev pub piecesOf : Model → List ℕ → List Step
-piecesOf m s = bestPieces (pieceOf m s) (length s)
+piecesOf m s = bestPieces (rule m s) (length s)
 
 -- the ids of s
 unfoldable pub idsOf : Model → List ℕ → List ℕ

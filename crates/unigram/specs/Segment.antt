@@ -4,7 +4,7 @@ use Prim.Native.Nat.{ℕ, _+_}
 use mathlib.Core.Bool.{Bool, not, _&&_, _||_, cond}
 use mathlib.Core.List.{List, [], _∷_}
 use mathlib.Core.Option.{Option, none, some}
-use lib.Dec.{ltb, eqb}
+use lib.Dec.{T, ltb, eqb}
 use lib.ListN.{length}
 use Rattle.doubles.specs.Double.{Double}
 use Rattle.refusal.specs.declared.Fault.{Fault}
@@ -17,11 +17,11 @@ use Rattle.trie.specs.Sound.{soundScored}
 use Rattle.build.specs.Memory.{anyBelow}
 use Rattle.unigram.specs.declared.SegmentAnswer.{SegmentAnswer}
 use Rattle.unigram.specs.declared.SegmentAnswer.the-variants.{Ids, Refused}
-use Rattle.cutting.specs.Cuttings.{Piece}
+use Rattle.cutting.specs.Cuttings.{Rule}
 use Rattle.cutting.specs.Slots.{Slots}
 use Rattle.cutting.specs.Law.{slotsLeft, pathLeft}
 use Rattle.cutting.specs.Law as law
-use Rattle.unigram.specs.Pieces.{Model, pieceOf, idsOf}
+use Rattle.unigram.specs.Pieces.{Model, rule, idsOf}
 
 -- the lent slot columns, path and ids
 pub record Scratch : Type 0 where
@@ -54,17 +54,17 @@ segmentAnswer (some f) count = Refused f
 abbrev pub slotsIn : Scratch → Slots
 slotsIn b = record { start = b .start; id = b .id; score = b .score }
 
--- "After success: ids in order; places past them unchanged; the first path places hold the end offsets of the pieces before merging, in order,
--- the rest unchanged; slot 0 and slots inside characters are empty; other slots up to the text's length hold start, id and score; later slots
--- unchanged." First the slots and the path, by the cutting alone.
-abbrev pub withCutting : (ℕ → ℕ → Option Piece) → ℕ → Scratch → Scratch
-withCutting pieceOf n b =
-    let slots = slotsLeft pieceOf n (slotsIn b) in
+-- "After success: ids in order; places past them unchanged; the first path places hold the end offsets of the pieces before
+-- merging, in order, the rest unchanged; slot 0 and slots inside characters are empty; other slots up to the text's length hold
+-- start, id and score; later slots unchanged." First the slots and the path, by the cutting alone.
+abbrev pub withCutting : Rule → ℕ → Scratch → Scratch
+withCutting rule n b =
+    let slots = slotsLeft rule n (slotsIn b) in
     record {
       start = slots .start;
       id = slots .id;
       score = slots .score;
-      path = pathLeft pieceOf n (b .path);
+      path = pathLeft rule n (b .path);
       ids = b .ids;
     }
 
@@ -73,7 +73,7 @@ abbrev pub withIds : List ℕ → Scratch → Scratch
 withIds ids b = record { start = b .start; id = b .id; score = b .score; path = b .path; ids = overlay ids (b .ids) }
 
 unfoldable pub written : Model → List ℕ → Scratch → Scratch
-written m s b = withIds (idsOf m s) (withCutting (pieceOf m s) (length s) b)
+written m s b = withIds (idsOf m s) (withCutting (rule m s) (length s) b)
 
 -- "Every other refusal writes nothing." "Empty text writes nothing."
 unfoldable pub segmentLeaves : Option Fault → Model → List ℕ → Scratch → Scratch
@@ -82,7 +82,7 @@ segmentLeaves (some f) m s b = b
 
 -- Demand 3, of the slots that stand when the call has ended, with at most one piece a character.
 abbrev pub RecordLaw : Model → List ℕ → Scratch → Type 0
-RecordLaw m s after = law.RecordLaw (pieceOf m s) (boundary s) s (characters s) (slotsIn after)
+RecordLaw m s after = law.RecordLaw (rule m s) (λ j. T (boundary s j)) s (characters s) (slotsIn after)
 
 -- What `segment` promises of its answer and of the lent columns, before and after.
 pub record Segmented (m : Model) (s : List ℕ) (before : Scratch) (answer : SegmentAnswer) (after : Scratch) : Type 0 where

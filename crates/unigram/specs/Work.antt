@@ -19,7 +19,7 @@ use Rattle.cutting.specs.Cuttings.{Piece, Best}
 use Rattle.cutting.specs.Slots.{Slots, slotAt, afterOffer, Inside, PutAt}
 use Rattle.cutting.specs.Law.{Holds, pathLeft}
 use Rattle.cutting.specs.Law as law
-use Rattle.unigram.specs.Pieces.{Model, pieceAt, known, pieceOf, piecesOf}
+use Rattle.unigram.specs.Pieces.{Model, pieceAt, known, rule, piecesOf}
 
 -- the model in lent columns
 abbrev pub modelOf : List ℕ → List ℕ → List ℕ → List Float → List ℕ → List ℕ → Piece → Model
@@ -46,7 +46,8 @@ isSome (some p) = true
 unfoldable pub endsHere : Model → List ℕ → ℕ → ℕ → Option Piece
 endsHere m s k i = elim (boundary s i) [ true ↦ pieceAt m k | false ↦ none ]
 
--- The work at one end i of a walk from `at`: the piece that ends there is offered, and `single` becomes true where it is one character long.
+-- The work at one end i of a walk from `at`: the piece that ends there is offered, and `single` becomes true where it is one
+-- character long.
 pub record Ended (m : Model) (s : List ℕ) (node i one : ℕ) (single : Bool) (at : ℕ) (x : Double) (before after : Slots) (r : Bool) : Type 0 where
   pub put : PutAt before i (afterOffer (endsHere m s node i) x at (slotAt before i)) after
   pub seen : r ≡ (single || (eqb i one && isSome (endsHere m s node i)))
@@ -80,21 +81,21 @@ pub record Come (m : Model) (s : List ℕ) (at : ℕ) (starts ids : List ℕ) (s
   pub below : at < length s
   pub boundary : boundary s at ≡ true
   pub inside : Inside starts ids scores (length s)
-  pub holds : Holds (pieceOf m s) (length s) at c
+  pub holds : Holds (rule m s) (length s) at c
 
 -- The work at `at` is done, and r is the next boundary. The record law of demand 3 holds at every boundary come to so far.
 pub record Worked (m : Model) (s : List ℕ) (at : ℕ) (before after : Slots) (r : ℕ) : Type 0 where
   pub next : r ≡ next s at
-  pub holds : Holds (pieceOf m s) (length s) r after
-  pub best : (j : ℕ) → 0 < j → j ≤ r → boundary s j ≡ true → Best (pieceOf m s) j (slotAt after j)
+  pub holds : Holds (rule m s) (length s) r after
+  pub best : (j : ℕ) → 0 < j → j ≤ r → boundary s j ≡ true → Best (rule m s) j (slotAt after j)
   pub past : (k : ℕ) → length s < k → slotAt after k ≡ slotAt before k
 
 -- All of the work is done: every slot up to the text's length holds its record, and demand 3's law holds at every boundary.
 abbrev pub Recorded : Model → List ℕ → Slots → Slots → Type 0
-Recorded m s before after = law.Recorded (pieceOf m s) (boundary s) (length s) before after
+Recorded m s before after = law.Recorded (rule m s) (λ j. boundary s j ≡ true) (length s) before after
 
 -- The slots hold the records, and the first path places the ends of the best cutting's pieces; r is how many there are.
-pub record BestCutting (m : Model) (s : List ℕ) (before : Slots) (pathBefore : List ℕ) (after : Slots) (pathAfter : List ℕ) (r : ℕ) : Type 0 where
+pub record BestCutting (m : Model) (s : List ℕ) (before : Slots) (path₀ : List ℕ) (after : Slots) (path₁ : List ℕ) (r : ℕ) : Type 0 where
   pub slots : Recorded m s before after
-  pub path : pathAfter ≡ pathLeft (pieceOf m s) (length s) pathBefore
+  pub path : path₁ ≡ pathLeft (rule m s) (length s) path₀
   pub count : r ≡ length (piecesOf m s)

@@ -11,15 +11,16 @@ ghost use Rattle.trie.specs.Walks.{Leads};
 ghost use Rattle.cutting.specs.Cuttings.{Piece};
 ghost use Rattle.unigram.specs.Pieces.{Model};
 ghost use Rattle.cutting.specs.Slots.{Inside, slotsIs, slotsNow, slotsWas};
-ghost use Rattle.unigram.specs.Work.{modelOf, Ended, Walkable, KnownOffered, Ready, Come, Worked, Recorded, BestCutting, model, modelNow};
+ghost use Rattle.unigram.specs.Work.{modelOf, Ended, Walkable, KnownOffered, Ready, Come, Worked, Recorded, BestCutting};
+ghost use Rattle.unigram.specs.Work.{model, modelNow};
 ghost use Rattle.refusal.specs.Lent.{is, was};
 ghost use Rattle.text.specs.Text.{characters};
 
 // A byte that leads nowhere from the root.
 const NO_NODE: u32 = 4_294_967_295;
 
-// A walk from `at` has come to `node` at i. If i is a boundary and the node has an id, the piece is offered to the slot at i. Answers `single`, or
-// true where that piece ends at `one`.
+// A walk from `at` has come to `node` at i. If i is a boundary and the node has an id, the piece is offered to the slot at i.
+// Answers `single`, or true where that piece ends at `one`.
 fn end_at(
     id: &[u32],
     score: &[f64],
@@ -61,8 +62,8 @@ fn end_at(
     }
 }
 
-// Offers each string with an id that starts at `at`, longer by a byte at each turn. Answers whether one of them ends at `one`. `till` is the
-// score that stands before them, `first` the table of the root's edges.
+// Offers each string with an id that starts at `at`, longer by a byte at each turn. Answers whether one of them ends at `one`.
+// `till` is the score that stands before them, `first` the table of the root's edges.
 fn offer_known(
     edge_at: &[u32],
     edge_n: &[u16],
@@ -119,8 +120,8 @@ fn offer_known(
     single
 }
 
-// The work from the boundary `at` to the next, which it answers: each piece that starts here is offered. If no string with an id is exactly one
-// character long, that one character is also a piece, with the unknown id and score.
+// The work from the boundary `at` to the next, which it answers: each piece that starts here is offered. If no string with an
+// id is exactly one character long, that one character is also a piece, with the unknown id and score.
 fn work_at(
     edge_at: &[u32],
     edge_n: &[u16],
@@ -173,7 +174,8 @@ fn work_at(
     one
 }
 
-// Fills the slots up to the text's length with the records, boundary by boundary. Each start steps from the root, so its edges are laid out once.
+// Fills the slots up to the text's length with the records, boundary by boundary. Each start steps from the root, so its edges
+// are laid out once.
 fn fill(
     edge_at: &[u32],
     edge_n: &[u16],
@@ -218,7 +220,8 @@ fn fill(
     }
 }
 
-// Fills the slots with the records, and the first path places with the ends of the best cutting's pieces. Answers how many pieces there are.
+// Fills the slots with the records, and the first path places with the ends of the best cutting's pieces. Answers how many
+// pieces there are.
 pub(crate) fn best_cutting(
     edge_at: &[u32],
     edge_n: &[u16],

@@ -28,7 +28,7 @@ use Rattle.output.specs.Output as output
 use Rattle.worked.specs.Example as example
 
 unfoldable pub doubles-opened : Unit {0}
-unfolding size doubles.gap doubles.nearer doubles.nearestMultiple doubles.rounded doubles.round doubles.sumFinite doubles.sum doubles.less doubles.same doubles.lowerOf doubles.isFinite doubles.ofFields doubles.ofPattern
+unfolding size doubles.gap doubles.nearer doubles.nearestMultiple doubles.rounded doubles.round doubles.sumFinite doubles.sum doubles.less doubles.same doubles.lowerOf doubles.isNumber doubles.isFinite doubles.ofFields doubles.ofPattern
 doubles-opened = tt
 
 unfoldable pub text-opened : Unit {0}
@@ -44,7 +44,7 @@ unfolding rows.worthFault rows.rowFault rows.firstBad scores.lowest scores.unkno
 build-opened = tt
 
 unfoldable pub unigram-opened : Unit {0}
-unfolding records.scoreOf records.offered records.candidate records.best records.shown records.recordsFrom records.followed runs.runId runs.merged unigram.pieceAt unigram.known unigram.pieceHere unigram.pieceOf unigram.idsOf segment.shortScratch segment.segmentFault
+unfolding records.scoreOf records.offered records.candidate records.offeredAll records.standing records.best records.shown records.recordsFrom records.followed runs.runId runs.merged unigram.pieceAt unigram.known unigram.pieceHere unigram.pieceOf unigram.listed unigram.idsOf segment.shortScratch segment.segmentFault
 unigram-opened = tt
 
 unfoldable pub wordpiece-opened : Unit {0}

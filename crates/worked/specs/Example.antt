@@ -81,7 +81,7 @@ unfoldable pub unigramHolds : unigram.Model → Given → Bool
 unigramHolds m g =
     let s = g .text in
     let n = length s in
-    isNone (segmentFault m s lent) && names.same (unigram.idsOf m s) (g .ids) && scoreIs (g .score) (scoreOf (best (unigram.pieceOf m s) n n))
+    isNone (segmentFault m s lent) && names.same (unigram.idsOf m s) (g .ids) && scoreIs (g .score) (scoreOf (best (unigram.rule m s) n n))
 
 -- the word is accepted and gives these ids
 unfoldable pub wordpieceHolds : Example → Given → Bool

@@ -1,5 +1,5 @@
--- `cutting::path::count` meets its contract. The loop's invariant: the pieces counted and those before `at` are all. The start of a record lies
--- below it, so `at` falls. Assumes nothing.
+-- `cutting::path::count` meets its contract. The loop's invariant: the pieces counted and those before `at` are all. The start
+-- of a record lies below it, so `at` falls. Assumes nothing.
 use mathlib.Core.Path.{_≡_, sym, ap, _∙_}
 use mathlib.Core.Bool.{true}
 use mathlib.Core.List.{_∷_, [], _++_}

@@ -1,5 +1,5 @@
--- `cutting::path::write` meets its contract. The loop's invariant: the pieces done and those before `at` are all, and the places after those before
--- `at` are written. The start of a record lies below it, so `at` falls. Assumes nothing.
+-- `cutting::path::write` meets its contract. The loop's invariant: the pieces done and those before `at` are all, and the
+-- places after those before `at` are written. The start of a record lies below it, so `at` falls. Assumes nothing.
 use mathlib.Core.Path.{_≡_, refl, sym, ap, _∙_}
 use mathlib.Core.Bool.{true}
 use mathlib.Core.List.{List, _∷_, [], _++_}

@@ -1,5 +1,5 @@
--- `cutting::slots::clear` meets its contract. The loop's invariant: the slots below j are empty, the others as they were. What is left up to
--- n falls. Assumes nothing.
+-- `cutting::slots::clear` meets its contract. The loop's invariant: the slots below j are empty, the others as they were. What
+-- is left up to n falls. Assumes nothing.
 use mathlib.Core.Path.{_≡_, refl, _∙_}
 use mathlib.Core.Option.{none}
 use Prim.Native.Nat.{_+_, _-_, _≤_}

@@ -1,4 +1,5 @@
--- `cutting::slots::offer` meets its contract: an empty slot takes what it is offered, a full one where that is better. Assumes nothing.
+-- `cutting::slots::offer` meets its contract: an empty slot takes what it is offered, a full one where that is better. Assumes
+-- nothing.
 use mathlib.Core.Path.{_≡_, sym, ap, _∙_}
 use Rattle.doubles.specs.Double.{less}
 use Rattle.refusal.specs.Sizes.{noId}

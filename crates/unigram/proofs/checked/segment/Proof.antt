@@ -1,5 +1,5 @@
--- `unigram::checked::segment` meets its contract: nothing for an empty text (`empty-for`), else the best cutting, and the ids merged from its path
--- (`cut-of`). Assumes nothing.
+-- `unigram::checked::segment` meets its contract: nothing for an empty text (`empty-for`), else the best cutting, and the ids
+-- merged from its path (`cut-of`). Assumes nothing.
 use mathlib.Core.Path.{sym}
 use Prim.Native.Nat.{_≤_}
 use native.Mathlib.Omega.{arith}

@@ -1,4 +1,5 @@
--- `unigram::lattice::best_cutting` meets its contract: the records are filled, their starts fall, and the path is traced by them. Assumes nothing.
+-- `unigram::lattice::best_cutting` meets its contract: the records are filled, their starts fall, and the path is traced by
+-- them. Assumes nothing.
 use native.Mathlib.Omega.{arith}
 use Rattle.unigram.proofs.Segmenting.{starts-fall, ends-few, best-cutting}
 use borrow.Author.Needs.{needs}

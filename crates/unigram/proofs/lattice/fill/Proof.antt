@@ -9,12 +9,12 @@ use borrow.Author.Needs.{needs}
 use lib.ListN.{length}
 use Rattle.text.specs.Text.{boundary, next}
 use Rattle.text.proofs.Boundaries.{boundary-zero, next-above, next-inside, next-boundary}
-use Rattle.unigram.specs.Pieces.{pieceOf}
+use Rattle.unigram.specs.Pieces.{rule}
 use Rattle.cutting.specs.Slots.{slotsOf, slotAt}
 use Rattle.unigram.specs.Work.{modelOf, pieceWith}
 use Rattle.cutting.specs.Law.{Holds}
 use Rattle.cutting.proofs.Holding.{holds-none, cleared-past, recorded}
-use Rattle.unigram.proofs.Given.{given}
+use Rattle.unigram.proofs.Given.{given, boundary-stands}
 use Rattle.unigram.proofs.lattice.fill.Statement.{statement}
 use Rattle.unigram.proofs.lattice.fill.Tie as tie
 
@@ -25,7 +25,7 @@ Inv-loop edge-at edge-n id score byte to unknown unknown-score text start₀ slo
     × (length start ≡ length start₀)
     × (length slot-id ≡ length slot-id₀)
     × (length slot-score ≡ length slot-score₀)
-    × Holds (pieceOf (modelOf edge-at edge-n id score byte to (pieceWith unknown unknown-score)) text) (length text) at (slotsOf start slot-id slot-score)
+    × Holds (rule (modelOf edge-at edge-n id score byte to (pieceWith unknown unknown-score)) text) (length text) at (slotsOf start slot-id slot-score)
     × ((k : ℕ) → length text < k → slotAt (slotsOf start slot-id slot-score) k ≡ slotAt (slotsOf start₀ slot-id₀ slot-score₀) k)
 
 abbrev μ-loop : tie.MeasureT-loop
@@ -157,7 +157,7 @@ returns c =
     let d = emptied (h .before) in
     let e = begun d in
     let ready = e .pre .0 in
-    recorded (given _ (text e) (ready .well) (ready .sound)) (omega (arith, h .loop .inv .0, c .loop-test .left)) (h .loop .inv .5)
+    recorded (given _ (text e) (ready .well) (ready .sound)) (boundary-stands _ (text e) (ready .well) (ready .sound)) (omega (arith, h .loop .inv .0, c .loop-test .left)) (h .loop .inv .5)
     (λ k l. h .loop .inv .6 k l ∙ cleared-past (d .clear .ensures) k l)
 
 pub fill-spec : {M : Type 1} → statement M

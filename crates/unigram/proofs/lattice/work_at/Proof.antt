@@ -12,13 +12,12 @@ use Rattle.text.specs.Text.{next}
 use Rattle.text.proofs.Boundaries.{next-above, next-inside}
 use Rattle.cutting.specs.Cuttings.{Slot}
 use Rattle.cutting.specs.Records.{candidate}
-use Rattle.unigram.specs.Pieces.{Model, pieceOf}
+use Rattle.unigram.specs.Pieces.{Model}
 use Rattle.cutting.specs.Slots.{Slots, slotsOf, slotAt, PutAt, taken}
 use Rattle.unigram.specs.Work.{modelOf, pieceWith, KnownOffered, Worked}
 use Rattle.cutting.proofs.Best.{same-slot}
 use Rattle.cutting.proofs.Columns.{put-as, score-read}
-use Rattle.cutting.proofs.Holding.{AllOffered}
-use Rattle.unigram.proofs.Offering.{all-known, all-unknown, worked-all}
+use Rattle.unigram.proofs.Offering.{EachOffered, all-known, all-unknown, worked-all}
 use borrow.Author.Needs.{needs}
 use Rattle.unigram.proofs.lattice.work_at.Statement.{statement}
 use Rattle.unigram.proofs.lattice.work_at.Tie as tie
@@ -95,7 +94,7 @@ known c = let a = entry (measured c) .args in of-slot c _ (c .offer-known .ensur
 -- every piece has been offered
 done :
     (c : tie.After-char-len) {after : Slots} → let e = entry c in
-    AllOffered (pieceOf (model e) (text e)) (e .args .at) (slotAt (columns e) (e .args .at) .score) (columns e) after
+    EachOffered (model e) (text e) (e .args .at) (slotAt (columns e) (e .args .at) .score) (columns e) after
     → Worked (model e) (text e) (e .args .at) (columns e) after (e .args .at + c .char-len .result)
 done c {after} o =
     let e = entry c in
