@@ -214,7 +214,7 @@ module _ (edgeAt edgeN id byte to work : List ℕ) where
         let full : ltb room (length ns) ≡ true = lt-ltb room (length ns) (done .full h) in
         record {
           answered = rw full;
-          left = e ∙ sym (ap (λ (t : Bool). cond t (cleared before) (holding (trieGiven first tab rows) before)) full);
+          left = e ∙ sym (ap (λ (t : Bool). cond t (cleared before) (holding (trieGiven first tab rows) [] before)) full);
         }
 
     pub built-done :
@@ -225,11 +225,12 @@ module _ (edgeAt edgeN id byte to work : List ℕ) where
         let rule = rulesFrom first tab noRule 0 rows in
         let held = done .held fits in
         let room-left : ltb room (length ns) ≡ false = le-ltb room (length ns) (omega (arith, done .count fits)) in
-        let holds : memory edgeAt′ edgeN′ id byte′ to′ work′ ≡ holding (trieOf rule (tokensOf tab rows)) before =
+        let holds : memory edgeAt′ edgeN′ id byte′ to′ work′ ≡ holding (trieOf rule (tokensOf tab rows)) [] before =
         λ i. record {
           edgeAt = d .begun i;
           edgeN = d .counted i;
           id = ids-filled ns (held .links .grown) rule id id (held .marks) refl i;
+          score = [];
           byte = d .written i;
           to = d .led i;
           work = d .unlinked i;
@@ -237,8 +238,8 @@ module _ (edgeAt edgeN id byte to work : List ℕ) where
         record {
           answered = ap Nodes (done .count fits) ∙ sym (ap (λ (t : Bool). cond t NoRoom (Nodes (length ns))) room-left);
           left =
-              holds ∙ ap (λ t. holding t before) (trie-given first tab rows)
-              ∙ sym (ap (λ (t : Bool). cond t (cleared before) (holding (trieGiven first tab rows) before)) room-left);
+              holds ∙ ap (λ t. holding t [] before) (trie-given first tab rows)
+              ∙ sym (ap (λ (t : Bool). cond t (cleared before) (holding (trieGiven first tab rows) [] before)) room-left);
         }
 
 -- ---- a build leaves the same in other columns of the same lengths
@@ -270,18 +271,20 @@ module _ (edgeAt edgeN id byte to work edgeN₂ id₂ work₂ : List ℕ)
         edgeAt = zeroed 0 edgeAt;
         edgeN = zeroed-same edgeN₂ edgeN kn i;
         id = zeroed-same id₂ id ki i;
+        score = [];
         byte = zeroed 0 byte;
         to = zeroed 0 to;
         work = zeroed-same work₂ work kw i;
       }
 
-  same-holding : (t : Trie) → holding t then ≡ holding t at-first
+  same-holding : (t : Trie) → holding t [] then ≡ holding t [] at-first
   unfolding holding
   same-holding t =
       λ i. record {
         edgeAt = filled 0 (t .edgeAt) edgeAt;
         edgeN = filled-same (t .edgeN) edgeN₂ edgeN kn i;
         id = filled-same (t .id) id₂ id ki i;
+        score = [];
         byte = filled 0 (t .byte) byte;
         to = filled 0 (t .to) to;
         work = zeroed-same work₂ work kw i;

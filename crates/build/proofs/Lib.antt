@@ -17,6 +17,9 @@ pub mod Rooms
 pub mod Judging
 pub mod Outcomes
 pub mod Determinacy
+-- the promise of every build: its cases, what it says, and the trie that is left
+pub mod Promises
+pub mod BuiltTries
 -- entering tokens and laying out nodes, step by step; `Rowing` and `Filled` also serve a caller that enters rows of its own
 pub mod Linking
 pub mod Seeking

@@ -2,8 +2,9 @@
 use mathlib.Core.Path.{_≡_, refl, sym, ap, _∙_}
 use mathlib.Core.Bool.{Bool, true, false, cond}
 use mathlib.Core.List.{List}
-use Prim.Native.Nat.{ℕ}
+use Prim.Native.Nat.{ℕ, _≤_}
 use native.Mathlib.Omega.{arith}
+use borrow.Author.Tests.{ltb-false}
 use lib.Dec.{ltb}
 use Rattle.rows.specs.Rows.{Row}
 use Rattle.build.specs.declared.Built.{Built}
@@ -40,3 +41,7 @@ module _ {b : Bool} {tab : List ℕ} {rows : List Row} {room : ℕ} {before afte
         go false p =
             let z : Nodes n ≡ Nodes nodes = sym e ∙ d .answered ∙ ap (λ (t : Bool). cond t NoRoom (Nodes nodes)) p in
             (refl, cc)
+
+    -- they are no more than the room
+    pub core-room : {n : ℕ} → answer ≡ Nodes n → n ≤ room
+    core-room e = let w = core-fits e in omega (arith, w .1, ltb-false room nodes (w .0))

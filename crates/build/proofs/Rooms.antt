@@ -3,6 +3,7 @@
 use mathlib.Core.Path.{_≡_, refl, sym, ap, _∙_}
 use mathlib.Core.Bool.{Bool, true, false, _||_}
 use mathlib.Core.List.{List, [], _∷_}
+use mathlib.Core.Option.{none}
 use Prim.Native.Nat.{ℕ, _+_, _-_, _*_, _/_, _≤_, _<_, min}
 use native.Mathlib.Omega.{arith}
 use native.Mathlib.Decide.{decLt}
@@ -11,9 +12,12 @@ use lib.Dec.{ltb}
 use lib.ListN.{length, getD}
 use Rattle.doubles.specs.Double.{Double}
 use Rattle.refusal.specs.Sizes.{maxRows, maxToken}
-use Rattle.rows.specs.Rows.{Row, tokenOf}
+use Rattle.rows.specs.declared.Kind.{Kind}
+use Rattle.rows.specs.Rows.{Row, firstBad}
+use Rattle.rows.proofs.RowFaults.{fine-short, fine-token-length}
+use Rattle.rows.proofs.FirstBad.{none-bad-says}
 use Rattle.build.specs.Rules.{tokensOf}
-use Rattle.build.specs.Memory.{Memory, anyBelow, noRoom, noScoredRoom}
+use Rattle.build.specs.Memory.{Memory, withScores, anyBelow, noRoom, noScoredRoom}
 use Rattle.build.specs.Core.{roomOf, RoomFor, nodesOf}
 use Rattle.build.proofs.Named.{names-are, names-few, bytes-few, entered-grows}
 use Rattle.build.proofs.Lookups.{noRow, token-at, length-tokens}
@@ -139,10 +143,27 @@ lesser-below a b n = go (decLt a n) (decLt b n)
     go (no h) (no k) = rw (le-ltb a n (omega arith), le-ltb b n (omega arith), le-ltb (min a b) n (omega arith))
 
 pub no-scored-room :
-    (m : Memory) (scores : List Double) (n : ℕ) → 1 ≤ n → n ≤ 4_294_967_295 → noScoredRoom n m scores ≡ ltb (min (roomOf m) (length scores)) n
+    (m : Memory) (n : ℕ) → 1 ≤ n → n ≤ 4_294_967_295 → noScoredRoom n m ≡ ltb (min (roomOf m) (length (m .score))) n
 unfolding noScoredRoom
-no-scored-room m scores n some-node small =
-    ap (λ (t : Bool). t || ltb (length scores) n) (no-room m n some-node small) ∙ lesser-below (roomOf m) (length scores) n
+no-scored-room m n some-node small =
+    ap (λ (t : Bool). t || ltb (length (m .score)) n) (no-room m n some-node small) ∙ lesser-below (roomOf m) (length (m .score)) n
+
+lesser-left : (a b : ℕ) {r : ℕ} → r ≡ min a b → r ≤ a
+lesser-left a b e = omega (arith, e)
+
+lesser-right : (a b : ℕ) {r : ℕ} → r ≡ min a b → r ≤ b
+lesser-right a b e = omega (arith, e)
+
+-- of a memory with this score column, whose room is that lesser one
+module _ (m : Memory) (xs : List Double) {room : ℕ} (e : room ≡ min (roomOf m) (length xs)) where
+  pub scored-room-for : RoomFor room m
+  scored-room-for = room-for m room (lesser-left (roomOf m) (length xs) e)
+
+  pub scores-roomy : room ≤ length xs
+  scores-roomy = lesser-right (roomOf m) (length xs) e
+
+  pub scored-decides : (n : ℕ) → 1 ≤ n → n ≤ 4_294_967_295 → noScoredRoom n (withScores m xs) ≡ ltb room n
+  scored-decides n some-node small = no-scored-room (withScores m xs) n some-node small ∙ ap (λ (k : ℕ). ltb k n) (sym e)
 
 -- ---- how many nodes rows need
 
@@ -151,12 +172,17 @@ nodes-some tab rows = omega (arith, ap length (names-are (tokensOf tab rows)), e
 
 -- at most 1,048,576 rows of 1,024 bytes: 1,073,741,825 nodes
 pub nodes-few :
-    (tab : List ℕ) (rows : List Row) → length rows ≤ maxRows → ((i : ℕ) → i < length rows → length (tokenOf tab (getD rows i noRow)) ≤ maxToken)
-    → nodesOf tab rows ≤ 1_073_741_825
-nodes-few tab rows few short =
+    (kind : Kind) (tab : List ℕ) (rows : List Row) → length rows ≤ maxRows → firstBad kind tab 0 rows ≡ none → nodesOf tab rows ≤ 1_073_741_825
+nodes-few kind tab rows few fine =
     let tokens = tokensOf tab rows in
     let each = bytes-few tokens maxToken
     (λ i h.
     let l : i < length rows = omega (arith, length-tokens tab rows) in
-    omega (arith, ap length (token-at tab rows i l), short i l)) in
+    let no-fault = none-bad-says kind tab noRow 0 rows fine i l in
+    omega (
+      arith,
+      ap length (token-at tab rows i l),
+      fine-token-length kind tab (getD rows i noRow) no-fault,
+      fine-short kind tab (getD rows i noRow) no-fault,
+    )) in
     omega (arith, names-few tokens, each, length-tokens tab rows)

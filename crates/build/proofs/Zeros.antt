@@ -1,6 +1,6 @@
 -- Places made zero from the front: those below i are zero, the others as they were. One law for columns of every width. Assumes nothing.
 use mathlib.Core.Path.{_≡_, refl, ap, _∙_}
-use mathlib.Core.List.{List, _++_, append-nil}
+use mathlib.Core.List.{List, [], _++_, append-nil}
 use Prim.Native.Nat.{ℕ, _+_, _≤_, _<_}
 use native.Mathlib.Omega.{arith}
 use borrow.Author.Fill.{fill-none, fill-more}
@@ -37,4 +37,5 @@ pub cleared-is :
     → edgeN′ ≡ zeroed 0 edgeN → id′ ≡ zeroed 0 id → byte′ ≡ zeroed 0 byte → to′ ≡ zeroed 0 to → work′ ≡ zeroed 0 work
     → memory edgeAt′ edgeN′ id′ byte′ to′ work′ ≡ cleared (memory edgeAt edgeN id byte to work)
 unfolding cleared
-cleared-is edgeAt edgeN id byte to work p q r s t u = λ i. record { edgeAt = p i; edgeN = q i; id = r i; byte = s i; to = t i; work = u i }
+cleared-is edgeAt edgeN id byte to work p q r s t u =
+    λ i. record { edgeAt = p i; edgeN = q i; id = r i; score = []; byte = s i; to = t i; work = u i }

@@ -1,7 +1,7 @@
 -- What the core of both builds asks of a caller that has judged the rows, and what it promises. Definitions only; assumes nothing.
 use mathlib.Core.Path.{_≡_}
 use mathlib.Core.Bool.{Bool, cond}
-use mathlib.Core.List.{List}
+use mathlib.Core.List.{List, []}
 use mathlib.Core.Option.{Option}
 use Prim.Native.Nat.{ℕ, _+_, _*_, _/_, _≤_, min}
 use lib.Dec.{ltb}
@@ -43,7 +43,7 @@ builtAnswer room n = cond (ltb room n) NoRoom (Nodes n)
 -- what the build of these rows answers, and what it leaves in the memory
 pub record BuiltOf (first : Bool) (tab : List ℕ) (rows : List Row) (room : ℕ) (before after : Memory) (answer : Built) : Type 0 where
   pub answered : answer ≡ builtAnswer room (nodesOf tab rows)
-  pub left : after ≡ cond (ltb room (nodesOf tab rows)) (cleared before) (holding (trieGiven first tab rows) before)
+  pub left : after ≡ cond (ltb room (nodesOf tab rows)) (cleared before) (holding (trieGiven first tab rows) [] before)
 
 -- ---- the last step
 

@@ -5,6 +5,8 @@ use mathlib.Core.Option.{Option, none, some}
 use Prim.Native.Nat.{ℕ, zero, suc}
 use lib.ListN.{length, getD}
 use Rattle.trie.specs.Trie.{Trie}
+use Rattle.rows.specs.declared.Kind.{Kind}
+use Rattle.rows.specs.declared.Kind.the-variants.{Unigram, WordPiece}
 use Rattle.rows.specs.Rows.{Row, id, tokenOf}
 use Rattle.build.specs.Names.{same}
 use Rattle.build.specs.Rules.{idOfWorth, unigramTrie, wordpieceTrie}
@@ -20,6 +22,11 @@ givenFrom off len ids i (suc n) = rowGiven off len ids i ∷ givenFrom off len i
 
 abbrev pub given : List ℕ → List ℕ → List ℕ → List Row
 given off len ids = givenFrom off len ids 0 (length off)
+
+-- Unigram keeps a token's first row, WordPiece its last
+abbrev pub firstOf : Kind → Bool
+firstOf Unigram = true
+firstOf WordPiece = false
 
 -- the trie of these rows: Unigram where the first row of a token gives the id, else WordPiece
 unfoldable pub trieGiven : Bool → List ℕ → List Row → Trie

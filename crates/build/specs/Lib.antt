@@ -9,3 +9,4 @@ pub mod Held
 pub mod Laying
 pub mod Memory
 pub mod Core
+pub mod Promise

@@ -4,8 +4,10 @@ use mathlib.Core.Bool.{Bool, false, _||_, cond}
 use mathlib.Core.List.{List, [], _∷_}
 use mathlib.Core.Option.{Option, none, some}
 use lib.Dec.{ltb, eqb}
+use lib.Ieee.{Float}
 use lib.ListN.{length}
 use Rattle.doubles.specs.Double.{Double, plusZero}
+use Rattle.doubles.specs.Units.{scoresWas, scoresIs}
 use denote.Ref.{RefT, now}
 use Rattle.refusal.specs.Lent.{Lent, was, is}
 use Rattle.refusal.specs.declared.Reason.{Reason}
@@ -13,17 +15,33 @@ use Rattle.refusal.specs.Refusal.{numberOf}
 use Rattle.refusal.specs.Places.{zeroed, filled}
 use Rattle.trie.specs.Trie.{Trie}
 
--- The lent node columns, edge columns and work places. Each may be longer than is needed, and of a length of its own.
+-- The lent node columns, edge columns and work places. Each may be longer than is needed, and of a length of its own. Where no score
+-- column is lent, it is empty here.
 pub record Memory : Type 0 where
   pub edgeAt : List ℕ
   pub edgeN : List ℕ
   pub id : List ℕ
+  pub score : List Double
   pub byte : List ℕ
   pub to : List ℕ
   pub work : List ℕ
 
 abbrev pub memory : List ℕ → List ℕ → List ℕ → List ℕ → List ℕ → List ℕ → Memory
-memory edgeAt edgeN id byte to work = record { edgeAt = edgeAt; edgeN = edgeN; id = id; byte = byte; to = to; work = work }
+memory edgeAt edgeN id byte to work =
+    record { edgeAt = edgeAt; edgeN = edgeN; id = id; score = []; byte = byte; to = to; work = work }
+
+-- a memory with a score column
+abbrev pub withScores : Memory → List Double → Memory
+withScores m score =
+    record {
+      edgeAt = m .edgeAt;
+      edgeN = m .edgeN;
+      id = m .id;
+      score = score;
+      byte = m .byte;
+      to = m .to;
+      work = m .work;
+    }
 
 -- the same as a contract names the columns: as the call found them, as it left them, and in a `requires`
 abbrev pub memoryWas : Lent ℕ → Lent ℕ → Lent ℕ → Lent ℕ → Lent ℕ → Lent ℕ → Memory
@@ -36,6 +54,13 @@ abbrev pub memoryNow :
     RefT (List ℕ) → RefT (List ℕ) → RefT (List ℕ) → RefT (List ℕ) → RefT (List ℕ) → RefT (List ℕ) → Memory
 memoryNow edgeAt edgeN id byte to work = memory (now edgeAt) (now edgeN) (now id) (now byte) (now to) (now work)
 
+-- and with a score column
+abbrev pub scoredMemoryWas : Lent ℕ → Lent ℕ → Lent ℕ → Lent Float → Lent ℕ → Lent ℕ → Lent ℕ → Memory
+scoredMemoryWas edgeAt edgeN id score byte to work = withScores (memoryWas edgeAt edgeN id byte to work) (scoresWas score)
+
+abbrev pub scoredMemoryIs : Lent ℕ → Lent ℕ → Lent ℕ → Lent Float → Lent ℕ → Lent ℕ → Lent ℕ → Memory
+scoredMemoryIs edgeAt edgeN id score byte to work = withScores (memoryIs edgeAt edgeN id byte to work) (scoresIs score)
+
 -- one of the lent columns, by its length, has fewer than n places
 unfoldable pub anyBelow : ℕ → List ℕ → Bool
 anyBelow n [] = false
@@ -46,9 +71,12 @@ unfoldable pub noRoom : ℕ → Memory → Bool
 noRoom n m =
     anyBelow n (length (m .edgeAt) ∷ length (m .edgeN) ∷ length (m .id) ∷ []) || anyBelow (n - 1) (length (m .byte) ∷ length (m .to) ∷ []) || ltb (length (m .work)) (2 * n)
 
--- the same with a score column
-unfoldable pub noScoredRoom : ℕ → Memory → List Double → Bool
-noScoredRoom n m scores = noRoom n m || ltb (length scores) n
+-- the same where a score column is lent
+unfoldable pub noScoredRoom : ℕ → Memory → Bool
+noScoredRoom n m = noRoom n m || ltb (length (m .score)) n
+
+abbrev pub zeroScores : List Double → List Double
+zeroScores = zeroed plusZero
 
 -- every lent place zero
 unfoldable pub cleared : Memory → Memory
@@ -57,25 +85,24 @@ cleared m =
       edgeAt = zeroed 0 (m .edgeAt);
       edgeN = zeroed 0 (m .edgeN);
       id = zeroed 0 (m .id);
+      score = zeroScores (m .score);
       byte = zeroed 0 (m .byte);
       to = zeroed 0 (m .to);
       work = zeroed 0 (m .work);
     }
 
--- the parts t: "After an accepted build the work places and all places past the counts are zero."
-unfoldable pub holding : Trie → Memory → Memory
-holding t m =
+-- the parts t with these scores: "After an accepted build the work places and all places past the counts are zero."
+unfoldable pub holding : Trie → List Double → Memory → Memory
+holding t scores m =
     record {
       edgeAt = filled 0 (t .edgeAt) (m .edgeAt);
       edgeN = filled 0 (t .edgeN) (m .edgeN);
       id = filled 0 (t .id) (m .id);
+      score = filled plusZero scores (m .score);
       byte = filled 0 (t .byte) (m .byte);
       to = filled 0 (t .to) (m .to);
       work = zeroed 0 (m .work);
     }
-
-abbrev pub zeroScores : List Double → List Double
-zeroScores = zeroed plusZero
 
 -- What a buffer holds after a build: on success; after a refusal, where "refusal 7 leaves every lent node, edge and work place zero" and
 -- "every other refusal writes nothing".

@@ -6,24 +6,24 @@ use mathlib.Core.List.{List, [], _∷_}
 use mathlib.Core.Option.{Option, none, some}
 use lib.Dec.{ltb}
 use lib.ListN.{length}
-use Rattle.doubles.specs.Double.{Double, plusZero}
+use Rattle.doubles.specs.Double.{Double}
 use Rattle.refusal.specs.declared.Fault.{Fault}
 use Rattle.refusal.specs.declared.Reason.{Reason}
 use Rattle.refusal.specs.declared.Reason.the-variants.{Call, Row}
 use Rattle.refusal.specs.declared.Fault.the-variants as fault
 use Rattle.refusal.specs.Refusal.{number, refuse}
 use Rattle.refusal.specs.Sizes.{maxText, noId, above}
-use Rattle.refusal.specs.Places.{overlay, filled}
-use Rattle.rows.specs.Columns.{Columns, rowsOf}
-use Rattle.build.specs.Names.{names}
-use Rattle.build.specs.Rules.{tokensOf, unigramTrie, unigramScores, wordpieceTrie}
-use Rattle.build.specs.Memory.{Memory, cleared, holding, zeroScores, leaves}
+use Rattle.refusal.specs.Places.{overlay}
+use Rattle.rows.specs.Columns.{Columns}
+use Rattle.build.specs.Memory.{Memory}
+use Rattle.build.specs.Promise.{Told, built, refused}
 use Rattle.text.specs.Text.{wellFormed}
 use Rattle.trie.specs.declared.LookupAnswer.{LookupAnswer}
 use Rattle.trie.specs.declared.LookupAnswer.the-variants.{Found, Absent, Refused}
 use Rattle.unigram.specs.declared.SegmentAnswer.{SegmentAnswer}
 use Rattle.unigram.specs.declared.SegmentAnswer.the-variants as segment-is
-use Rattle.scored.specs.Build.{Told, built, refused, buildFault, toldFor}
+use Rattle.scored.specs.declared.BuildAnswer.{BuildAnswer}
+use Rattle.scored.specs.Build.{Report, told, Built}
 use Rattle.unigram.specs.Pieces.{Model, idsOf}
 use Rattle.unigram.specs.Segment.{Scratch, segmentFault, segmentAnswer, segmentLeaves, RecordLaw}
 use Rattle.wordpiece.specs.declared.EncodeAnswer.{EncodeAnswer}
@@ -31,6 +31,7 @@ use Rattle.wordpiece.specs.declared.EncodeAnswer.the-variants as encode-is
 use Rattle.wordpiece.specs.declared.BuildAnswer as wordpiece
 use Rattle.wordpiece.specs.declared.BuildAnswer.the-variants as wordpiece-is
 use Rattle.wordpiece.specs.Build as from-rows
+use Rattle.pack.specs.declared.PackAnswer.{PackAnswer}
 use Rattle.pack.specs.Build as pack
 use Rattle.output.specs.Output.{maxOutput, output}
 
@@ -83,12 +84,13 @@ fromRowsNumber (wordpiece-is.Refused r) = reasonNumber r
 
 -- what `from_rows` promises, its answer as a number
 pub record FromRowsAs (tab : List ℕ) (c : Columns) (before : Memory) (answer : ℕ) (after : Memory) : Type 0 where
-  pub answered : answer ≡ fromRowsNumber (from-rows.buildAnswer (from-rows.buildFault tab c before) (length (names (tokensOf tab (rowsOf c)))))
-  pub columns : after ≡ leaves (from-rows.buildFault tab c before) (holding (wordpieceTrie tab (rowsOf c)) before) (cleared before) before
+  pub said : wordpiece.BuildAnswer
+  pub promised : from-rows.Built tab c before said after
+  pub answered : answer ≡ fromRowsNumber said
 
 -- what `build` tells: how many nodes, or why nothing was built
-abbrev pub toldNumber : Told → ℕ
-toldNumber (built n x) = n
+abbrev pub toldNumber : Told Report → ℕ
+toldNumber (built s) = s .nodes
 toldNumber (refused r) = reasonNumber r
 
 -- the places lent for the unknown score: the first has it, if there is one
@@ -96,37 +98,37 @@ abbrev pub withFirst : Double → List Double → List Double
 withFirst x [] = []
 withFirst x (y ∷ ys) = x ∷ ys
 
-abbrev pub toldScore : Told → List Double → List Double
-toldScore (built n x) places = withFirst x places
+abbrev pub toldScore : Told Report → List Double → List Double
+toldScore (built s) places = withFirst (s .unknown) places
 toldScore (refused r) places = places
 
 -- what `build` promises, its answer as a number and a score in a lent place
-pub record BuiltAs (tab : List ℕ) (c : Columns) (before : Memory) (scoresBefore unknownBefore : List Double) (answer : ℕ) (after : Memory) (scoresAfter unknownAfter : List Double) : Type 0 where
-  pub answered : answer ≡ toldNumber (toldFor (buildFault tab c before scoresBefore) tab (rowsOf c))
-  pub unknown : unknownAfter ≡ toldScore (toldFor (buildFault tab c before scoresBefore) tab (rowsOf c)) unknownBefore
-  pub columns : after ≡ leaves (buildFault tab c before scoresBefore) (holding (unigramTrie tab (rowsOf c)) before) (cleared before) before
-  pub scores : scoresAfter ≡ leaves (buildFault tab c before scoresBefore) (filled plusZero (unigramScores tab (rowsOf c)) scoresBefore) (zeroScores scoresBefore) scoresBefore
+pub record BuiltAs (tab : List ℕ) (c : Columns) (before : Memory) (unknownBefore : List Double) (answer : ℕ) (after : Memory) (unknownAfter : List Double) : Type 0 where
+  pub said : BuildAnswer
+  pub promised : Built tab c before said after
+  pub answered : answer ≡ toldNumber (told said)
+  pub unknown : unknownAfter ≡ toldScore (told said) unknownBefore
 
 -- ---- packs
 
 -- what a build from a pack tells: how many nodes, or why nothing was built. The rest of its answer stands in the pack's header.
-abbrev pub packNumber : pack.Told → ℕ
-packNumber (pack.unigram n u x) = n
-packNumber (pack.wordpiece n u c off len) = n
-packNumber (pack.refused r) = reasonNumber r
+abbrev pub packNumber : Told pack.Report → ℕ
+packNumber (built (pack.unigram n u x)) = n
+packNumber (built (pack.wordpiece n u c off len)) = n
+packNumber (refused r) = reasonNumber r
 
 -- the places lent for the unknown score, which only a Unigram pack has
-abbrev pub packScore : pack.Told → List Double → List Double
-packScore (pack.unigram n u x) places = withFirst x places
-packScore (pack.wordpiece n u c off len) places = places
-packScore (pack.refused r) places = places
+abbrev pub packScore : Told pack.Report → List Double → List Double
+packScore (built (pack.unigram n u x)) places = withFirst x places
+packScore (built (pack.wordpiece n u c off len)) places = places
+packScore (refused r) places = places
 
 -- what `pack::build` promises, its answer as a number and a score in a lent place
-pub record PackBuiltAs (bytes : List ℕ) (before : Memory) (scoresBefore unknownBefore : List Double) (answer : ℕ) (after : Memory) (scoresAfter unknownAfter : List Double) : Type 0 where
-  pub answered : answer ≡ packNumber (pack.toldFor (pack.packFault bytes before scoresBefore) bytes)
-  pub unknown : unknownAfter ≡ packScore (pack.toldFor (pack.packFault bytes before scoresBefore) bytes) unknownBefore
-  pub columns : after ≡ leaves (pack.packFault bytes before scoresBefore) (holding (pack.trieIn (pack.theKind bytes) bytes) before) (cleared before) before
-  pub scores : scoresAfter ≡ leaves (pack.packFault bytes before scoresBefore) (filled plusZero (pack.scoresIn (pack.theKind bytes) bytes) scoresBefore) (zeroScores scoresBefore) scoresBefore
+pub record PackBuiltAs (bytes : List ℕ) (before : Memory) (unknownBefore : List Double) (answer : ℕ) (after : Memory) (unknownAfter : List Double) : Type 0 where
+  pub said : PackAnswer
+  pub promised : pack.PackBuilt bytes before said after
+  pub answered : answer ≡ packNumber (pack.told said)
+  pub unknown : unknownAfter ≡ packScore (pack.told said) unknownBefore
 
 -- what the program prints, over the first places of the buffer, and how many bytes; in a buffer that may be too short for some
 -- output 2 ^ 32, and nothing is written

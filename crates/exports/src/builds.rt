@@ -4,7 +4,7 @@ use refusal::Reason;
 ghost use mathlib.Core.Path.{_≡_};
 ghost use Rattle.doubles.specs.Units.{units, scoresIs, scoresWas};
 ghost use Rattle.rows.specs.Answers.{columnsWas};
-ghost use Rattle.build.specs.Memory.{memoryIs, memoryWas};
+ghost use Rattle.build.specs.Memory.{memoryIs, memoryWas, scoredMemoryIs, scoredMemoryWas};
 ghost use Rattle.exports.specs.Flat.{reasonNumber, fromRowsNumber, FromRowsAs, toldNumber, toldScore, withFirst, BuiltAs};
 ghost use Rattle.scored.specs.Build.{told};
 ghost use Rattle.refusal.specs.Lent.{was};
@@ -108,9 +108,9 @@ pub extern "C" fn sk_build(
     unknown_score: &mut [f64],
 ) -> u64
     ensures { λ r.
-        ⌜ BuiltAs (was tab) (columnsWas off len scored score id) (memoryWas «edge_at» «edge_n» «node_id» byte to work)
-        (scoresWas «node_score») (scoresWas «unknown_score») r (memoryIs «edge_at» «edge_n» «node_id» byte to work)
-        (scoresIs «node_score») (scoresIs «unknown_score») ⌝ }
+        ⌜ BuiltAs (was tab) (columnsWas off len scored score id)
+        (scoredMemoryWas «edge_at» «edge_n» «node_id» «node_score» byte to work) (scoresWas «unknown_score») r
+        (scoredMemoryIs «edge_at» «edge_n» «node_id» «node_score» byte to work) (scoresIs «unknown_score») ⌝ }
 {
     built_number(
         scored::build(

@@ -4,7 +4,7 @@ use crate::builds::reason_number;
 use pack::PackAnswer;
 ghost use mathlib.Core.Path.{_≡_};
 ghost use Rattle.doubles.specs.Units.{scoresIs, scoresWas};
-ghost use Rattle.build.specs.Memory.{memoryIs, memoryWas};
+ghost use Rattle.build.specs.Memory.{scoredMemoryIs, scoredMemoryWas};
 ghost use Rattle.pack.specs.Build.{told};
 ghost use Rattle.exports.specs.Flat.{packNumber, packScore, PackBuiltAs, PrintedAs};
 ghost use Rattle.refusal.specs.Lent.{is, was};
@@ -49,8 +49,8 @@ pub extern "C" fn sk_pack_build(
     unknown_score: &mut [f64],
 ) -> u64
     ensures { λ r.
-        ⌜ PackBuiltAs (was bytes) (memoryWas «edge_at» «edge_n» «node_id» byte to work) (scoresWas «node_score»)
-        (scoresWas «unknown_score») r (memoryIs «edge_at» «edge_n» «node_id» byte to work) (scoresIs «node_score»)
+        ⌜ PackBuiltAs (was bytes) (scoredMemoryWas «edge_at» «edge_n» «node_id» «node_score» byte to work)
+        (scoresWas «unknown_score») r (scoredMemoryIs «edge_at» «edge_n» «node_id» «node_score» byte to work)
         (scoresIs «unknown_score») ⌝ }
 {
     pack_number(

@@ -25,14 +25,15 @@ use Rattle.trie.proofs.Every.{first, second}
 use Rattle.rows.specs.declared.Kind.{Kind}
 use Rattle.rows.specs.declared.Kind.the-variants.{Unigram, WordPiece}
 use Rattle.build.specs.Grown.{Bytes}
-use Rattle.build.specs.Memory.{Memory, memory, noRoom, noScoredRoom}
+use Rattle.build.specs.Memory.{Memory, memory, withScores, noRoom, noScoredRoom}
+use Rattle.build.proofs.Promises.{none-exactly}
 use Rattle.build.proofs.Rooms.{or-false, nodes-some}
 use Rattle.unigram.specs.Work as work
 use Rattle.unigram.specs.Pieces.{Model}
 use Rattle.pack.specs.declared.PackAnswer.{PackAnswer}
 use Rattle.pack.specs.declared.PackAnswer.the-variants as answer-is
 use Rattle.pack.specs.Pack.{headerOf, laidOut, rowsOf, stringsOf, prefixOf}
-use Rattle.pack.specs.Build.{nodesOf, packFault, theKind, trieIn, modelOf, PackBuilt}
+use Rattle.pack.specs.Build.{nodesOf, packFault, theKind, modelOf, PackBuilt}
 use Rattle.pack.proofs.Headers.{kind-laid}
 use Rattle.pack.proofs.Determinacy as determined
 use Rattle.pack.proofs.BuiltPacks as packs
@@ -59,11 +60,11 @@ module _ (pack input : List ℕ) where
   abbrev by-fault : Option Reason → List ℕ
   by-fault o = elim o [ some r ↦ printedRefusal (ascii "pack ") (faultOf r) | none ↦ linesPrinted (printedLine (theKind pack) pack) input ]
 
-  fault-some : {r : Reason} → packFault pack lentMemory scorePlaces ≡ some r → printedRefusal (ascii "pack ") (faultOf r) ≡ outputOf pack input
+  fault-some : {r : Reason} → packFault pack lentMemory ≡ some r → printedRefusal (ascii "pack ") (faultOf r) ≡ outputOf pack input
   unfolding outputOf
   fault-some e = sym (ap by-fault e)
 
-  fault-none : packFault pack lentMemory scorePlaces ≡ none → linesPrinted (printedLine (theKind pack) pack) input ≡ outputOf pack input
+  fault-none : packFault pack lentMemory ≡ none → linesPrinted (printedLine (theKind pack) pack) input ≡ outputOf pack input
   unfolding outputOf
   fault-none e = sym (ap by-fault e)
 
@@ -81,32 +82,31 @@ zeros (suc n) z e = ap₂ _∷_ e (zeros n z e)
 
 -- the memory that the program lends
 pub lent-built :
-    {pack : List ℕ} {answer : PackAnswer} {after : Memory} {xs : List Double} (z : Float) → units z ≡ plusZero
-    → PackBuilt pack (memory places places places places places (replicate 8_192 0)) (map units (replicate 4_096 z)) answer after xs
-    → PackBuilt pack lentMemory scorePlaces answer after xs
+    {pack : List ℕ} {answer : PackAnswer} {after : Memory} (z : Float) → units z ≡ plusZero
+    → PackBuilt pack (withScores (memory places places places places places (replicate 8_192 0)) (map units (replicate 4_096 z))) answer after
+    → PackBuilt pack lentMemory answer after
 unfolding lentMemory
-lent-built {pack = pack} {answer = answer} {after = after} {xs = xs} z e b =
-    subst (λ (ys : List Double). PackBuilt pack lentMemory ys answer after xs) (zeros 4_096 z e) b
+lent-built {pack = pack} {answer = answer} {after = after} z e b =
+    subst (λ (ys : List Double). PackBuilt pack (withScores (memory places places places places places (replicate 8_192 0)) ys) answer after) (zeros 4_096 z e) b
 
-lent-nodes : (pack : List ℕ) → packFault pack lentMemory scorePlaces ≡ none → nodesOf (theKind pack) pack ≤ 4_096
-unfolding noScoredRoom
+lent-nodes : (pack : List ℕ) → packFault pack lentMemory ≡ none → nodesOf (theKind pack) pack ≤ 4_096
+unfolding noScoredRoom lentMemory
 lent-nodes pack e =
     let n = nodesOf (theKind pack) pack in
-    let p = or-false (noRoom n lentMemory) (ltb (length scorePlaces) n) (packs.accepted-room pack lentMemory scorePlaces e) in
+    let p = or-false (noRoom n lentMemory) (ltb (length scorePlaces) n) (none-exactly _ _ .0 e .1) in
     omega (arith, ltb-false (length scorePlaces) n (p .1), length-replicate 4_096 plusZero)
 
 some-node : (kind : Kind) (pack : List ℕ) → 1 ≤ nodesOf kind pack
-unfolding nodesOf
 some-node kind pack = nodes-some (stringsOf pack) (rowsOf kind pack)
 
 module _ (pack edgeAt edgeN id : List ℕ) (scores : List Float) (byte to : List ℕ) (good : Bytes pack) where
   abbrev after : List ℕ → Memory
-  after work = memory edgeAt edgeN id byte to work
+  after work = withScores (memory edgeAt edgeN id byte to work) (map units scores)
 
   pub judged-refused :
       {r : Reason} (input : List ℕ) → Judged pack (answer-is.Refused r) edgeAt edgeN id scores byte to
       → printedRefusal (ascii "pack ") (faultOf r) ≡ outputOf pack input
-  judged-refused {r = r} input j = fault-some pack input (determined.refused-exactly (j .built) r .0 refl)
+  judged-refused {r = r} input j = fault-some pack input (determined.refused-exactly pack lentMemory (answer-is.Refused r) (after (j .work)) (j .built) r .0 refl)
 
   -- ---- Unigram
 
@@ -114,18 +114,15 @@ module _ (pack edgeAt edgeN id : List ℕ) (scores : List Float) (byte to : List
     abbrev left : Memory
     left = after (j .work)
 
-    abbrev doubles : List Double
-    doubles = map units scores
-
-    accepted : packFault pack lentMemory scorePlaces ≡ none
-    accepted = packs.unigram-accepted pack lentMemory left scorePlaces doubles n unknown lowest good (j .built)
+    accepted : packFault pack lentMemory ≡ none
+    accepted = packs.unigram-accepted pack lentMemory left n unknown lowest good (j .built)
 
     is-unigram : theKind pack ≡ Unigram
-    is-unigram = packs.unigram-is pack lentMemory left scorePlaces doubles n unknown lowest good (j .built)
+    is-unigram = packs.unigram-is pack lentMemory left n unknown lowest good (j .built)
 
     pub unigram-nodes : (1 ≤ n) × (n ≤ 4_096)
     unigram-nodes =
-        let c = packs.unigram-count pack lentMemory left scorePlaces doubles n unknown lowest good (j .built) in
+        let c = packs.unigram-count pack lentMemory left n unknown lowest good (j .built) in
         let k = ap (λ (x : Kind). nodesOf x pack) is-unigram in
         (omega (arith, c, some-node Unigram pack), omega (arith, c, k, lent-nodes pack accepted))
 
@@ -155,7 +152,7 @@ module _ (pack edgeAt edgeN id : List ℕ) (scores : List Float) (byte to : List
           unknown = work.pieceWith unknown lowest;
         })
         (take-map n scores)
-        ∙ packs.unigram-model pack lentMemory left scorePlaces doubles n unknown lowest good (j .built)
+        ∙ packs.unigram-model pack lentMemory left n unknown lowest good (j .built)
 
     pub judged-unigram : (input : List ℕ) → linesPrinted (segmentedLine cut) input ≡ outputOf pack input
     unfolding printedLine
@@ -170,18 +167,15 @@ module _ (pack edgeAt edgeN id : List ℕ) (scores : List Float) (byte to : List
     abbrev left′ : Memory
     left′ = after (j .work)
 
-    abbrev doubles′ : List Double
-    doubles′ = map units scores
-
-    accepted′ : packFault pack lentMemory scorePlaces ≡ none
-    accepted′ = packs.wordpiece-accepted pack lentMemory left′ scorePlaces doubles′ n unknown most off len good (j .built)
+    accepted′ : packFault pack lentMemory ≡ none
+    accepted′ = packs.wordpiece-accepted pack lentMemory left′ n unknown most off len good (j .built)
 
     is-wordpiece : theKind pack ≡ WordPiece
-    is-wordpiece = packs.wordpiece-is pack lentMemory left′ scorePlaces doubles′ n unknown most off len good (j .built)
+    is-wordpiece = packs.wordpiece-is pack lentMemory left′ n unknown most off len good (j .built)
 
     wordpiece-nodes : (1 ≤ n) × (n ≤ 4_096)
     wordpiece-nodes =
-        let c = packs.wordpiece-count pack lentMemory left′ scorePlaces doubles′ n unknown most off len good (j .built) in
+        let c = packs.wordpiece-count pack lentMemory left′ n unknown most off len good (j .built) in
         let k = ap (λ (x : Kind). nodesOf x pack) is-wordpiece in
         (omega (arith, c, some-node WordPiece pack), omega (arith, c, k, lent-nodes pack accepted′))
 
@@ -202,7 +196,7 @@ module _ (pack edgeAt edgeN id : List ℕ) (scores : List Float) (byte to : List
     unfolding laidOut
     strings-inside =
         let h = headerOf pack in
-        let laid = kind-laid pack (packs.wordpiece-kind pack lentMemory left′ scorePlaces doubles′ n unknown most off len good (j .built)) in
+        let laid = kind-laid pack (packs.wordpiece-kind pack lentMemory left′ n unknown most off len good (j .built)) in
         let long = leb 36 (length pack) in
         let rows = eqb (h .rowsOff) 36 in
         let strings = eqb (h .stringsOff) (36 + 16 * h .rows) in
@@ -217,10 +211,10 @@ module _ (pack edgeAt edgeN id : List ℕ) (scores : List Float) (byte to : List
     unfolding spanFault stringsOf
     prefix-fine =
         let strings = stringsOf pack in
-        let inside = packs.wordpiece-prefix-inside pack lentMemory left′ scorePlaces doubles′ n unknown most off len good (j .built) in
+        let inside = packs.wordpiece-prefix-inside pack lentMemory left′ n unknown most off len good (j .built) in
         let text =
-        ap wellFormed (packs.wordpiece-prefix pack lentMemory left′ scorePlaces doubles′ n unknown most off len good (j .built))
-        ∙ packs.wordpiece-prefix-text pack lentMemory left′ scorePlaces doubles′ n unknown most off len good (j .built) in
+        ap wellFormed (packs.wordpiece-prefix pack lentMemory left′ n unknown most off len good (j .built))
+        ∙ packs.wordpiece-prefix-text pack lentMemory left′ n unknown most off len good (j .built) in
         not-found (ltb maxTable (length strings)) fault.Size _ (le-ltb maxTable (length strings) (omega (arith, j .small, length-drop (headerOf pack .stringsOff) pack)))
         ∙ not-found (ltb (length strings) (off + len)) fault.Span _ (le-ltb (length strings) (off + len) inside)
         ∙ not-found (not (wellFormed (spanOf strings off len))) fault.Text none (ap not text)
@@ -229,7 +223,7 @@ module _ (pack edgeAt edgeN id : List ℕ) (scores : List Float) (byte to : List
     unfolding givenFor
     prefix-is g =
         g ∙ ap (λ (o : Option Fault). givenFor o (spanOf (stringsOf pack) off len)) prefix-fine
-        ∙ packs.wordpiece-prefix pack lentMemory left′ scorePlaces doubles′ n unknown most off len good (j .built)
+        ∙ packs.wordpiece-prefix pack lentMemory left′ n unknown most off len good (j .built)
 
     pub judged-wordpiece :
         {prefix : List ℕ} (input : List ℕ) → PrefixGiven pack off len prefix
@@ -237,12 +231,9 @@ module _ (pack edgeAt edgeN id : List ℕ) (scores : List Float) (byte to : List
         ≡ outputOf pack input
     unfolding printedLine
     judged-wordpiece {prefix = prefix} input g =
-        let parts = packs.wordpiece-parts pack lentMemory left′ scorePlaces doubles′ n unknown most off len good (j .built) in
-        let u = packs.wordpiece-unknown pack lentMemory left′ scorePlaces doubles′ n unknown most off len good (j .built) in
-        let c = packs.wordpiece-most pack lentMemory left′ scorePlaces doubles′ n unknown most off len good (j .built) in
-        ap (λ (t : Trie). linesPrinted (encodedLine t unknown most prefix) input) parts
-        ∙ ap (λ (x : ℕ). linesPrinted (encodedLine (trieIn WordPiece pack) x most prefix) input) u
-        ∙ ap (λ (x : ℕ). linesPrinted (encodedLine (trieIn WordPiece pack) (headerOf pack .unknown) x prefix) input) c
-        ∙ ap (λ (x : List ℕ). linesPrinted (encodedLine (trieIn WordPiece pack) (headerOf pack .unknown) (headerOf pack .maxChars) x) input) (prefix-is g)
+        let parts = packs.wordpiece-parts pack lentMemory left′ n unknown most off len good (j .built) in
+        let u = packs.wordpiece-unknown pack lentMemory left′ n unknown most off len good (j .built) in
+        let c = packs.wordpiece-most pack lentMemory left′ n unknown most off len good (j .built) in
+        (λ i. linesPrinted (encodedLine (parts i) (u i) (c i) (prefix-is g i)) input)
         ∙ sym (ap (λ (k : Kind). linesPrinted (printedLine k pack) input) is-wordpiece)
         ∙ fault-none pack input accepted′

@@ -6,11 +6,11 @@ use lib.Ieee.{Float}
 use lib.ListN.{length}
 use Rattle.doubles.specs.Units.{units}
 use Rattle.text.specs.Span.{spanOf, spanFault, givenFor}
-use Rattle.build.specs.Memory.{memory}
+use Rattle.build.specs.Memory.{memory, withScores}
 use Rattle.pack.specs.declared.PackAnswer.{PackAnswer}
 use Rattle.pack.specs.Pack.{stringsOf}
 use Rattle.pack.specs.Build.{PackBuilt}
-use Rattle.output.specs.Output.{lentMemory, scorePlaces}
+use Rattle.output.specs.Output.{lentMemory}
 
 -- what the span check gives of a pack's strings
 abbrev pub PrefixGiven : List ℕ → ℕ → ℕ → List ℕ → Type 0
@@ -28,7 +28,7 @@ pub record Cuttable (n : ℕ) (edgeAt edgeN id byte to : List ℕ) : Type 0 wher
 -- the pack was judged, and built where it is fine, in the columns that the program lends; what the work places hold afterwards is no matter
 pub record Judged (pack : List ℕ) (answer : PackAnswer) (edgeAt edgeN id : List ℕ) (scores : List Float) (byte to : List ℕ) : Type 0 where
   pub work : List ℕ
-  pub built : PackBuilt pack lentMemory scorePlaces answer (memory edgeAt edgeN id byte to work) (map units scores)
+  pub built : PackBuilt pack lentMemory answer (withScores (memory edgeAt edgeN id byte to work) (map units scores))
   pub small : length pack ≤ 65_536
   pub starts : length edgeAt ≡ 4_096
   pub counts : length edgeN ≡ 4_096

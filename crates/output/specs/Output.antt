@@ -14,13 +14,14 @@ use Rattle.text.specs.Ascii.{ascii}
 use Rattle.trie.specs.Trie.{Trie, idOf}
 use Rattle.rows.specs.declared.Kind.{Kind}
 use Rattle.rows.specs.declared.Kind.the-variants.{Unigram, WordPiece}
-use Rattle.build.specs.Memory.{Memory}
+use Rattle.build.specs.Memory.{Memory, memory, withScores}
+use Rattle.build.specs.Promise.{trieIn}
 use Rattle.unigram.specs.Pieces as unigram
 use Rattle.unigram.specs.Segment.{Scratch, segmentFault}
 use Rattle.wordpiece.specs.Pieces as wordpiece
 use Rattle.wordpiece.specs.Encode.{encodeFault}
-use Rattle.pack.specs.Pack.{headerOf, prefixOf}
-use Rattle.pack.specs.Build.{packFault, theKind, trieIn, modelOf}
+use Rattle.pack.specs.Pack.{headerOf, rowsOf, stringsOf, prefixOf}
+use Rattle.pack.specs.Build.{packFault, theKind, modelOf}
 use Rattle.output.specs.Lines.{lines, printedIds, printedRefusal}
 
 -- "reads `vocab.pack` (at most 65,536 bytes)"
@@ -43,7 +44,7 @@ abbrev pub scorePlaces : List Double
 scorePlaces = replicate 4_096 plusZero
 
 unfoldable pub lentMemory : Memory
-lentMemory = record { edgeAt = places; edgeN = places; id = places; byte = places; to = places; work = replicate 8_192 0 }
+lentMemory = withScores (memory places places places places places (replicate 8_192 0)) scorePlaces
 
 unfoldable pub lentScratch : Scratch
 lentScratch = record { start = places; id = places; score = scorePlaces; path = places; ids = places }
@@ -64,7 +65,9 @@ encodedLine t unknown maxChars prefix line = printed (encodeFault t prefix line 
 -- what one line prints, for a pack of this kind that is not refused
 unfoldable pub printedLine : Kind → List ℕ → List ℕ → List ℕ
 printedLine Unigram bytes line = segmentedLine (modelOf bytes) line
-printedLine WordPiece bytes line = let h = headerOf bytes in encodedLine (trieIn WordPiece bytes) (h .unknown) (h .maxChars) (prefixOf bytes) line
+printedLine WordPiece bytes line =
+    let h = headerOf bytes in
+    encodedLine (trieIn WordPiece (stringsOf bytes) (rowsOf WordPiece bytes)) (h .unknown) (h .maxChars) (prefixOf bytes) line
 
 unfoldable pub faultOf : Reason → Fault
 faultOf (Call f) = f
@@ -81,7 +84,7 @@ linesPrinted f input =
 -- "A refused pack prints only `pack refused` and the number"
 unfoldable pub outputOf : List ℕ → List ℕ → List ℕ
 outputOf bytes input =
-    elim (packFault bytes lentMemory scorePlaces) [
+    elim (packFault bytes lentMemory) [
       | some r ↦ printedRefusal (ascii "pack ") (faultOf r)
       | none ↦ linesPrinted (printedLine (theKind bytes) bytes) input
     ]

@@ -7,10 +7,10 @@ use Rattle.rows.specs.declared.Kind.{Kind}
 use Rattle.rows.specs.declared.Kind.the-variants.{Unigram, WordPiece}
 use Rattle.rows.specs.Rows.{Row, tokenOf}
 use Rattle.build.specs.Rules.{idOfWorth}
-use Rattle.build.specs.Given.{valueOf}
+use Rattle.build.specs.Given.{firstOf, valueOf}
 use Rattle.build.specs.Held.{RowEntered}
 use Rattle.pack.specs.Pack.{worthAt, rowAt}
-use Rattle.pack.specs.Reading.{firstOf, valueIn}
+use Rattle.pack.specs.Reading.{valueIn}
 
 -- the id of a row, by its worth
 pub value-is : (kind : Kind) (bytes : List ℕ) (at i : ℕ) → valueIn i (rowAt kind bytes at .worth) ≡ valueOf (firstOf kind) i (rowAt kind bytes at)

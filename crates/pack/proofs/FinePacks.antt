@@ -17,7 +17,8 @@ use Rattle.scored.specs.NodeScores.{filledScores}
 use Rattle.pack.specs.declared.header.Header as code-header
 use Rattle.pack.specs.declared.PackAnswer.the-variants as answer-is
 use Rattle.pack.specs.Pack.{Header, headerOf, rowsFrom, rowsOf, stringsOf}
-use Rattle.pack.specs.Build.{nodesOf, unigram, wordpiece, told, toldOf}
+use Rattle.build.specs.Promise.{built}
+use Rattle.pack.specs.Build.{nodesOf, unigram, wordpiece, told, reportOf}
 use Rattle.pack.specs.Reading.{headerIs, FineRows, FiniteRows, PackFine, ScoresLeft}
 use Rattle.pack.proofs.Headers.{rows-inside, kind-laid, few-rows}
 use Rattle.pack.proofs.Resting.{none-bad}
@@ -27,15 +28,15 @@ use Rattle.pack.proofs.Scoring.{fine-finite}
 -- what is told of each kind
 unigram-told :
     (bytes : List ℕ)
-    → unigram (nodesOf Unigram bytes) (headerOf bytes .unknown) (unknownScore (scoresOf (rowsOf Unigram bytes))) ≡ toldOf Unigram bytes
-unfolding toldOf
+    → unigram (nodesOf Unigram bytes) (headerOf bytes .unknown) (unknownScore (scoresOf (rowsOf Unigram bytes))) ≡ reportOf Unigram bytes
+unfolding reportOf
 unigram-told bytes = refl
 
 wordpiece-told :
     (bytes : List ℕ)
     → (let h = headerOf bytes in
-    wordpiece (nodesOf WordPiece bytes) (h .unknown) (h .maxChars) (h .prefixOff) (h .prefixLen) ≡ toldOf WordPiece bytes)
-unfolding toldOf
+    wordpiece (nodesOf WordPiece bytes) (h .unknown) (h .maxChars) (h .prefixOff) (h .prefixLen) ≡ reportOf WordPiece bytes)
+unfolding reportOf
 wordpiece-told bytes = refl
 
 module _ {bytes : List ℕ} {kind : Kind} {h : code-header.Header} (f : PackFine bytes kind h) where
@@ -75,22 +76,23 @@ module _ {bytes : List ℕ} {kind : Kind} {h : code-header.Header} (f : PackFine
 
   pub told-unigram :
       {n : ℕ} (x : Float) → kind ≡ Unigram → units x ≡ unknownScore (scoresOf (rowsFrom Unigram bytes 36 (h .rows))) → n ≡ nodesOf kind bytes
-      → told (answer-is.Unigram n (h .unknown) x) ≡ toldOf kind bytes
+      → told (answer-is.Unigram n (h .unknown) x) ≡ built (reportOf kind bytes)
   unfolding told headerIs
   told-unigram {n = n} x k e c =
       let u : h .unknown ≡ headerOf bytes .unknown = ap (λ (y : Header). y .unknown) (f .header) in
       let s : units x ≡ unknownScore (scoresOf (rowsOf Unigram bytes)) = e ∙ ap (λ rows. unknownScore (scoresOf rows)) (rows-read Unigram) in
       let count : n ≡ nodesOf Unigram bytes = c ∙ ap (λ (y : Kind). nodesOf y bytes) k in
-      (λ i. unigram (count i) (u i) (s i)) ∙ unigram-told bytes ∙ ap (λ (y : Kind). toldOf y bytes) (sym k)
+      ap built ((λ i. unigram (count i) (u i) (s i)) ∙ unigram-told bytes ∙ ap (λ (y : Kind). reportOf y bytes) (sym k))
 
   pub told-wordpiece :
       {n : ℕ} → kind ≡ WordPiece → n ≡ nodesOf kind bytes
-      → told (answer-is.WordPiece n (h .unknown) (h .«max_chars») (h .«prefix_off») (h .«prefix_len»)) ≡ toldOf kind bytes
+      → told (answer-is.WordPiece n (h .unknown) (h .«max_chars») (h .«prefix_off») (h .«prefix_len»)) ≡ built (reportOf kind bytes)
   unfolding told headerIs
   told-wordpiece {n = n} k c =
       let count : n ≡ nodesOf WordPiece bytes = c ∙ ap (λ (y : Kind). nodesOf y bytes) k in
-      (λ i. wordpiece (count i) (f .header i .unknown) (f .header i .maxChars) (f .header i .prefixOff) (f .header i .prefixLen))
-      ∙ wordpiece-told bytes ∙ ap (λ (y : Kind). toldOf y bytes) (sym k)
+      ap built
+      ((λ i. wordpiece (count i) (f .header i .unknown) (f .header i .maxChars) (f .header i .prefixOff) (f .header i .prefixLen))
+      ∙ wordpiece-told bytes ∙ ap (λ (y : Kind). reportOf y bytes) (sym k))
 
   -- ---- the score column
 

@@ -1,23 +1,20 @@
 -- What the code's header, layout and rows stand for, and what is known of a pack whose rows are read. Definitions only; assumes nothing.
 use mathlib.Core.Path.{_≡_}
-use mathlib.Core.Bool.{Bool, true, false, not, _||_}
+use mathlib.Core.Bool.{true, false}
 use mathlib.Core.List.{List}
 use mathlib.Core.Option.{Option, none, some}
 use Prim.Native.Nat.{ℕ, _+_, _*_, _^_, _≤_, _<_}
-use lib.Dec.{ltb, eqb}
+use lib.Dec.{eqb}
 use lib.ListN.{length, take}
 use Rattle.doubles.specs.Double.{Double, isFinite, ofPattern}
-use Rattle.refusal.specs.declared.Fault.the-variants as fault
 use Rattle.refusal.specs.declared.Reason.{Reason}
-use Rattle.refusal.specs.declared.Reason.the-variants as reason
-use Rattle.refusal.specs.Sizes.{maxRows, maxTable, maxPrefix, above}
-use Rattle.refusal.specs.Refusal.{numberOf, refuse, first}
-use Rattle.text.specs.Text.{wellFormed}
+use Rattle.refusal.specs.Sizes.{maxRows}
+use Rattle.refusal.specs.Refusal.{numberOf}
 use Rattle.rows.specs.declared.Kind.{Kind}
 use Rattle.rows.specs.declared.Kind.the-variants.{Unigram, WordPiece}
-use Rattle.rows.specs.Rows.{Row, Worth, score, id, worthFault, rowFault, firstBad}
+use Rattle.rows.specs.Rows.{Row, Worth, score, id, worthFault, rowFault}
 use Rattle.build.specs.Held.{Enterable}
-use Rattle.build.specs.Memory.{Memory, zeroScores}
+use Rattle.build.specs.Memory.{zeroScores}
 use Rattle.build.specs.Rules.{scoresOf}
 use Rattle.scored.specs.NodeScores.{filledScores}
 use Rattle.pack.specs.declared.header.Header as code-header
@@ -25,8 +22,8 @@ use Rattle.pack.specs.declared.header.Layout.{Layout}
 use Rattle.pack.specs.declared.header.Layout.the-variants.{Of, Wrong}
 use Rattle.pack.specs.declared.judge.Found.{Found}
 use Rattle.pack.specs.declared.judge.Found.the-variants.{Refused, Fine}
-use Rattle.pack.specs.Pack.{Header, headerOf, kindOf, word, rowAt, rowsOf, stringsOf, prefixOf}
-use Rattle.pack.specs.Build.{packFault}
+use Rattle.pack.specs.Pack.{Header, headerOf, kindOf, word, rowAt, rowsOf}
+use Rattle.pack.specs.Build.{contentFault, packJudged}
 
 -- the code's header
 unfoldable pub headerIs : code-header.Header → Header
@@ -87,11 +84,6 @@ pub record FiniteRows (bytes : List ℕ) (n : ℕ) : Type 0 where
   pub inside : rowStart n ≤ length bytes
   pub finite : (i : ℕ) → i < n → isFinite (doubleAt bytes (rowStart i + 8)) ≡ true
 
--- Unigram keeps a token's first row, WordPiece its last
-abbrev pub firstOf : Kind → Bool
-firstOf Unigram = true
-firstOf WordPiece = false
-
 -- the id that row i with this worth gives its token: its index for a score, else its own
 abbrev pub valueIn : ℕ → Worth → ℕ
 valueIn i (score x) = i
@@ -104,29 +96,18 @@ pub record RowReady (kind : Kind) (bytes strings edgeN id work : List ℕ) (room
   pub fine : rowFault kind strings (rowAt kind bytes (rowStart i)) ≡ none
   pub enterable : Enterable edgeN id work room 0 n
 
--- ---- all faults but the last
+-- ---- what is found
 
--- "1 (prefix length too), rows, 2 for a prefix outside the strings, 4 for the prefix"
-unfoldable pub faultBefore : Kind → List ℕ → Option Reason
-faultBefore kind bytes =
-    let h = headerOf bytes in
-    let strings = stringsOf bytes in
-    let outside = ltb (length strings) (h .prefixOff + h .prefixLen) in
-    refuse (above maxRows (h .rows) || above maxTable (h .stringsLen) || above maxPrefix (h .prefixLen)) (reason.Call fault.Size)
-    (first (firstBad kind strings 0 (rowsOf kind bytes))
-    (refuse outside (reason.Call fault.Span)
-    (refuse (not (wellFormed (prefixOf bytes))) (reason.Call fault.Text) none)))
-
--- the pack is refused with r, whatever is lent, and r is not 7
+-- r is found before the room is looked at, and is not 7
 pub record PackBad (bytes : List ℕ) (r : Reason) : Type 0 where
-  pub fault : (m : Memory) (scores : List Double) → packFault bytes m scores ≡ some r
+  pub fault : packJudged bytes ≡ some r
   pub other : eqb (numberOf r) 7 ≡ false
 
 -- nothing is wrong with the pack: only the room may be too little
 pub record PackFine (bytes : List ℕ) (kind : Kind) (h : code-header.Header) : Type 0 where
   pub header : headerIs h ≡ headerOf bytes
   pub laid : kindOf bytes ≡ some kind
-  pub fine : faultBefore kind bytes ≡ none
+  pub fine : contentFault kind bytes ≡ none
 
 abbrev pub FoundIs : List ℕ → Found → Type 0
 FoundIs bytes (Refused r) = PackBad bytes r

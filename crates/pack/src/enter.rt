@@ -14,12 +14,12 @@ ghost use Rattle.refusal.specs.Sizes.{maxRows};
 ghost use Rattle.rows.specs.Rows.{worthIs, tokenOf};
 ghost use Rattle.build.specs.Names.{names};
 ghost use Rattle.build.specs.Rules.{tokensOf};
-ghost use Rattle.build.specs.Given.{valueOf, rulesFrom, noRule};
+ghost use Rattle.build.specs.Given.{firstOf, valueOf, rulesFrom, noRule};
 ghost use Rattle.build.specs.Held.{Roomy, Planted, RowEntered, RowDone};
 ghost use Rattle.build.specs.Memory.{memoryIs, memoryNow, memoryWas};
 ghost use Rattle.build.specs.Core.{RoomFor, BuiltOf};
 ghost use Rattle.pack.specs.Pack.{rowAt, rowsFrom};
-ghost use Rattle.pack.specs.Reading.{rowStart, FineRows, firstOf, valueIn, RowReady};
+ghost use Rattle.pack.specs.Reading.{rowStart, FineRows, valueIn, RowReady};
 ghost use Rattle.refusal.specs.Lent.{is, was};
 
 // Whether a token keeps its first row, not its last.

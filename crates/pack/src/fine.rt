@@ -10,8 +10,9 @@ ghost use mathlib.Core.Option.{none};
 ghost use Prim.Native.Nat.{_≤_};
 ghost use lib.ListN.{length};
 ghost use Rattle.doubles.specs.Units.{scoresIs, scoresWas};
-ghost use Rattle.build.specs.Memory.{memoryIs, memoryWas};
-ghost use Rattle.pack.specs.Build.{told, toldOf, nodesOf, PackBuilt};
+ghost use Rattle.build.specs.Memory.{scoredMemoryIs, scoredMemoryWas};
+ghost use Rattle.build.specs.Promise.{built};
+ghost use Rattle.pack.specs.Build.{told, reportOf, nodesOf, PackBuilt};
 ghost use Rattle.pack.specs.Reading.{PackFine, ScoresLeft};
 ghost use Rattle.refusal.specs.Lent.{was};
 
@@ -37,7 +38,7 @@ fn fill_scores(
 // What is answered of a trie of n nodes.
 fn summary(kind: Kind, h: Header, bytes: &[u8], n: u32) -> PackAnswer
     requires { ⌜ PackFine (now bytes) kind h ⌝ }
-    ensures { λ r. ⌜ (n ≡ nodesOf kind (was bytes) → told r ≡ toldOf kind (was bytes)) ⌝ }
+    ensures { λ r. ⌜ (n ≡ nodesOf kind (was bytes) → told r ≡ built (reportOf kind (was bytes))) ⌝ }
 {
     match kind {
         Kind::Unigram => PackAnswer::Unigram {
@@ -70,8 +71,8 @@ pub fn build_fine(
 ) -> PackAnswer
     requires { ⌜ PackFine (now bytes) kind h ⌝ }
     ensures { λ r.
-        ⌜ PackBuilt (was bytes) (memoryWas «edge_at» «edge_n» «node_id» byte to work) (scoresWas «node_score») r
-        (memoryIs «edge_at» «edge_n» «node_id» byte to work) (scoresIs «node_score») ⌝ }
+        ⌜ PackBuilt (was bytes) (scoredMemoryWas «edge_at» «edge_n» «node_id» «node_score» byte to work) r
+        (scoredMemoryIs «edge_at» «edge_n» «node_id» «node_score» byte to work) ⌝ }
 {
     let room = scored::fine::room(edge_at, edge_n, node_id, node_score, byte, to, work);
     let start = h.strings_off as usize;

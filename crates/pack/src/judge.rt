@@ -12,7 +12,8 @@ ghost use mathlib.Core.Option.{some};
 ghost use Rattle.refusal.specs.Sizes.{maxRows, maxTable, maxPrefix, above};
 ghost use Rattle.rows.specs.Answers.{reasonIn};
 ghost use Rattle.pack.specs.Pack.{headerOf, kindOf};
-ghost use Rattle.pack.specs.Reading.{headerIs, faultBefore, FoundIs};
+ghost use Rattle.pack.specs.Build.{contentFault};
+ghost use Rattle.pack.specs.Reading.{headerIs, FoundIs};
 ghost use Rattle.refusal.specs.Lent.{was};
 
 // The longest prefix, in bytes.
@@ -42,7 +43,7 @@ fn is_large(h: Header) -> bool
 // The sizes, the rows, and then the prefix's span and text.
 fn judge_rows(kind: Kind, bytes: &[u8], h: Header) -> RowsAnswer
     requires { ⌜ (headerIs h ≡ headerOf (now bytes)) × (kindOf (now bytes) ≡ some kind) ⌝ }
-    ensures { λ r. ⌜ reasonIn r ≡ faultBefore kind (was bytes) ⌝ }
+    ensures { λ r. ⌜ reasonIn r ≡ contentFault kind (was bytes) ⌝ }
 {
     if is_large(h) {
         return RowsAnswer::Refused(Reason::Call(Fault::Size));

@@ -9,8 +9,7 @@ mod judge;
 mod row;
 mod scores;
 
-ghost use Rattle.doubles.specs.Units.{scoresIs, scoresWas};
-ghost use Rattle.build.specs.Memory.{memoryIs, memoryWas};
+ghost use Rattle.build.specs.Memory.{scoredMemoryIs, scoredMemoryWas};
 ghost use Rattle.pack.specs.Build.{PackBuilt};
 ghost use Rattle.refusal.specs.Lent.{was};
 
@@ -46,8 +45,8 @@ pub fn build(
     work: &mut [u32],
 ) -> PackAnswer
     ensures { λ r.
-        ⌜ PackBuilt (was bytes) (memoryWas «edge_at» «edge_n» «node_id» byte to work) (scoresWas «node_score») r
-        (memoryIs «edge_at» «edge_n» «node_id» byte to work) (scoresIs «node_score») ⌝ }
+        ⌜ PackBuilt (was bytes) (scoredMemoryWas «edge_at» «edge_n» «node_id» «node_score» byte to work) r
+        (scoredMemoryIs «edge_at» «edge_n» «node_id» «node_score» byte to work) ⌝ }
 {
     let found = judge::judge(bytes);
     match found {

@@ -10,6 +10,8 @@ pub mod FirstBad
 pub mod LowestScores
 -- a row list as a whole: the sizes, then the first bad row, and what a list without a fault says
 pub mod ListFaults
+-- no fault of rows is 7
+pub mod NeverRoom
 -- which reason is given, exactly when, and that the answer is determined
 pub mod Judged
 -- each promise fixes its answer

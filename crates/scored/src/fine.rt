@@ -8,11 +8,10 @@ ghost use mathlib.Core.Path.{_≡_};
 ghost use mathlib.Core.Option.{none};
 ghost use Prim.Native.Nat.{min};
 ghost use lib.ListN.{length};
-ghost use Rattle.doubles.specs.Units.{scoresIs, scoresWas};
 ghost use Rattle.rows.specs.declared.Kind.the-variants.{Unigram};
 ghost use Rattle.rows.specs.Columns.{columnsFault};
 ghost use Rattle.rows.specs.Answers.{scoredColumns, scoredWas};
-ghost use Rattle.build.specs.Memory.{memoryIs, memoryWas};
+ghost use Rattle.build.specs.Memory.{memoryWas, scoredMemoryIs, scoredMemoryWas};
 ghost use Rattle.build.specs.Core.{roomOf};
 ghost use Rattle.scored.specs.Build as promise;
 ghost use Rattle.refusal.specs.Lent.{was};
@@ -55,8 +54,9 @@ pub fn build_rows(
 ) -> BuildAnswer
     requires { ⌜ columnsFault Unigram (now tab) (scoredColumns (now off) (now len) (now score) (now id)) ≡ none ⌝ }
     ensures { λ r.
-        ⌜ promise.Built (was tab) (scoredWas off len score id) (memoryWas «edge_at» «edge_n» «node_id» byte to work)
-        (scoresWas «node_score») r (memoryIs «edge_at» «edge_n» «node_id» byte to work) (scoresIs «node_score») ⌝ }
+        ⌜ promise.Built (was tab) (scoredWas off len score id)
+        (scoredMemoryWas «edge_at» «edge_n» «node_id» «node_score» byte to work) r
+        (scoredMemoryIs «edge_at» «edge_n» «node_id» «node_score» byte to work) ⌝ }
 {
     let room = room(edge_at, edge_n, node_id, node_score, byte, to, work);
     let built = build::core::build(

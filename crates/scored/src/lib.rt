@@ -6,9 +6,8 @@ use rows::columns::RowsAnswer;
 pub mod fine;
 pub mod scores;
 
-ghost use Rattle.doubles.specs.Units.{scoresIs, scoresWas};
 ghost use Rattle.rows.specs.Answers.{columnsWas};
-ghost use Rattle.build.specs.Memory.{memoryIs, memoryWas};
+ghost use Rattle.build.specs.Memory.{scoredMemoryIs, scoredMemoryWas};
 ghost use Rattle.scored.specs.Build as promise;
 ghost use Rattle.refusal.specs.Lent.{was};
 
@@ -44,8 +43,8 @@ pub fn build(
 ) -> BuildAnswer
     ensures { λ r.
         ⌜ promise.Built (was tab) (columnsWas off len scored score id)
-        (memoryWas «edge_at» «edge_n» «node_id» byte to work) (scoresWas «node_score») r
-        (memoryIs «edge_at» «edge_n» «node_id» byte to work) (scoresIs «node_score») ⌝ }
+        (scoredMemoryWas «edge_at» «edge_n» «node_id» «node_score» byte to work) r
+        (scoredMemoryIs «edge_at» «edge_n» «node_id» «node_score» byte to work) ⌝ }
 {
     let found = rows::columns::judge(Kind::Unigram, tab, off, len, scored, score, id);
     match found {

@@ -17,25 +17,27 @@ use Rattle.refusal.specs.declared.Fault.the-variants as fault
 use Rattle.refusal.specs.declared.Reason.{Reason}
 use Rattle.refusal.specs.declared.Reason.the-variants as reason
 use Rattle.refusal.specs.Sizes.{maxRows, maxTable, above}
-use Rattle.refusal.specs.Refusal.{numberOf, refuse, first}
-use Rattle.refusal.specs.Places.{zeroed, filled}
-use Rattle.refusal.proofs.Tests.{found, not-found, passed}
+use Rattle.refusal.specs.Refusal.{numberOf, refuse}
+use Rattle.refusal.specs.Places.{zeroed}
+use Rattle.refusal.proofs.Tests.{passed}
 use Rattle.rows.specs.declared.Kind.the-variants.{Unigram}
 use Rattle.rows.specs.Rows.{Row, Worth, score, id, worthFault, rowFault, firstBad}
 use Rattle.rows.specs.Columns.{Columns, rowAt, rowsOf, level, columnsFault}
-use Rattle.rows.proofs.FirstBad.{first-bad-says, none-bad-says}
+use Rattle.rows.proofs.FirstBad.{none-bad-says}
+use Rattle.rows.proofs.NeverRoom.{bad-not-room, sized-not-room}
 use Rattle.rows.proofs.RowLists.{rows-length, rows-at, getD-map-inside}
 use Rattle.rows.proofs.ListFaults.{within-sizes}
-use Rattle.build.specs.Rules.{scoreOf, unigramTrie, unigramScores}
+use Rattle.build.specs.Rules.{scoreOf}
 use Rattle.build.specs.Core.{nodesOf}
-use Rattle.build.specs.Memory.{Memory, anyBelow, noScoredRoom, cleared, holding, zeroScores, leaves}
+use Rattle.build.specs.Memory.{Memory, anyBelow, noScoredRoom, cleared, zeroScores, leaves}
+use Rattle.build.specs.Promise.{buildFault, Promised}
 use Rattle.build.proofs.Rooms.{or-false}
+use Rattle.build.proofs.Promises.{fault-found, fault-left, built-bad, built-short, refused-moved}
 use Rattle.scored.specs.declared.BuildAnswer.{BuildAnswer}
 use Rattle.scored.specs.declared.BuildAnswer.the-variants as answer-is
-use Rattle.scored.specs.Build.{told, toldFor, buildFault, Built}
-use Rattle.sliced.specs.BuildRows.{RowPlaces, rowPlaces, zeroRows, shortOf, rowsJudged, rowsFault, RowsBuilt}
-use Rattle.sliced.specs.Copied.{putRow, putRows, Places, toCopy, firstPlaces, Ready, copiedFault, CopiedBuilt}
-use Rattle.scored.proofs.Builds.{row-number, fault-fine}
+use Rattle.scored.specs.Build.{reportOf, told}
+use Rattle.sliced.specs.BuildRows.{RowPlaces, rowPlaces, zeroRows, shortOf, rowsJudged, shortFor, PlacesBuilt, RowsBuilt}
+use Rattle.sliced.specs.Copied.{putRow, putRows, Places, toCopy, firstPlaces, Ready}
 
 -- ---- room for the rows
 
@@ -221,15 +223,7 @@ module _ (tab : List ℕ) (rs : List Row) (fine : rowsJudged tab rs ≡ none) wh
 -- no fault of rows is 7
 judged-number : (tab : List ℕ) (rs : List Row) (r : Reason) → rowsJudged tab rs ≡ some r → eqb (numberOf r) 7 ≡ false
 unfolding rowsJudged
-judged-number tab rs r e = go (above maxRows (length rs) || above maxTable (length tab)) refl
-  where
-    go : (t : Bool) → (above maxRows (length rs) || above maxTable (length tab)) ≡ t → eqb (numberOf r) 7 ≡ false
-    go true p =
-        let s : reason.Call fault.Size ≡ r = cc (found (above maxRows (length rs) || above maxTable (length tab)) (reason.Call fault.Size) (firstBad Unigram tab 0 rs) p) in
-        subst (λ (x : Reason). eqb (numberOf x) 7 ≡ false) s refl
-    go false p =
-        let w = first-bad-says Unigram tab noRow 0 rs r (sym (not-found (above maxRows (length rs) || above maxTable (length tab)) (reason.Call fault.Size) (firstBad Unigram tab 0 rs) p) ∙ e) in
-        subst (λ (x : Reason). eqb (numberOf x) 7 ≡ false) (sym (w .2)) (row-number tab _ (w .3 .bad))
+judged-number tab rs r e = sized-not-room _ _ (bad-not-room Unigram tab 0 rs) e
 
 -- after success and after 7 the zeros stand
 zeros : {A : Type 0} (none-left before : A) (t : Bool) → none-left ≡ leaves (refuse t (reason.Call fault.Room) none) none-left none-left before
@@ -239,103 +233,53 @@ zeros none-left before false = refl
 
 -- ---- the promise over the first places
 
-module _ (n : ℕ) (tab : List ℕ) (c : Columns) (lent : RowPlaces) (m : Memory) (scores : List Double) where
-  -- which fault
-  copied-found : {o : Option Reason} {r : Reason} → o ≡ some r → copiedFault o n tab c lent m scores ≡ some r
-  unfolding copiedFault first
-  copied-found e = ap (λ (o : Option Reason). copiedFault o n tab c lent m scores) e
+module _ (n : ℕ) (tab : List ℕ) (rows : List Row) (lent : RowPlaces) (m : Memory) where
+  abbrev short : Bool
+  short = shortFor n tab rows lent m
 
-  copied-full : {o : Option Reason} → o ≡ none → shortOf n lent ≡ true → copiedFault o n tab c lent m scores ≡ some (reason.Call fault.Room)
-  unfolding copiedFault first
-  copied-full e p = ap (λ (o : Option Reason). copiedFault o n tab c lent m scores) e ∙ found (shortOf n lent) (reason.Call fault.Room) (buildFault tab c m scores) p
-
-  copied-left : {o : Option Reason} → o ≡ none → shortOf n lent ≡ false → copiedFault o n tab c lent m scores ≡ buildFault tab c m scores
-  unfolding copiedFault first
-  copied-left e p = ap (λ (o : Option Reason). copiedFault o n tab c lent m scores) e ∙ not-found (shortOf n lent) (reason.Call fault.Room) (buildFault tab c m scores) p
-
-  -- what a buffer holds after a refusal that is not 7, and after 7
-  kept : {A : Type 0} {o : Option Reason} {r : Reason} (done zeros before : A) → o ≡ some r → eqb (numberOf r) 7 ≡ false → before ≡ leaves o done zeros before
-  unfolding leaves
-  kept done zeros before e p = sym (ap (λ (o : Option Reason). leaves o done zeros before) e ∙ ap (λ (b : Bool). cond b zeros before) p)
-
-  emptied : {A : Type 0} {o : Option Reason} (done zeros before : A) → o ≡ some (reason.Call fault.Room) → zeros ≡ leaves o done zeros before
-  unfolding leaves
-  emptied done zeros before e = sym (ap (λ (o : Option Reason). leaves o done zeros before) e)
+  -- the places of the rows, where nothing was found
+  pub zeros-left : {o : Option Reason} → o ≡ none → zeroRows lent ≡ leaves (buildFault o (shortFor n tab rows lent m)) (zeroRows lent) (zeroRows lent) lent
+  zeros-left {o = o} e =
+      zeros (zeroRows lent) lent short ∙ sym (ap (λ (f : Option Reason). leaves f (zeroRows lent) (zeroRows lent) lent) (fault-left o short e refl))
 
   pub copied-bad :
-      {o : Option Reason} {r : Reason} → o ≡ some r → eqb (numberOf r) 7 ≡ false
-      → CopiedBuilt o n tab c lent m scores (answer-is.Refused r) lent m scores
-  unfolding told toldFor
-  copied-bad e p =
-      let f = copied-found e in
+      {o : Option Reason} {r : Reason} → o ≡ some r → eqb (numberOf r) 7 ≡ false → PlacesBuilt o n tab rows lent m (answer-is.Refused r) lent m
+  unfolding told leaves
+  copied-bad {o = o} e p =
       record {
-        answered = sym (ap (λ (o : Option Reason). toldFor o tab (rowsOf c)) f);
-        columns = kept _ _ m f p;
-        scores = kept _ _ scores f p;
-        places = kept _ _ lent f p;
+        built = built-bad Unigram tab rows (reportOf tab rows) m e p;
+        places =
+            sym
+            (ap (λ (f : Option Reason). leaves f (zeroRows lent) (zeroRows lent) lent) (fault-found o short e)
+            ∙ ap (λ (b : Bool). cond b (zeroRows lent) lent) p);
       }
 
   pub copied-short :
-      {o : Option Reason} {answer : BuildAnswer} {lentAfter : RowPlaces} {after : Memory} {scoresAfter : List Double}
-      → o ≡ none → shortOf n lent ≡ true → answer ≡ answer-is.Refused (reason.Call fault.Room) → lentAfter ≡ zeroRows lent → after ≡ cleared m → scoresAfter ≡ zeroScores scores
-      → CopiedBuilt o n tab c lent m scores answer lentAfter after scoresAfter
-  unfolding told toldFor
-  copied-short e p a l k s =
-      let f = copied-full e p in
+      {o : Option Reason} {answer : BuildAnswer} {lentAfter : RowPlaces} {after : Memory} → o ≡ none → shortOf n lent ≡ true
+      → answer ≡ answer-is.Refused (reason.Call fault.Room) → lentAfter ≡ zeroRows lent → after ≡ cleared m
+      → PlacesBuilt o n tab rows lent m answer lentAfter after
+  unfolding told
+  copied-short {o = o} {after = after} e p a l k =
       record {
-        answered = ap told a ∙ sym (ap (λ (o : Option Reason). toldFor o tab (rowsOf c)) f);
-        columns = k ∙ emptied _ _ _ f;
-        scores = s ∙ emptied _ _ _ f;
-        places = l ∙ emptied _ _ _ f;
+        built =
+            subst (λ (x : BuildAnswer). Promised Unigram tab rows o short (reportOf tab rows) m (told x) after) (sym a)
+            (built-short Unigram tab rows (reportOf tab rows) m e (ap (λ (t : Bool). t || noScoredRoom (nodesOf tab rows) m) p) k);
+        places = l ∙ zeros-left e;
       }
 
+  -- rows that were judged elsewhere too, and have room
   pub copied-built :
-      {o : Option Reason} {answer : BuildAnswer} {lentAfter : RowPlaces} {after : Memory} {scoresAfter : List Double}
-      → o ≡ none → shortOf n lent ≡ false → columnsFault Unigram tab c ≡ none → Built tab c m scores answer after scoresAfter → lentAfter ≡ zeroRows lent
-      → CopiedBuilt o n tab c lent m scores answer lentAfter after scoresAfter
-  copied-built e p fine b l =
-      let f = sym (copied-left e p) in
+      {o q : Option Reason} {answer : BuildAnswer} {lentAfter : RowPlaces} {after : Memory} → o ≡ none → shortOf n lent ≡ false → q ≡ none
+      → Promised Unigram tab rows q (noScoredRoom (nodesOf tab rows) m) (reportOf tab rows) m (told answer) after → lentAfter ≡ zeroRows lent
+      → PlacesBuilt o n tab rows lent m answer lentAfter after
+  copied-built {q = q} {answer = answer} {after = after} e p fine b l =
       record {
-        answered = b .answered ∙ ap (λ (o : Option Reason). toldFor o tab (rowsOf c)) f;
-        columns = b .columns ∙ ap (λ (o : Option Reason). leaves o (holding (unigramTrie tab (rowsOf c)) m) (cleared m) m) f;
-        scores = b .scores ∙ ap (λ (o : Option Reason). leaves o (filled plusZero (unigramScores tab (rowsOf c)) scores) (zeroScores scores) scores) f;
-        places = l ∙ zeros (zeroRows lent) lent (noScoredRoom (nodesOf tab (rowsOf c)) m scores) ∙ ap (λ (o : Option Reason). leaves o (zeroRows lent) (zeroRows lent) lent) (sym (fault-fine tab c m scores fine) ∙ f);
+        built =
+            subst (λ (x : Option Reason). Promised Unigram tab rows x short (reportOf tab rows) m (told answer) after) (fine ∙ sym e)
+            (subst (λ (t : Bool). Promised Unigram tab rows q t (reportOf tab rows) m (told answer) after)
+            (ap (λ (t : Bool). t || noScoredRoom (nodesOf tab rows) m) (sym p)) b);
+        places = l ∙ zeros-left e;
       }
-
--- ---- the promise over the rows
-
-module _ (tab : List ℕ) (rs : List Row) (lent lent₁ : RowPlaces) (m : Memory) (scores : List Double) (o : Option Reason) (c : Columns)
-    {answer : BuildAnswer} {lentAfter : RowPlaces} {after : Memory} {scoresAfter : List Double}
-    (b : CopiedBuilt o (length rs) tab c lent₁ m scores answer lentAfter after scoresAfter)
-  where
-    abbrev copied : Option Reason
-    copied = copiedFault o (length rs) tab c lent₁ m scores
-
-    abbrev whole : Option Reason
-    whole = rowsFault tab rs lent m scores
-
-    -- a refusal: nothing was put
-    refused : (r : Reason) → copied ≡ some r → whole ≡ some r → lent₁ ≡ lent → RowsBuilt tab rs lent m scores answer lentAfter after scoresAfter
-    unfolding toldFor leaves
-    refused r p q same =
-        record {
-          answered = b .answered ∙ ap (λ (f : Option Reason). toldFor f tab (rowsOf c)) p ∙ sym (ap (λ (f : Option Reason). toldFor f tab rs) q);
-          columns = b .columns ∙ ap (λ (f : Option Reason). leaves f (holding (unigramTrie tab (rowsOf c)) m) (cleared m) m) p ∙ sym (ap (λ (f : Option Reason). leaves f (holding (unigramTrie tab rs) m) (cleared m) m) q);
-          scores = b .scores ∙ ap (λ (f : Option Reason). leaves f (filled plusZero (unigramScores tab (rowsOf c)) scores) (zeroScores scores) scores) p ∙ sym (ap (λ (f : Option Reason). leaves f (filled plusZero (unigramScores tab rs) scores) (zeroScores scores) scores) q);
-          places = b .places ∙ ap (λ (f : Option Reason). leaves f (zeroRows lent₁) (zeroRows lent₁) lent₁) p ∙ ap (λ (l : RowPlaces). leaves (some r) (zeroRows l) (zeroRows l) l) same ∙ sym (ap (λ (f : Option Reason). leaves f (zeroRows lent) (zeroRows lent) lent) q);
-        }
-
-    -- rows without a fault, in the first places: built, or no room
-    accepted : (t : Bool) → copied ≡ refuse t (reason.Call fault.Room) none → whole ≡ refuse t (reason.Call fault.Room) none → rowsOf c ≡ rs → zeroRows lent₁ ≡ zeroRows lent
-        → RowsBuilt tab rs lent m scores answer lentAfter after scoresAfter
-    accepted t p q rows same =
-        let f : copied ≡ whole = p ∙ sym q in
-        record {
-          answered = b .answered ∙ ap (λ (x : Option Reason). toldFor x tab (rowsOf c)) f ∙ ap (toldFor whole tab) rows;
-          columns = b .columns ∙ ap (λ (x : Option Reason). leaves x (holding (unigramTrie tab (rowsOf c)) m) (cleared m) m) f ∙ ap (λ (l : List Row). leaves whole (holding (unigramTrie tab l) m) (cleared m) m) rows;
-          scores = b .scores ∙ ap (λ (x : Option Reason). leaves x (filled plusZero (unigramScores tab (rowsOf c)) scores) (zeroScores scores) scores) f ∙ ap (λ (l : List Row). leaves whole (filled plusZero (unigramScores tab l) scores) (zeroScores scores) scores) rows;
-          places = b .places ∙ ap (λ (x : Option Reason). leaves x (zeroRows lent₁) (zeroRows lent₁) lent₁) p ∙ sym (zeros (zeroRows lent₁) lent₁ t) ∙ same ∙ zeros (zeroRows lent) lent t ∙ sym (ap (λ (x : Option Reason). leaves x (zeroRows lent) (zeroRows lent) lent) q);
-        }
 
 -- ---- the steps together
 
@@ -409,31 +353,50 @@ module _ (tab : List ℕ) (rs : List Row) (off len off₁ len₁ : List ℕ) (sc
           fine = λ e p. all-there e (room-before e (shortOf n′ lent) refl p) .fine;
         }
 
-    module _ (m : Memory) (nodeScores : List Double) {answer : BuildAnswer} {lentAfter : RowPlaces} {after : Memory} {scoresAfter : List Double}
-        (b : CopiedBuilt o (length rs) tab (firstPlaces (length rs) off₁ len₁ scores₁) (rowPlaces off₁ len₁ scores₁) m nodeScores answer lentAfter after scoresAfter)
+    module _ (m : Memory) {answer : BuildAnswer} {lentAfter : RowPlaces} {after : Memory}
+        (b : PlacesBuilt o (length rs) tab (rowsOf (firstPlaces (length rs) off₁ len₁ scores₁)) (rowPlaces off₁ len₁ scores₁) m answer lentAfter after)
       where
-        abbrev rest : Bool → Option Reason
-        rest t = refuse (t || noScoredRoom (nodesOf tab rs) m nodeScores) (reason.Call fault.Room) none
+        abbrev Aim : Type 0
+        Aim = RowsBuilt tab rs (rowPlaces off len scores) m answer lentAfter after
 
-        whole-is : {x : Option Reason} → o ≡ x → rowsFault tab rs lent m nodeScores ≡ first x (rest (shortOf n′ lent))
-        unfolding rowsFault
-        whole-is e = ap (λ (x : Option Reason). first x (rest (shortOf n′ lent))) (sym judged ∙ e)
+        abbrev short-first : Bool
+        short-first = shortFor n′ tab (rowsOf c) lent₁ m
 
-        pub rows-built : RowsBuilt tab rs (rowPlaces off len scores) m nodeScores answer lentAfter after scoresAfter
-        unfolding first refuse
+        abbrev short-all : Bool
+        short-all = shortFor n′ tab rs lent m
+
+        -- a refusal: nothing was put
+        refused : {r : Reason} → buildFault o short-first ≡ some r → buildFault (rowsJudged tab rs) short-all ≡ some r → lent₁ ≡ lent → Aim
+        refused {r = r} p q same =
+            record {
+              built = refused-moved rs (rowsJudged tab rs) short-all (reportOf tab rs) p q (b .built);
+              places =
+                  b .places ∙ ap (λ (f : Option Reason). leaves f (zeroRows lent₁) (zeroRows lent₁) lent₁) p
+                  ∙ ap (λ (l : RowPlaces). leaves (some r) (zeroRows l) (zeroRows l) l) same
+                  ∙ sym (ap (λ (f : Option Reason). leaves f (zeroRows lent) (zeroRows lent) lent) q);
+            }
+
+        by-room : o ≡ none → (t : Bool) → shortOf n′ lent ≡ t → Aim
+        unfolding refuse
+        by-room e true p =
+            let same = none-put (short-none e p) in
+            refused (fault-left o short-first e (ap (λ (t : Bool). t || noScoredRoom (nodesOf tab (rowsOf c)) m) (ap (shortOf n′) same ∙ p)))
+            (fault-left (rowsJudged tab rs) short-all (sym judged ∙ e) (ap (λ (t : Bool). t || noScoredRoom (nodesOf tab rs) m) p)) same
+        by-room e false p =
+            let w = all-there e p in
+            let level : shortFor n′ tab rs lent₁ m ≡ short-all = ap (λ (t : Bool). t || noScoredRoom (nodesOf tab rs) m) (w .roomy ∙ sym p) in
+            record {
+              built =
+                  subst (λ (x : Option Reason). Promised Unigram tab rs x short-all (reportOf tab rs) m (told answer) after) judged
+                  (subst (λ (t : Bool). Promised Unigram tab rs o t (reportOf tab rs) m (told answer) after) level
+                  (subst (λ (l : List Row). Promised Unigram tab l o (shortFor n′ tab l lent₁ m) (reportOf tab l) m (told answer) after) (w .are) (b .built)));
+              places = b .places ∙ sym (zeros-left n′ tab (rowsOf c) lent₁ m e) ∙ w .zeros ∙ zeros-left n′ tab rs lent m (sym judged ∙ e);
+            }
+
+        pub rows-built : RowsBuilt tab rs (rowPlaces off len scores) m answer lentAfter after
         rows-built = by-found o refl
           where
-            by-room : o ≡ none → (t : Bool) → shortOf n′ lent ≡ t → RowsBuilt tab rs (rowPlaces off len scores) m nodeScores answer lentAfter after scoresAfter
-            by-room e true p =
-                let same = none-put (short-none e p) in
-                refused tab rs lent lent₁ m nodeScores o c b (reason.Call fault.Room)
-                (copied-full n′ tab c lent₁ m nodeScores e (ap (shortOf n′) same ∙ p)) (whole-is e ∙ ap rest p) same
-            by-room e false p =
-                let w = all-there e p in
-                accepted tab rs lent lent₁ m nodeScores o c b (noScoredRoom (nodesOf tab rs) m nodeScores)
-                (copied-left n′ tab c lent₁ m nodeScores e (w .roomy) ∙ fault-fine tab c m nodeScores (w .fine) ∙ ap (λ (l : List Row). refuse (noScoredRoom (nodesOf tab l) m nodeScores) (reason.Call fault.Room) none) (w .are))
-                (whole-is e ∙ ap rest p) (w .are) (w .zeros)
-
-            by-found : (x : Option Reason) → o ≡ x → RowsBuilt tab rs (rowPlaces off len scores) m nodeScores answer lentAfter after scoresAfter
-            by-found (some r) e = refused tab rs lent lent₁ m nodeScores o c b r (copied-found n′ tab c lent₁ m nodeScores e) (whole-is e) (none-put (found-none e))
+            by-found : (x : Option Reason) → o ≡ x → Aim
+            by-found (some r) e =
+                refused (fault-found o short-first e) (fault-found (rowsJudged tab rs) short-all (sym judged ∙ e)) (none-put (found-none e))
             by-found none e = by-room e (shortOf n′ lent) refl

@@ -3,25 +3,25 @@ use mathlib.Core.Path.{_≡_}
 use Prim.Native.Nat.{ℕ}
 use mathlib.Core.Bool.{Bool, _||_}
 use mathlib.Core.List.{List, [], _∷_, map}
-use mathlib.Core.Option.{Option, none}
+use mathlib.Core.Option.{Option}
 use lib.Ieee.{Float}
 use lib.ListN.{length}
-use Rattle.doubles.specs.Double.{Double, plusZero}
+use Rattle.doubles.specs.Double.{Double}
 use Rattle.doubles.specs.Units.{units}
 use Rattle.refusal.specs.Lent.{Lent, was, is}
 use Rattle.refusal.specs.declared.Fault.the-variants as fault
 use Rattle.refusal.specs.declared.Reason.{Reason}
 use Rattle.refusal.specs.declared.Reason.the-variants as reason
 use Rattle.refusal.specs.Sizes.{maxRows, maxTable, above}
-use Rattle.refusal.specs.Refusal.{refuse, first}
-use Rattle.refusal.specs.Places.{filled, zeroed}
+use Rattle.refusal.specs.Refusal.{refuse}
+use Rattle.refusal.specs.Places.{zeroed}
 use Rattle.rows.specs.declared.Kind.the-variants as kind
 use Rattle.rows.specs.Rows.{Row, firstBad}
-use Rattle.build.specs.Names.{names}
-use Rattle.build.specs.Rules.{tokensOf, unigramTrie, unigramScores}
-use Rattle.build.specs.Memory.{Memory, anyBelow, noScoredRoom, cleared, holding, zeroScores, leaves}
+use Rattle.build.specs.Core.{nodesOf}
+use Rattle.build.specs.Memory.{Memory, anyBelow, noScoredRoom, zeroScores, leaves}
+use Rattle.build.specs.Promise.{buildFault, Promised}
 use Rattle.scored.specs.declared.BuildAnswer.{BuildAnswer}
-use Rattle.scored.specs.Build.{told, toldFor}
+use Rattle.scored.specs.Build.{reportOf, told}
 
 -- The columns that are lent for the rows: a place in each for each row.
 pub record RowPlaces : Type 0 where
@@ -52,16 +52,16 @@ unfoldable pub rowsJudged : List ℕ → List Row → Option Reason
 rowsJudged tab rows =
     refuse (above maxRows (length rows) || above maxTable (length tab)) (reason.Call fault.Size) (firstBad kind.Unigram tab 0 rows)
 
--- And 7. A column that is lent for the rows is a lent column: too few places in it are 7 too, whatever N is.
-unfoldable pub rowsFault : List ℕ → List Row → RowPlaces → Memory → List Double → Option Reason
-rowsFault tab rows lent m scores =
-    let n = length (names (tokensOf tab rows)) in
-    first (rowsJudged tab rows) (refuse (shortOf (length rows) lent || noScoredRoom n m scores) (reason.Call fault.Room) none)
+-- A column that is lent for the rows is a lent column: too few places in it are 7 too, whatever N is.
+abbrev pub shortFor : ℕ → List ℕ → List Row → RowPlaces → Memory → Bool
+shortFor n tab rows lent m = shortOf n lent || noScoredRoom (nodesOf tab rows) m
 
--- What `build_rows` promises of its answer and of the lent columns and scores, before and after. The places that are lent for the rows end
--- as work places do.
-pub record RowsBuilt (tab : List ℕ) (rows : List Row) (lent : RowPlaces) (before : Memory) (scoresBefore : List Double) (answer : BuildAnswer) (lentAfter : RowPlaces) (after : Memory) (scoresAfter : List Double) : Type 0 where
-  pub answered : told answer ≡ toldFor (rowsFault tab rows lent before scoresBefore) tab rows
-  pub columns : after ≡ leaves (rowsFault tab rows lent before scoresBefore) (holding (unigramTrie tab rows) before) (cleared before) before
-  pub scores : scoresAfter ≡ leaves (rowsFault tab rows lent before scoresBefore) (filled plusZero (unigramScores tab rows) scoresBefore) (zeroScores scoresBefore) scoresBefore
-  pub places : lentAfter ≡ leaves (rowsFault tab rows lent before scoresBefore) (zeroRows lent) (zeroRows lent) lent
+-- What is promised of n rows, what was found of them being `judged`: the promise of every build. The places that are lent for the rows end as work
+-- places do.
+pub record PlacesBuilt (judged : Option Reason) (n : ℕ) (tab : List ℕ) (rows : List Row) (lent : RowPlaces) (before : Memory) (answer : BuildAnswer) (lentAfter : RowPlaces) (after : Memory) : Type 0 where
+  pub built : Promised kind.Unigram tab rows judged (shortFor n tab rows lent before) (reportOf tab rows) before (told answer) after
+  pub places : lentAfter ≡ leaves (buildFault judged (shortFor n tab rows lent before)) (zeroRows lent) (zeroRows lent) lent
+
+-- What `build_rows` promises of its answer and of the memory lent to it, before and after.
+abbrev pub RowsBuilt : List ℕ → List Row → RowPlaces → Memory → BuildAnswer → RowPlaces → Memory → Type 0
+RowsBuilt tab rows = PlacesBuilt (rowsJudged tab rows) (length rows) tab rows

@@ -7,21 +7,14 @@ use mathlib.Core.Option.{Option, none, some}
 use lib.Dec.{eqb}
 use lib.Ieee.{Float}
 use lib.ListN.{length, set, take, replicate}
-use Rattle.doubles.specs.Double.{Double, plusZero}
-use Rattle.refusal.specs.declared.Fault.the-variants as fault
 use Rattle.refusal.specs.declared.Reason.{Reason}
-use Rattle.refusal.specs.declared.Reason.the-variants as reason
-use Rattle.refusal.specs.Refusal.{numberOf, refuse, first}
-use Rattle.refusal.specs.Places.{filled}
+use Rattle.refusal.specs.Refusal.{numberOf, first}
 use Rattle.rows.specs.declared.Kind.the-variants as kind
 use Rattle.rows.specs.Rows.{Row, firstBad}
-use Rattle.rows.specs.Columns.{Columns, rowsOf, columnsFault}
+use Rattle.rows.specs.Columns.{Columns, columnsFault}
 use Rattle.rows.specs.Answers.{columns}
-use Rattle.build.specs.Rules.{scoreOf, unigramTrie, unigramScores}
-use Rattle.build.specs.Memory.{Memory, cleared, holding, zeroScores, leaves}
-use Rattle.scored.specs.declared.BuildAnswer.{BuildAnswer}
-use Rattle.scored.specs.Build.{told, toldFor, buildFault}
-use Rattle.sliced.specs.BuildRows.{RowPlaces, rowPlaces, zeroRows, shortOf}
+use Rattle.build.specs.Rules.{scoreOf}
+use Rattle.sliced.specs.BuildRows.{RowPlaces, rowPlaces, shortOf}
 
 -- what is found once row i is looked at too
 abbrev pub foundAfter : Option Reason → List ℕ → Row → ℕ → Option Reason
@@ -56,15 +49,3 @@ firstPlaces n off len score = columns (take n off) (take n len) (replicate n tru
 pub record Ready (found : Option Reason) (n : ℕ) (tab off len : List ℕ) (score : List Float) : Type 0 where
   pub other : (r : Reason) → found ≡ some r → eqb (numberOf r) 7 ≡ false
   pub fine : found ≡ none → shortOf n (rowPlaces off len score) ≡ false → columnsFault kind.Unigram tab (firstPlaces n off len score) ≡ none
-
--- "1, rows, 7", from what was found
-unfoldable pub copiedFault : Option Reason → ℕ → List ℕ → Columns → RowPlaces → Memory → List Double → Option Reason
-copiedFault found n tab c lent m scores =
-    first found (refuse (shortOf n lent) (reason.Call fault.Room) (buildFault tab c m scores))
-
--- what is promised of rows that stand in the first n places, the columns c
-pub record CopiedBuilt (found : Option Reason) (n : ℕ) (tab : List ℕ) (c : Columns) (lent : RowPlaces) (before : Memory) (scoresBefore : List Double) (answer : BuildAnswer) (lentAfter : RowPlaces) (after : Memory) (scoresAfter : List Double) : Type 0 where
-  pub answered : told answer ≡ toldFor (copiedFault found n tab c lent before scoresBefore) tab (rowsOf c)
-  pub columns : after ≡ leaves (copiedFault found n tab c lent before scoresBefore) (holding (unigramTrie tab (rowsOf c)) before) (cleared before) before
-  pub scores : scoresAfter ≡ leaves (copiedFault found n tab c lent before scoresBefore) (filled plusZero (unigramScores tab (rowsOf c)) scoresBefore) (zeroScores scoresBefore) scoresBefore
-  pub places : lentAfter ≡ leaves (copiedFault found n tab c lent before scoresBefore) (zeroRows lent) (zeroRows lent) lent

@@ -5,9 +5,8 @@ use scored::BuildAnswer;
 mod slice;
 
 ghost use mathlib.Core.List.{map};
-ghost use Rattle.doubles.specs.Units.{scoresIs, scoresWas};
 ghost use Rattle.rows.specs.Rows.{rowIs};
-ghost use Rattle.build.specs.Memory.{memoryIs, memoryWas};
+ghost use Rattle.build.specs.Memory.{scoredMemoryIs, scoredMemoryWas};
 ghost use Rattle.sliced.specs.BuildRows.{RowsBuilt, placesIs, placesWas};
 ghost use Rattle.refusal.specs.Lent.{was};
 
@@ -29,8 +28,8 @@ pub fn build_rows(
 ) -> BuildAnswer
     ensures { λ r.
         ⌜ RowsBuilt (was tab) (map rowIs (was rows)) (placesWas off len score)
-        (memoryWas «edge_at» «edge_n» «node_id» byte to work) (scoresWas «node_score») r (placesIs off len score)
-        (memoryIs «edge_at» «edge_n» «node_id» byte to work) (scoresIs «node_score») ⌝ }
+        (scoredMemoryWas «edge_at» «edge_n» «node_id» «node_score» byte to work) r (placesIs off len score)
+        (scoredMemoryIs «edge_at» «edge_n» «node_id» «node_score» byte to work) ⌝ }
 {
     let found = slice::judge(tab, rows);
     let n = slice::to_copy(found, rows.len(), off.len(), len.len(), score.len());

@@ -22,13 +22,13 @@ ghost use Rattle.refusal.specs.Refusal.{refuse};
 ghost use Rattle.refusal.specs.Sizes.{maxRows, maxTable, above};
 ghost use Rattle.rows.specs.Rows.{worthIs, rowIs};
 ghost use Rattle.rows.specs.declared.Kind.the-variants.{Unigram};
-ghost use Rattle.rows.specs.Columns.{columnsFault};
+ghost use Rattle.rows.specs.Columns.{rowsOf, columnsFault};
 ghost use Rattle.rows.specs.Answers.{reasonIn};
 ghost use Rattle.build.specs.Rules.{scoreOf};
-ghost use Rattle.build.specs.Memory.{anyBelow, cleared, zeroScores, memoryIs, memoryWas};
+ghost use Rattle.build.specs.Memory.{anyBelow, cleared, zeroScores, memoryIs, memoryWas, scoredMemoryIs, scoredMemoryWas};
 ghost use Rattle.scored.specs.Build as promise;
-ghost use Rattle.sliced.specs.BuildRows.{rowPlaces, rowsJudged, zeroRows, shortOf, placesIs, placesWas};
-ghost use Rattle.sliced.specs.Copied.{foundAfter, putRow, putRows, Places, toCopy, firstPlaces, Ready, CopiedBuilt};
+ghost use Rattle.sliced.specs.BuildRows.{rowPlaces, rowsJudged, zeroRows, shortOf, PlacesBuilt, placesIs, placesWas};
+ghost use Rattle.sliced.specs.Copied.{foundAfter, putRow, putRows, Places, toCopy, firstPlaces, Ready};
 ghost use Rattle.refusal.specs.Lent.{was};
 
 // Too many rows or too large a table, before any row is looked at.
@@ -155,8 +155,8 @@ fn build_first(
     requires { ⌜ columnsFault Unigram (now tab) (firstPlaces n (now off) (now len) (now score)) ≡ none ⌝ }
     ensures { λ r.
         ⌜ promise.Built (was tab) (firstPlaces n (was off) (was len) (was score))
-        (memoryWas «edge_at» «edge_n» «node_id» byte to work) (scoresWas «node_score») r
-        (memoryIs «edge_at» «edge_n» «node_id» byte to work) (scoresIs «node_score») ⌝ }
+        (scoredMemoryWas «edge_at» «edge_n» «node_id» «node_score» byte to work) r
+        (scoredMemoryIs «edge_at» «edge_n» «node_id» «node_score» byte to work) ⌝ }
 {
     let first = &off[..n];
     fine::build_rows(
@@ -219,9 +219,9 @@ pub(crate) fn build_copied(
 ) -> BuildAnswer
     requires { ⌜ Ready (reasonIn found) n (now tab) (now off) (now len) (now score) ⌝ }
     ensures { λ r.
-        ⌜ CopiedBuilt (reasonIn found) n (was tab) (firstPlaces n (was off) (was len) (was score)) (placesWas off len score)
-        (memoryWas «edge_at» «edge_n» «node_id» byte to work) (scoresWas «node_score») r (placesIs off len score)
-        (memoryIs «edge_at» «edge_n» «node_id» byte to work) (scoresIs «node_score») ⌝ }
+        ⌜ PlacesBuilt (reasonIn found) n (was tab) (rowsOf (firstPlaces n (was off) (was len) (was score)))
+        (placesWas off len score) (scoredMemoryWas «edge_at» «edge_n» «node_id» «node_score» byte to work) r (placesIs off len score)
+        (scoredMemoryIs «edge_at» «edge_n» «node_id» «node_score» byte to work) ⌝ }
 {
     if let RowsAnswer::Refused(r) = found {
         return BuildAnswer::Refused(r);

@@ -9,20 +9,31 @@ use lib.ListN.{length}
 use Rattle.refusal.specs.declared.Fault.{Fault}
 use Rattle.refusal.specs.declared.Reason.{Reason}
 use Rattle.trie.specs.Trie.{Trie, idOf}
-use Rattle.rows.specs.Columns.{Columns, rowsOf}
-use Rattle.build.specs.Names.{names}
-use Rattle.build.specs.Rules.{tokensOf}
-use Rattle.build.specs.Memory.{Memory}
+use Rattle.rows.specs.declared.Kind.the-variants.{WordPiece}
+use Rattle.rows.specs.Columns.{Columns, rowsOf, columnsFault}
+use Rattle.build.specs.Memory.{Memory, noRoom}
+use Rattle.build.specs.Core.{nodesOf}
+use Rattle.build.specs.Promise.{buildFault}
+use Rattle.build.proofs.Promises as builds
+use Rattle.build.proofs.Promises.{promised-once}
 use Rattle.wordpiece.specs.declared.BuildAnswer.{BuildAnswer}
 use Rattle.wordpiece.specs.declared.BuildAnswer.the-variants as build-is
 use Rattle.wordpiece.specs.declared.EncodeAnswer.{EncodeAnswer}
-use Rattle.wordpiece.specs.Build.{buildFault, buildAnswer, Built}
+use Rattle.wordpiece.specs.Build.{told, Built}
 use Rattle.wordpiece.specs.declared.EncodeAnswer.the-variants.{Ids, Refused}
 use Rattle.wordpiece.specs.Pieces.{idsOf}
 use Rattle.wordpiece.specs.Encode.{encodeFault, encodeAnswer, Encoded}
 
-pub built-once : {tab : List ℕ} {c : Columns} {m : Memory} {a b : BuildAnswer} {m₁ m₂ : Memory} → Built tab c m a m₁ → Built tab c m b m₂ → (a ≡ b) × (m₁ ≡ m₂)
-built-once p q = (p .answered ∙ sym (q .answered), p .columns ∙ sym (q .columns))
+-- an answer is known by what it tells
+told-known : (a b : BuildAnswer) → told a ≡ told b → a ≡ b
+unfolding told
+told-known (build-is.Built n) (build-is.Built k) e = let same : n ≡ k = cc in ap build-is.Built same
+told-known (build-is.Built n) (build-is.Refused r) e = cc
+told-known (build-is.Refused r) (build-is.Built n) e = cc
+told-known (build-is.Refused q) (build-is.Refused r) e = let same : q ≡ r = cc in ap build-is.Refused same
+
+pub built-once : (tab : List ℕ) (c : Columns) (m : Memory) (a b : BuildAnswer) {m₁ m₂ : Memory} → Built tab c m a m₁ → Built tab c m b m₂ → (a ≡ b) × (m₁ ≡ m₂)
+built-once tab c m a b p q = let t = promised-once p q in (told-known a b (t .0), t .1)
 
 pub encoded-once : {t : Trie} {unknown maxChars : ℕ} {prefix w ids : List ℕ} {a b : EncodeAnswer} {i₁ i₂ : List ℕ} → Encoded t unknown maxChars prefix w ids a i₁ → Encoded t unknown maxChars prefix w ids b i₂ → (a ≡ b) × (i₁ ≡ i₂)
 encoded-once p q = (p .answered ∙ sym (q .answered), p .left ∙ sym (q .left))
@@ -59,25 +70,12 @@ module _ {t : Trie} {unknown maxChars : ℕ} {prefix w ids after : List ℕ} {an
           absurd (let z : _≡_ {A = ℕ} 0 1 = cc in omega arith)
 
 -- the same of `from_rows`: a build is refused with r exactly when r is its fault, and says N exactly when there is none
-module _ {tab : List ℕ} {c : Columns} {m : Memory} {answer : BuildAnswer} {after : Memory} (p : Built tab c m answer after) where
-  abbrev found : Option Reason
-  found = buildFault tab c m
+module _ (tab : List ℕ) (c : Columns) (m : Memory) (answer : BuildAnswer) (after : Memory) (p : Built tab c m answer after) where
+  pub build-refused-exactly : (r : Reason) → (answer ≡ build-is.Refused r) ↔ (buildFault (columnsFault WordPiece tab c) (noRoom (nodesOf tab (rowsOf c)) m) ≡ some r)
+  unfolding told
+  build-refused-exactly r = let two = builds.refused-exactly p r in (λ q. two .0 (ap told q), λ e. told-known answer (build-is.Refused r) (two .1 e))
 
-  abbrev nodes : ℕ
-  nodes = length (names (tokensOf tab (rowsOf c)))
-
-  pub build-refused-exactly : (r : Reason) → (answer ≡ build-is.Refused r) ↔ (buildFault tab c m ≡ some r)
-  unfolding buildAnswer
-  build-refused-exactly r = (λ q. says found (sym (p .answered) ∙ q), λ e. p .answered ∙ ap (λ (o : Option Reason). buildAnswer o nodes) e)
-    where
-      says : (o : Option Reason) → buildAnswer o nodes ≡ build-is.Refused r → o ≡ some r
-      says none e = absurd (let z : _≡_ {A = ℕ} 0 1 = cc in omega arith)
-      says (some g) e = let same : g ≡ r = cc in ap (λ (x : Reason). some x) same
-
-  pub build-accepted-exactly : (answer ≡ build-is.Built (length (names (tokensOf tab (rowsOf c))))) ↔ (buildFault tab c m ≡ none)
-  unfolding buildAnswer
-  build-accepted-exactly = (λ q. says found (sym (p .answered) ∙ q), λ e. p .answered ∙ ap (λ (o : Option Reason). buildAnswer o nodes) e)
-    where
-      says : (o : Option Reason) → buildAnswer o nodes ≡ build-is.Built nodes → o ≡ none
-      says none e = refl
-      says (some g) e = absurd (let z : _≡_ {A = ℕ} 0 1 = cc in omega arith)
+  pub build-accepted-exactly : (answer ≡ build-is.Built (nodesOf tab (rowsOf c))) ↔ (buildFault (columnsFault WordPiece tab c) (noRoom (nodesOf tab (rowsOf c)) m) ≡ none)
+  unfolding told
+  build-accepted-exactly =
+      let two = builds.accepted-exactly p in (λ q. two .0 (ap told q), λ e. told-known answer (build-is.Built (nodesOf tab (rowsOf c))) (two .1 e))

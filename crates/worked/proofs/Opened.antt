@@ -15,6 +15,7 @@ use Rattle.build.specs.Names as names
 use Rattle.build.specs.Parts as parts
 use Rattle.build.specs.Rules as rules
 use Rattle.build.specs.Memory as memory
+use Rattle.build.specs.Promise as promise
 use Rattle.cutting.specs.Records as records
 use Rattle.unigram.specs.Runs as runs
 use Rattle.unigram.specs.Pieces as unigram
@@ -40,7 +41,7 @@ unfolding trie.seek trie.step trie.walk trie.idAt trie.idFrom trie.idOf sound.ev
 trie-opened = tt
 
 unfoldable pub build-opened : Unit {0}
-unfolding rows.worthFault rows.rowFault rows.firstBad scores.lowest scores.unknownScore names.same names.later names.place names.prefixes names.add names.enter names.names parts.edge parts.edgesFrom parts.edgesOf parts.starts parts.lay parts.trieOf rules.firstRow rules.scoreOf rules.scoresOf rules.nodeScore rules.tokensOf rules.unigramTrie rules.unigramScores rules.idOfWorth rules.lastOf rules.lastId rules.wordpieceTrie memory.anyBelow memory.noRoom memory.noScoredRoom
+unfolding rows.worthFault rows.rowFault rows.firstBad scores.lowest scores.unknownScore names.same names.later names.place names.prefixes names.add names.enter names.names parts.edge parts.edgesFrom parts.edgesOf parts.starts parts.lay parts.trieOf rules.firstRow rules.scoreOf rules.scoresOf rules.nodeScore rules.tokensOf rules.unigramTrie rules.unigramScores rules.idOfWorth rules.lastOf rules.lastId rules.wordpieceTrie memory.anyBelow memory.noRoom memory.noScoredRoom promise.trieIn promise.scoresIn promise.buildFault
 build-opened = tt
 
 unfoldable pub unigram-opened : Unit {0}
@@ -52,7 +53,7 @@ unfolding wordpiece.pieceTo wordpiece.longestTo wordpiece.before wordpiece.piece
 wordpiece-opened = tt
 
 unfoldable pub pack-opened : Unit {0}
-unfolding pack.word pack.headerOf pack.laidOut pack.kindLaidOut pack.kindOf pack.worthAt pack.rowAt pack.rowsFrom pack.rowsOf pack.stringsOf pack.prefixOf build.nodesOf build.contentFault build.packFault build.theKind build.trieIn build.scoresIn build.modelOf lines.linesAfter lines.lines lines.digits lines.decimal lines.spaced lines.printedIds lines.printedRefusal output.lentMemory output.lentScratch output.printed output.segmentedLine output.encodedLine output.printedLine output.faultOf output.linesPrinted output.outputOf output.output
+unfolding pack.word pack.headerOf pack.laidOut pack.kindLaidOut pack.kindOf pack.worthAt pack.rowAt pack.rowsFrom pack.rowsOf pack.stringsOf pack.prefixOf build.contentFault build.packJudged build.theKind build.modelOf lines.linesAfter lines.lines lines.digits lines.decimal lines.spaced lines.printedIds lines.printedRefusal output.lentMemory output.lentScratch output.printed output.segmentedLine output.encodedLine output.printedLine output.faultOf output.linesPrinted output.outputOf output.output
 pack-opened = tt
 
 unfoldable pub example-opened : Unit {0}

@@ -6,33 +6,6 @@ use borrow.Author.Needs.{needs}
 use Rattle.exports.proofs.lookup_number.Statement.{statement}
 use Rattle.exports.proofs.lookup_number.Tie as tie
 
-enum-known-a : tie.Need-enum-known-a
-enum-known-a c = search needs
-
-cast-result : tie.Need-cast-result
-cast-result c = search needs
-
-enum-told : tie.Need-enum-told
-enum-told c = search needs
-
-enum-known-a-2 : tie.Need-enum-known-a-2
-enum-known-a-2 c = search needs
-
-number-requires : tie.Need-number-requires
-number-requires c κs = search needs
-
-cast-result-2 : tie.Need-cast-result-2
-cast-result-2 c = search needs
-
-add-result : tie.Need-add-result
-add-result c = search needs
-
-returns : tie.Need-returns
-returns c = search needs
-
-returns-2 : tie.Need-returns-2
-returns-2 c = search needs
-
 returns-3 : tie.Need-returns-3
 returns-3 c =
     let bound = c .before .before in
@@ -42,13 +15,13 @@ pub lookup-number-spec : {M : Type 1} → statement M
 lookup-number-spec =
     tie.close
     (tie.spec
-    enum-known-a
-    cast-result
-    enum-told
-    enum-known-a-2
-    number-requires
-    cast-result-2
-    add-result
-    returns
-    returns-2
+    (λ c. search needs)
+    (λ c. search needs)
+    (λ c. search needs)
+    (λ c. search needs)
+    (λ c κs. search needs)
+    (λ c. search needs)
+    (λ c. search needs)
+    (λ c. search needs)
+    (λ c. search needs)
     returns-3)

@@ -5,20 +5,8 @@ use borrow.Author.Needs.{needs}
 use Rattle.exports.proofs.segment_number.Statement.{statement}
 use Rattle.exports.proofs.segment_number.Tie as tie
 
-enum-known-a : tie.Need-enum-known-a
-enum-known-a c = search needs
-
-enum-known-a-2 : tie.Need-enum-known-a-2
-enum-known-a-2 c = search needs
-
-refused-requires : tie.Need-refused-requires
-refused-requires c κs = search needs
-
-returns : tie.Need-returns
-returns c = search needs
-
 returns-2 : tie.Need-returns-2
 returns-2 c = let bound = c .before .before in c .refused .ensures ∙ sym (ap segmentNumber (bound .a2 .given .1))
 
 pub segment-number-spec : {M : Type 1} → statement M
-segment-number-spec = tie.close (tie.spec enum-known-a enum-known-a-2 refused-requires returns returns-2)
+segment-number-spec = tie.close (tie.spec (λ c. search needs) (λ c. search needs) (λ c κs. search needs) (λ c. search needs) returns-2)

@@ -38,19 +38,10 @@ fine s h e = not-found _ _ _ (le-ltb maxText (length s) h) ∙ not-found _ _ _ (
 told : (s : List ℕ) {o : Option Fault} → textFault s ≡ o → countNumber o (characters s) ≡ countNumber (textFault s) (characters s)
 told s e = sym (ap (λ (f : Option Fault). countNumber f (characters s)) e)
 
-refused-requires : tie.Need-refused-requires
-refused-requires c κs = search needs
-
 returns : tie.Need-returns
 returns c =
     let s = c .before .before .before .args .s .now in
     c .refused .ensures ∙ told s (too-long s (omega (arith, c .before .if1 .taken)))
-
-valid-up-to-requires : tie.Need-valid-up-to-requires
-valid-up-to-requires c κs = search needs
-
-refused-requires-2 : tie.Need-refused-requires-2
-refused-requires-2 c κs = search needs
 
 returns-2 : tie.Need-returns-2
 returns-2 c =
@@ -74,4 +65,4 @@ returns-3 c =
 pub sk-characters-spec : {M : Type 1} → statement M
 sk-characters-spec =
     tie.close
-    (tie.spec refused-requires returns valid-up-to-requires refused-requires-2 returns-2 characters-requires returns-3)
+    (tie.spec (λ c κs. search needs) returns (λ c κs. search needs) (λ c κs. search needs) returns-2 characters-requires returns-3)

@@ -5,19 +5,10 @@ use borrow.Author.Needs.{needs}
 use Rattle.exports.proofs.sk_encode.Statement.{statement}
 use Rattle.exports.proofs.sk_encode.Tie as tie
 
-encode-requires : tie.Need-encode-requires
-encode-requires c κs = search needs
-
-encode-number-requires : tie.Need-encode-number-requires
-encode-number-requires c κs = search needs
-
-same-length : tie.Need-same-length
-same-length c = search needs
-
 returns : tie.Need-returns
 returns c =
     let called = c .before .before .before in
     (c .encode-number .ensures ∙ ap encodeNumber (called .encode .ensures .answered), called .encode .ensures .left)
 
 pub sk-encode-spec : {M : Type 1} → statement M
-sk-encode-spec = tie.close (tie.spec encode-requires encode-number-requires same-length returns)
+sk-encode-spec = tie.close (tie.spec (λ c κs. search needs) (λ c κs. search needs) (λ c. search needs) returns)

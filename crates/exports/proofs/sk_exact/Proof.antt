@@ -5,14 +5,8 @@ use borrow.Author.Needs.{needs}
 use Rattle.exports.proofs.sk_exact.Statement.{statement}
 use Rattle.exports.proofs.sk_exact.Tie as tie
 
-exact-requires : tie.Need-exact-requires
-exact-requires c κs = search needs
-
-lookup-number-requires : tie.Need-lookup-number-requires
-lookup-number-requires c κs = search needs
-
 returns : tie.Need-returns
 returns c = c .lookup-number .ensures ∙ ap lookupNumber (c .before .exact .ensures .answered)
 
 pub sk-exact-spec : {M : Type 1} → statement M
-sk-exact-spec = tie.close (tie.spec exact-requires lookup-number-requires returns)
+sk-exact-spec = tie.close (tie.spec (λ c κs. search needs) (λ c κs. search needs) returns)

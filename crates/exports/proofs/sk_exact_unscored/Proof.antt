@@ -5,15 +5,9 @@ use borrow.Author.Needs.{needs}
 use Rattle.exports.proofs.sk_exact_unscored.Statement.{statement}
 use Rattle.exports.proofs.sk_exact_unscored.Tie as tie
 
-exact-unscored-requires : tie.Need-exact-unscored-requires
-exact-unscored-requires c κs = search needs
-
-lookup-number-requires : tie.Need-lookup-number-requires
-lookup-number-requires c κs = search needs
-
 returns : tie.Need-returns
 returns c = c .lookup-number .ensures ∙ ap lookupNumber (c .before .exact-unscored .ensures .answered)
 
 pub sk-exact-unscored-spec : {M : Type 1} → statement M
 sk-exact-unscored-spec =
-    tie.close (tie.spec exact-unscored-requires lookup-number-requires returns)
+    tie.close (tie.spec (λ c κs. search needs) (λ c κs. search needs) returns)

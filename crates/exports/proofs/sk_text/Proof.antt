@@ -6,18 +6,6 @@ use Rattle.exports.specs.Flat.{status}
 use Rattle.exports.proofs.sk_text.Statement.{statement}
 use Rattle.exports.proofs.sk_text.Tie as tie
 
-text-answer-requires : tie.Need-text-answer-requires
-text-answer-requires c κs = search needs
-
-enum-told : tie.Need-enum-told
-enum-told c = search needs
-
-enum-known-f : tie.Need-enum-known-f
-enum-known-f c = search needs
-
-number-requires : tie.Need-number-requires
-number-requires c κs = search needs
-
 returns : tie.Need-returns
 returns c = sym (ap status (accepted-none (c .before .before .text-answer .ensures) (c .enum-told .given .1)))
 
@@ -30,4 +18,4 @@ returns-2 c =
 pub sk-text-spec : {M : Type 1} → statement M
 sk-text-spec =
     tie.close
-    (tie.spec text-answer-requires enum-told enum-known-f number-requires returns returns-2)
+    (tie.spec (λ c κs. search needs) (λ c. search needs) (λ c. search needs) (λ c κs. search needs) returns returns-2)

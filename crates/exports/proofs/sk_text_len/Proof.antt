@@ -5,11 +5,8 @@ use lib.ListN.{length}
 use Rattle.exports.proofs.sk_text_len.Statement.{statement}
 use Rattle.exports.proofs.sk_text_len.Tie as tie
 
-text-requires : tie.Need-text-requires
-text-requires c κs = search needs
-
 returns : tie.Need-returns
 returns c = ap length (c .text .ensures .gave)
 
 pub sk-text-len-spec : {M : Type 1} → statement M
-sk-text-len-spec = tie.close (tie.spec text-requires returns)
+sk-text-len-spec = tie.close (tie.spec (λ c κs. search needs) returns)

@@ -5,12 +5,6 @@ use borrow.Author.Needs.{needs}
 use Rattle.output.proofs.fault_of.Statement.{statement}
 use Rattle.output.proofs.fault_of.Tie as tie
 
-enum-known-r : tie.Need-enum-known-r
-enum-known-r c = search needs
-
-enum-known-r-2 : tie.Need-enum-known-r-2
-enum-known-r-2 c = search needs
-
 returns : tie.Need-returns
 unfolding faultOf
 returns c = sym (ap faultOf (c .before .r .given .1))
@@ -20,4 +14,4 @@ unfolding faultOf
 returns-2 c = sym (ap faultOf (c .before .r2 .given .1))
 
 pub fault-of-spec : {M : Type 1} → statement M
-fault-of-spec = tie.close (tie.spec enum-known-r enum-known-r-2 returns returns-2)
+fault-of-spec = tie.close (tie.spec (λ c. search needs) (λ c. search needs) returns returns-2)

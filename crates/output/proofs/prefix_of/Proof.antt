@@ -25,23 +25,11 @@ unfolding stringsOf
 strings-are bytes at e =
     take-all (length bytes - at) (drop at bytes) (omega (arith, length-drop at bytes)) ∙ ap (λ (n : ℕ). drop n bytes) e
 
-word-requires : tie.Need-word-requires
-word-requires c κs = search needs
-
-cast-start : tie.Need-cast-start
-cast-start c = search needs
-
 sub-strings : tie.Need-sub-strings
 sub-strings c = inside c
 
 part-strings-start : tie.Need-part-strings-start
 part-strings-start c = inside c
-
-part-strings-end : tie.Need-part-strings-end
-part-strings-end c = search needs
-
-text-requires : tie.Need-text-requires
-text-requires c κs = search needs
 
 returns : tie.Need-returns
 returns c =
@@ -54,10 +42,10 @@ pub prefix-of-spec : {M : Type 1} → statement M
 prefix-of-spec =
     tie.close
     (tie.spec
-    word-requires
-    cast-start
+    (λ c κs. search needs)
+    (λ c. search needs)
     sub-strings
     part-strings-start
-    part-strings-end
-    text-requires
+    (λ c. search needs)
+    (λ c κs. search needs)
     returns)

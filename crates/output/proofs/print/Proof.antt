@@ -19,15 +19,6 @@ tested c = let k = c .before .before .before .before in k .before .before .befor
 abbrev entry : tie.After-build → tie.Start
 entry c = tested c .before .before .before .before
 
-slice-aggregate-put-refusal : tie.Need-slice-aggregate-put-refusal
-slice-aggregate-put-refusal c = search needs
-
-put-refusal-requires : tie.Need-put-refusal-requires
-put-refusal-requires c κs = search needs
-
-same-length : tie.Need-same-length
-same-length c = search needs
-
 returns : tie.Need-returns
 unfolding ascii
 returns c =
@@ -35,48 +26,6 @@ returns c =
     let t = p .before .before .before in
     let a = t .before .before .before .before .args in
     put-as (pack-large (a .pack .now) (a .input .now) (t .if1 .taken)) (p .put-refusal .ensures .0)
-
-slice-aggregate-build : tie.Need-slice-aggregate-build
-slice-aggregate-build c = search needs
-
-slice-aggregate-build-2 : tie.Need-slice-aggregate-build-2
-slice-aggregate-build-2 c = search needs
-
-slice-aggregate-build-3 : tie.Need-slice-aggregate-build-3
-slice-aggregate-build-3 c = search needs
-
-slice-aggregate-build-4 : tie.Need-slice-aggregate-build-4
-slice-aggregate-build-4 c = search needs
-
-slice-aggregate-build-5 : tie.Need-slice-aggregate-build-5
-slice-aggregate-build-5 c = search needs
-
-slice-aggregate-build-6 : tie.Need-slice-aggregate-build-6
-slice-aggregate-build-6 c = search needs
-
-slice-aggregate-build-7 : tie.Need-slice-aggregate-build-7
-slice-aggregate-build-7 c = search needs
-
-build-requires : tie.Need-build-requires
-build-requires c κs = search needs
-
-slice-aggregate-print-built : tie.Need-slice-aggregate-print-built
-slice-aggregate-print-built c = search needs
-
-slice-aggregate-print-built-2 : tie.Need-slice-aggregate-print-built-2
-slice-aggregate-print-built-2 c = search needs
-
-slice-aggregate-print-built-3 : tie.Need-slice-aggregate-print-built-3
-slice-aggregate-print-built-3 c = search needs
-
-slice-aggregate-print-built-4 : tie.Need-slice-aggregate-print-built-4
-slice-aggregate-print-built-4 c = search needs
-
-slice-aggregate-print-built-5 : tie.Need-slice-aggregate-print-built-5
-slice-aggregate-print-built-5 c = search needs
-
-slice-aggregate-print-built-6 : tie.Need-slice-aggregate-print-built-6
-slice-aggregate-print-built-6 c = search needs
 
 print-built-requires : tie.Need-print-built-requires
 print-built-requires c κs =
@@ -98,9 +47,6 @@ print-built-requires c κs =
       entry b .pre,
     )
 
-same-length-2 : tie.Need-same-length-2
-same-length-2 c = search needs
-
 returns-2 : tie.Need-returns-2
 returns-2 c =
     let p = c .before .before in
@@ -113,24 +59,24 @@ pub print-spec : {M : Type 1} → statement M
 print-spec =
     tie.close
     (tie.spec
-    slice-aggregate-put-refusal
-    put-refusal-requires
-    same-length
+    (λ c. search needs)
+    (λ c κs. search needs)
+    (λ c. search needs)
     returns
-    slice-aggregate-build
-    slice-aggregate-build-2
-    slice-aggregate-build-3
-    slice-aggregate-build-4
-    slice-aggregate-build-5
-    slice-aggregate-build-6
-    slice-aggregate-build-7
-    build-requires
-    slice-aggregate-print-built
-    slice-aggregate-print-built-2
-    slice-aggregate-print-built-3
-    slice-aggregate-print-built-4
-    slice-aggregate-print-built-5
-    slice-aggregate-print-built-6
+    (λ c. search needs)
+    (λ c. search needs)
+    (λ c. search needs)
+    (λ c. search needs)
+    (λ c. search needs)
+    (λ c. search needs)
+    (λ c. search needs)
+    (λ c κs. search needs)
+    (λ c. search needs)
+    (λ c. search needs)
+    (λ c. search needs)
+    (λ c. search needs)
+    (λ c. search needs)
+    (λ c. search needs)
     print-built-requires
-    same-length-2
+    (λ c. search needs)
     returns-2)

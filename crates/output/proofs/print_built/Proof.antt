@@ -37,21 +37,6 @@ judged c answer e =
     subst (λ (x : PackAnswer). Judged (a .pack .now) x (a .edge-at .now) (a .edge-n .now) (a .id .now) (a .score .now) (a .byte .now) (a .to .now)) e
     (entry c .pre .0)
 
-enum-known-answer : tie.Need-enum-known-answer
-enum-known-answer c = search needs
-
-slice-aggregate-put-refusal : tie.Need-slice-aggregate-put-refusal
-slice-aggregate-put-refusal c = search needs
-
-fault-of-requires : tie.Need-fault-of-requires
-fault-of-requires c κs = search needs
-
-put-refusal-requires : tie.Need-put-refusal-requires
-put-refusal-requires c κs = search needs
-
-enum-known-answer-2 : tie.Need-enum-known-answer-2
-enum-known-answer-2 c = search needs
-
 print-segmented-requires : tie.Need-print-segmented-requires
 print-segmented-requires c κs =
     let t = c .before .before in
@@ -59,9 +44,6 @@ print-segmented-requires c κs =
     let a = entry k .args in
     let cut = unigram-cuttable (a .pack .now) (a .edge-at .now) (a .edge-n .now) (a .id .now) (a .score .now) (a .byte .now) (a .to .now) (good (known k)) _ _ _ (judged k _ (t .answer2 .given .1)) in
     (cut .0, cut .1, entry k .pre .1)
-
-enum-known-answer-3 : tie.Need-enum-known-answer-3
-enum-known-answer-3 c = search needs
 
 prefix-of-requires : tie.Need-prefix-of-requires
 prefix-of-requires c κs =
@@ -77,9 +59,6 @@ print-encoded-requires c κs =
     let a = entry k .args in
     (wordpiece-cuttable (a .pack .now) (a .edge-at .now) (a .edge-n .now) (a .id .now) (a .score .now) (a .byte .now) (a .to .now) (good (known k)) _ _ _ _ _ (judged k _ (t .answer3 .given .1)), entry k .pre .1)
 
-same-length : tie.Need-same-length
-same-length c = search needs
-
 returns : tie.Need-returns
 unfolding ascii
 returns c =
@@ -93,9 +72,6 @@ returns c =
     ∙ judged-refused (a .pack .now) (a .edge-at .now) (a .edge-n .now) (a .id .now) (a .score .now) (a .byte .now) (a .to .now) (good (known k)) (a .input .now) (judged k _ (t .answer .given .1)))
     (p .put-refusal .ensures .0)
 
-same-length-2 : tie.Need-same-length-2
-same-length-2 c = search needs
-
 returns-2 : tie.Need-returns-2
 returns-2 c =
     let p = c .before .before in
@@ -103,9 +79,6 @@ returns-2 c =
     let k = t .before .before in
     let a = entry k .args in
     put-as (judged-unigram (a .pack .now) (a .edge-at .now) (a .edge-n .now) (a .id .now) (a .score .now) (a .byte .now) (a .to .now) (good (known k)) _ _ _ (judged k _ (t .answer2 .given .1)) (a .input .now)) (p .print-segmented .ensures)
-
-same-length-3 : tie.Need-same-length-3
-same-length-3 c = search needs
 
 returns-3 : tie.Need-returns-3
 returns-3 c =
@@ -120,18 +93,18 @@ pub print-built-spec : {M : Type 1} → statement M
 print-built-spec =
     tie.close
     (tie.spec
-    enum-known-answer
-    slice-aggregate-put-refusal
-    fault-of-requires
-    put-refusal-requires
-    enum-known-answer-2
+    (λ c. search needs)
+    (λ c. search needs)
+    (λ c κs. search needs)
+    (λ c κs. search needs)
+    (λ c. search needs)
     print-segmented-requires
-    enum-known-answer-3
+    (λ c. search needs)
     prefix-of-requires
     print-encoded-requires
-    same-length
+    (λ c. search needs)
     returns
-    same-length-2
+    (λ c. search needs)
     returns-2
-    same-length-3
+    (λ c. search needs)
     returns-3)

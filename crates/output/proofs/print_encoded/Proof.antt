@@ -23,15 +23,6 @@ entry c = let k = c .before .before .before .before in k .before .before .before
 abbrev prints : tie.Start → List ℕ → List ℕ
 prints s = let a = s .args in encodedLine (partsOf (take (a .nodes) (a .edge-at .now)) (take (a .nodes) (a .edge-n .now)) (take (a .nodes) (a .id .now)) (take (a .nodes - 1) (a .byte .now)) (take (a .nodes - 1) (a .to .now))) (a .unknown) (a .max-chars) (a .prefix .now)
 
-slice-aggregate-put-refusal : tie.Need-slice-aggregate-put-refusal
-slice-aggregate-put-refusal c = search needs
-
-put-refusal-requires : tie.Need-put-refusal-requires
-put-refusal-requires c κs = search needs
-
-same-length : tie.Need-same-length
-same-length c = search needs
-
 returns : tie.Need-returns
 unfolding ascii
 returns c =
@@ -39,9 +30,6 @@ returns c =
     let t = p .before .before .before in
     let s = entry (t .before) in
     put-as (lines-many (prints s) (s .args .input .now) (t .if1 .taken)) (p .put-refusal .ensures .0)
-
-sub-edges : tie.Need-sub-edges
-sub-edges c = search needs
 
 slice-aggregate-put-encoded-lines : tie.Need-slice-aggregate-put-encoded-lines
 slice-aggregate-put-encoded-lines c = let s = entry (c .before .before) in cut-long (s .args .nodes) (s .args .edge-at .now) (s .pre .0 .starts)
@@ -58,12 +46,6 @@ slice-aggregate-put-encoded-lines-4 c = let s = entry (c .before .before .before
 slice-aggregate-put-encoded-lines-5 : tie.Need-slice-aggregate-put-encoded-lines-5
 slice-aggregate-put-encoded-lines-5 c = let s = entry (c .before .before .before .before .before .before) in cut-long (s .args .nodes - 1) (s .args .to .now) (s .pre .0 .targets)
 
-put-encoded-lines-requires : tie.Need-put-encoded-lines-requires
-put-encoded-lines-requires c κs = search needs
-
-same-length-2 : tie.Need-same-length-2
-same-length-2 c = search needs
-
 returns-2 : tie.Need-returns-2
 returns-2 c =
     let p = c .before .before in
@@ -75,16 +57,16 @@ pub print-encoded-spec : {M : Type 1} → statement M
 print-encoded-spec =
     tie.close
     (tie.spec
-    slice-aggregate-put-refusal
-    put-refusal-requires
-    same-length
+    (λ c. search needs)
+    (λ c κs. search needs)
+    (λ c. search needs)
     returns
-    sub-edges
+    (λ c. search needs)
     slice-aggregate-put-encoded-lines
     slice-aggregate-put-encoded-lines-2
     slice-aggregate-put-encoded-lines-3
     slice-aggregate-put-encoded-lines-4
     slice-aggregate-put-encoded-lines-5
-    put-encoded-lines-requires
-    same-length-2
+    (λ c κs. search needs)
+    (λ c. search needs)
     returns-2)

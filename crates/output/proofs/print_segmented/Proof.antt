@@ -23,15 +23,6 @@ entry c = let k = c .before .before .before .before in k .before .before .before
 abbrev prints : tie.Start → List ℕ → List ℕ
 prints s = let a = s .args in segmentedLine (modelOf (take (a .nodes) (a .edge-at .now)) (take (a .nodes) (a .edge-n .now)) (take (a .nodes) (a .id .now)) (take (a .nodes) (a .score .now)) (take (a .nodes - 1) (a .byte .now)) (take (a .nodes - 1) (a .to .now)) (pieceWith (a .unknown) (a .unknown-score)))
 
-slice-aggregate-put-refusal : tie.Need-slice-aggregate-put-refusal
-slice-aggregate-put-refusal c = search needs
-
-put-refusal-requires : tie.Need-put-refusal-requires
-put-refusal-requires c κs = search needs
-
-same-length : tie.Need-same-length
-same-length c = search needs
-
 returns : tie.Need-returns
 unfolding ascii
 returns c =
@@ -39,9 +30,6 @@ returns c =
     let t = p .before .before .before in
     let s = entry (t .before) in
     put-as (lines-many (prints s) (s .args .input .now) (t .if1 .taken)) (p .put-refusal .ensures .0)
-
-sub-edges : tie.Need-sub-edges
-sub-edges c = search needs
 
 slice-aggregate-put-segmented-lines : tie.Need-slice-aggregate-put-segmented-lines
 slice-aggregate-put-segmented-lines c = let s = entry (c .before .before) in cut-long (s .args .nodes) (s .args .edge-at .now) (s .pre .0 .starts)
@@ -61,12 +49,6 @@ slice-aggregate-put-segmented-lines-5 c = let s = entry (c .before .before .befo
 slice-aggregate-put-segmented-lines-6 : tie.Need-slice-aggregate-put-segmented-lines-6
 slice-aggregate-put-segmented-lines-6 c = let s = entry (c .before .before .before .before .before .before .before) in cut-long (s .args .nodes - 1) (s .args .to .now) (s .pre .0 .targets)
 
-put-segmented-lines-requires : tie.Need-put-segmented-lines-requires
-put-segmented-lines-requires c κs = search needs
-
-same-length-2 : tie.Need-same-length-2
-same-length-2 c = search needs
-
 returns-2 : tie.Need-returns-2
 returns-2 c =
     let p = c .before .before in
@@ -78,17 +60,17 @@ pub print-segmented-spec : {M : Type 1} → statement M
 print-segmented-spec =
     tie.close
     (tie.spec
-    slice-aggregate-put-refusal
-    put-refusal-requires
-    same-length
+    (λ c. search needs)
+    (λ c κs. search needs)
+    (λ c. search needs)
     returns
-    sub-edges
+    (λ c. search needs)
     slice-aggregate-put-segmented-lines
     slice-aggregate-put-segmented-lines-2
     slice-aggregate-put-segmented-lines-3
     slice-aggregate-put-segmented-lines-4
     slice-aggregate-put-segmented-lines-5
     slice-aggregate-put-segmented-lines-6
-    put-segmented-lines-requires
-    same-length-2
+    (λ c κs. search needs)
+    (λ c. search needs)
     returns-2)

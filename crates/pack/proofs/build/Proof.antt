@@ -3,9 +3,9 @@ use mathlib.Core.Path.{subst}
 use mathlib.Core.List.{map}
 use borrow.Author.Needs.{needs}
 use Rattle.doubles.specs.Units.{units}
-use Rattle.build.specs.Memory.{Memory, memory}
+use Rattle.build.specs.Memory.{Memory, memory, withScores}
 use Rattle.pack.specs.Reading.{FoundIs}
-use Rattle.pack.proofs.Promised.{built-bad}
+use Rattle.pack.proofs.Promised.{pack-bad}
 use Rattle.pack.proofs.build.Statement.{statement}
 use Rattle.pack.proofs.build.Tie as tie
 
@@ -27,16 +27,10 @@ bound c =
     k₂ .before .before
 
 abbrev lent : tie.Start → Memory
-lent s = let a = s .args in memory (a .edge-at .now) (a .edge-n .now) (a .node-id .now) (a .byte .now) (a .to .now) (a .work .now)
-
-judge-requires : tie.Need-judge-requires
-judge-requires c κs = search needs
-
-enum-known-found : tie.Need-enum-known-found
-enum-known-found c = search needs
-
-enum-known-found-2 : tie.Need-enum-known-found-2
-enum-known-found-2 c = search needs
+lent s =
+    let a = s .args in
+    withScores (memory (a .edge-at .now) (a .edge-n .now) (a .node-id .now) (a .byte .now) (a .to .now) (a .work .now))
+    (map units (a .node-score .now))
 
 build-fine-requires : tie.Need-build-fine-requires
 build-fine-requires c κs =
@@ -49,46 +43,22 @@ returns c =
     let b = c .before in
     let j = b .before .before in
     let s = entry j in
-    built-bad (lent s) (map units (s .args .node-score .now)) (subst (FoundIs (s .args .bytes .now)) (b .found .given .1) (j .judge .ensures))
-
-same-length : tie.Need-same-length
-same-length c = search needs
-
-same-length-2 : tie.Need-same-length-2
-same-length-2 c = search needs
-
-same-length-3 : tie.Need-same-length-3
-same-length-3 c = search needs
-
-same-length-4 : tie.Need-same-length-4
-same-length-4 c = search needs
-
-same-length-5 : tie.Need-same-length-5
-same-length-5 c = search needs
-
-same-length-6 : tie.Need-same-length-6
-same-length-6 c = search needs
-
-same-length-7 : tie.Need-same-length-7
-same-length-7 c = search needs
-
-returns-2 : tie.Need-returns-2
-returns-2 c = search needs
+    pack-bad (lent s) (subst (FoundIs (s .args .bytes .now)) (b .found .given .1) (j .judge .ensures))
 
 pub build-spec : {M : Type 1} → statement M
 build-spec =
     tie.close
     (tie.spec
-    judge-requires
-    enum-known-found
-    enum-known-found-2
+    (λ c κs. search needs)
+    (λ c. search needs)
+    (λ c. search needs)
     build-fine-requires
     returns
-    same-length
-    same-length-2
-    same-length-3
-    same-length-4
-    same-length-5
-    same-length-6
-    same-length-7
-    returns-2)
+    (λ c. search needs)
+    (λ c. search needs)
+    (λ c. search needs)
+    (λ c. search needs)
+    (λ c. search needs)
+    (λ c. search needs)
+    (λ c. search needs)
+    (λ c. search needs))

@@ -13,22 +13,10 @@ use Rattle.replay.proofs.read_part.Tie as tie
 longer : (xs ys : List ℕ) {n : ℕ} → n ≤ length xs → Counts n (xs ++ ys)
 longer xs ys {n = n} h = (omega (arith, length-append xs ys), omega (arith, length-append xs ys, length-take n (xs ++ ys)))
 
-returns : tie.Need-returns
-returns c = search needs
-
-slice-relend-prefix-read-full : tie.Need-slice-relend-prefix-read-full
-slice-relend-prefix-read-full c = search needs
-
 slice-aggregate-read-full : tie.Need-slice-aggregate-read-full
 slice-aggregate-read-full c =
     let s = c .before .before .before in
     omega (arith, length-take (s .args .n) (s .args .part .now), c .before .if1 .left)
-
-read-full-requires : tie.Need-read-full-requires
-read-full-requires c κs = search needs
-
-same-length : tie.Need-same-length
-same-length c = search needs
 
 returns-2 : tie.Need-returns-2
 returns-2 c =
@@ -40,9 +28,9 @@ pub read-part-spec : {M : Type 1} → statement M
 read-part-spec =
     tie.close
     (tie.spec
-    returns
-    slice-relend-prefix-read-full
+    (λ c. search needs)
+    (λ c. search needs)
     slice-aggregate-read-full
-    read-full-requires
-    same-length
+    (λ c κs. search needs)
+    (λ c. search needs)
     returns-2)

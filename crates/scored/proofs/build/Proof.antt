@@ -7,11 +7,13 @@ use mathlib.Core.Option.{none}
 use borrow.Author.Needs.{needs}
 use Rattle.doubles.specs.Units.{units}
 use Rattle.rows.specs.declared.Kind.the-variants.{Unigram}
-use Rattle.rows.specs.Columns.{Columns, columnsFault}
+use Rattle.rows.specs.Columns.{Columns, rowsOf, columnsFault}
 use Rattle.rows.specs.Answers.{columns, reasonIn}
-use Rattle.build.specs.Memory.{Memory, memory}
+use Rattle.build.specs.Memory.{Memory, memory, withScores}
 use Rattle.rows.proofs.ListFaults.{all-scored}
-use Rattle.scored.proofs.Builds.{built-bad}
+use Rattle.rows.proofs.NeverRoom.{columns-not-room}
+use Rattle.build.proofs.Promises.{built-bad}
+use Rattle.scored.specs.Build.{told}
 use Rattle.scored.proofs.build.Statement.{statement}
 use Rattle.scored.proofs.build.Tie as tie
 
@@ -23,8 +25,8 @@ tables c = let k = c .before .before .before .before in k .before .before .befor
 abbrev entry : tie.After-judge → tie.Start
 entry c = let k = tables c .before .before .before in k .before .before .before
 
-abbrev told : tie.After-build-rows → tie.After-enum-told
-told c = let k = c .before .before .before .before in k .before .before .before .before
+abbrev asked : tie.After-build-rows → tie.After-enum-told
+asked c = let k = c .before .before .before .before in k .before .before .before .before
 
 abbrev score-back : tie.After-slice-known14 → tie.After-slice-known11
 score-back c = let k = c .before .before .before in k .before .before .before
@@ -40,7 +42,10 @@ abbrev lists : tie.Start → Columns
 lists e = kinds e (e .args .scored .now)
 
 abbrev lent : tie.Start → Memory
-lent e = let a = e .args in memory (a .edge-at .now) (a .edge-n .now) (a .node-id .now) (a .byte .now) (a .to .now) (a .work .now)
+lent e =
+    let a = e .args in
+    withScores (memory (a .edge-at .now) (a .edge-n .now) (a .node-id .now) (a .byte .now) (a .to .now) (a .work .now))
+    (map units (a .node-score .now))
 
 -- what was found
 found-is : (j : tie.After-judge) → columnsFault Unigram (entry j .args .tab .now) (lists (entry j)) ≡ reasonIn (j .judge .result)
@@ -65,11 +70,13 @@ build-rows-requires c κs =
     subst (λ (k : List Bool). columnsFault Unigram (e .args .tab .now) (kinds e k) ≡ none) (all-scored (e .args .tab .now) (lists e) (fine t)) (fine t)
 
 returns : tie.Need-returns
+unfolding told
 returns c =
     let bound = c .before in
     let j = bound .before .before in
     let e = entry j in
-    built-bad (e .args .tab .now) (lists e) (lent e) (map units (e .args .node-score .now)) (found-is j ∙ ap reasonIn (bound .found .given .1))
+    let is = found-is j ∙ ap reasonIn (bound .found .given .1) in
+    built-bad Unigram (e .args .tab .now) (rowsOf (lists e)) _ (lent e) is (columns-not-room Unigram (e .args .tab .now) (lists e) _ is)
 
 same-length : tie.Need-same-length
 same-length c = search needs
@@ -95,7 +102,7 @@ same-length-7 c = search needs
 returns-2 : tie.Need-returns-2
 returns-2 c =
     let b = called c in
-    let t = told b in
+    let t = asked b in
     let e = entry (t .before .before) in
     let a = e .args in
     rw (all-scored (a .tab .now) (lists e) (fine t)) (b .build-rows .ensures)

@@ -51,10 +51,11 @@ use Rattle.rows.specs.Answers.{reasonIn}
 use Rattle.rows.proofs.Row as T
 use Rattle.rows.proofs.columns.RowsAnswer as F
 use Rattle.rows.proofs.columns.RowsAnswer.Laws as F′
-use Rattle.build.specs.Memory.{anyBelow, memory, Memory as Columns}
+use Rattle.rows.specs.Columns.{rowsOf}
+use Rattle.build.specs.Memory.{anyBelow, memory, withScores, Memory as Columns}
 use Rattle.scored.specs.declared.BuildAnswer.{BuildAnswer}
-use Rattle.sliced.specs.BuildRows.{RowPlaces, rowPlaces, rowsJudged, RowsBuilt}
-use Rattle.sliced.specs.Copied.{putRows, Places, toCopy, firstPlaces, Ready, CopiedBuilt}
+use Rattle.sliced.specs.BuildRows.{RowPlaces, rowPlaces, rowsJudged, PlacesBuilt, RowsBuilt}
+use Rattle.sliced.specs.Copied.{putRows, Places, toCopy, firstPlaces, Ready}
 use Rattle.sliced.proofs.RowCells.{rows-ty}
 use Rattle.sliced.proofs.Groups.{fseps, splits, joins}
 use Rattle.sliced.proofs.Copies.{copy-holds, ready, rows-built}
@@ -316,7 +317,7 @@ module _ {M : Type 1} (𝓤 : URA M) (H : Heap 𝓤) (A : Atoms 𝓤) (W : Given
     lent = rowPlaces (z₃ .now) (z₄ .now) (z₅ .now)
 
     abbrev before : Columns
-    before = memory (z₆ .now) (z₇ .now) (z₈ .now) (z₁₀ .now) (z₁₁ .now) (z₁₂ .now)
+    before = withScores (memory (z₆ .now) (z₇ .now) (z₈ .now) (z₁₀ .now) (z₁₁ .now) (z₁₂ .now)) (map units (z₉ .now))
 
     abbrev bound : walkOf 𝓤 H A build-rows.ended stayed (build-rows.clauses 𝓤 H A mem run) .Ghost
     bound = (((κ₀, (κ₁, (κ₂, (κ₃, (κ₄, (κ₅, (κ₆, (κ₇, (κ₈, (κ₉, (κ₁₀, (κ₁₁, tt)))))))))))), (q₀, (q₁, (q₂, (q₃, (q₄, (q₅, (q₆, (q₇, (q₈, (q₉, (q₁₀, (q₁₁, tt)))))))))))), tt, (x, (y, (z₃, (z₄, (z₅, (z₆, (z₇, (z₈, (z₉, (z₁₀, (z₁₁, (z₁₂, tt)))))))))))), (v₁ ∷ [], (v₂ ∷ [], (v₃ ∷ [], (v₄ ∷ [], (v₅ ∷ [], (v₆ ∷ [], (v₇ ∷ [], (v₈ ∷ [], (v₉ ∷ [], (v₁₀ ∷ [], (v₁₁ ∷ [], (v₁₂ ∷ [], tt))))))))))))), tt)
@@ -457,10 +458,9 @@ module _ {M : Type 1} (𝓤 : URA M) (H : Heap 𝓤) (A : Atoms 𝓤) (W : Given
     places-of l = rowPlaces (l .1 .1 .1 .0) (l .1 .1 .1 .1 .0) (l .1 .1 .1 .1 .1 .0)
 
     abbrev columns-of : Lists₁₃ → Columns
-    columns-of l = memory (l .1 .1 .1 .1 .1 .1 .0) (l .1 .1 .1 .1 .1 .1 .1 .0) (l .1 .1 .1 .1 .1 .1 .1 .1 .0) (l .1 .1 .1 .1 .1 .1 .1 .1 .1 .1 .0) (l .1 .1 .1 .1 .1 .1 .1 .1 .1 .1 .1 .0) (l .1 .1 .1 .1 .1 .1 .1 .1 .1 .1 .1 .1 .0)
-
-    abbrev scores-of : Lists₁₃ → List Double
-    scores-of l = map units (l .1 .1 .1 .1 .1 .1 .1 .1 .1 .0)
+    columns-of l =
+        withScores (memory (l .1 .1 .1 .1 .1 .1 .0) (l .1 .1 .1 .1 .1 .1 .1 .0) (l .1 .1 .1 .1 .1 .1 .1 .1 .0) (l .1 .1 .1 .1 .1 .1 .1 .1 .1 .1 .0) (l .1 .1 .1 .1 .1 .1 .1 .1 .1 .1 .1 .0) (l .1 .1 .1 .1 .1 .1 .1 .1 .1 .1 .1 .1 .0))
+        (map units (l .1 .1 .1 .1 .1 .1 .1 .1 .1 .0))
 
     -- what is said of the last lists
     abbrev Lasts : Lists₁₃ → List Fml
@@ -495,7 +495,7 @@ module _ {M : Type 1} (𝓤 : URA M) (H : Heap 𝓤) (A : Atoms 𝓤) (W : Given
     at₅ ws = record { ptr = z₅ .ptr; name = z₅ .name; now = ws }
 
     exits : (a : BuildAnswer) (u : Val) (l : Lists₁₃) → Is B.the-row a (u ∷ []) → Longs l
-        → RowsBuilt tab rs lent before (map units (z₉ .now)) a (places-of l) (columns-of l) (scores-of l)
+        → RowsBuilt tab rs lent before a (places-of l) (columns-of l)
         → ent 𝓤 (⋆ 𝓤 H A (‵ Keys ∷ ‵ Tokens ∷ ‵ (fseps OtherKeys) ∷ ‵ Views ∷ ‵ (fseps (Lasts l)) ∷ [])) (Post u)
     exits a u l is long e =
         qed W (‵ Keys ∷ ‵ Tokens ∷ ‵ (fseps OtherKeys) ∷ ‵ Views ∷ ‵ (fseps (Lasts l)) ∷ []) ∵
@@ -522,7 +522,7 @@ module _ {M : Type 1} (𝓤 : URA M) (H : Heap 𝓤) (A : Atoms 𝓤) (W : Given
           owned ! usize (Is usize) (uint-makes 𝓤 H A W w64) n _ (refl, fits) $ fjoin ! $ owned ! F.the-row (Is F.the-row) (EL.makes F.the-type F′.the-plain 𝓤 H A) found _ is $ fjoin ! $ done !
 
       abbrev Said : BuildAnswer → Lists₁₃ → Type 0
-      Said a l = CopiedBuilt (reasonIn found) n tab (firstPlaces n us vs ws) (rowPlaces us vs ws) before (map units (z₉ .now)) a (places-of l) (columns-of l) (scores-of l)
+      Said a l = PlacesBuilt (reasonIn found) n tab (rowsOf (firstPlaces n us vs ws)) (rowPlaces us vs ws) before a (places-of l) (columns-of l)
 
       abbrev Got : Type 0
       Got = BuildAnswer × Lists₁₃
@@ -595,7 +595,7 @@ module _ {M : Type 1} (𝓤 : URA M) (H : Heap 𝓤) (A : Atoms 𝓤) (W : Given
 
         -- the end: every local is given up
         leave : (a : BuildAnswer) (u : Val) (l : Lists₁₃) → Is B.the-row a (u ∷ []) → Longs l
-            → RowsBuilt tab rs lent before (map units (z₉ .now)) a (places-of l) (columns-of l) (scores-of l)
+            → RowsBuilt tab rs lent before a (places-of l) (columns-of l)
             → ent 𝓤 (⋆ 𝓤 H A (Done u l ++ (‵ Dies ∷ []))) (Wp 𝓤 H C Λ En body.t-36 (atReturn 𝓤 H En Post))
         leave a u l is long e =
             qed W (Done u l ++ (‵ (fdies B′.mir l₀) ∷ ‵ (fdies τ₁ l₁) ∷ ‵ (fdies τ₂ l₂) ∷ ‵ (fdies τ₃ l₃) ∷ ‵ (fdies τ₄ l₄) ∷ ‵ (fdies τ₅ l₅) ∷ ‵ (fdies τ₆ l₆) ∷ ‵ (fdies τ₇ l₇) ∷ ‵ (fdies τ₈ l₈)
@@ -628,9 +628,9 @@ module _ {M : Type 1} (𝓤 : URA M) (H : Heap 𝓤) (A : Atoms 𝓤) (W : Given
             all-ready = subst (λ (j : ℕ). Ready (reasonIn found) j tab us vs ws) long-rs (ready tab rs (z₃ .now) (z₄ .now) us vs (z₅ .now) ws (reasonIn found) k judged counted-rs put)
 
             met : (z : Got found w us vs ws long) → Said found w us vs ws long (z .0) (z .1)
-                → RowsBuilt tab rs lent before (map units (z₉ .now)) (z .0) (places-of (z .1)) (columns-of (z .1)) (scores-of (z .1))
-            met z e = rows-built tab rs (z₃ .now) (z₄ .now) us vs (z₅ .now) ws (reasonIn found) k judged counted-rs put before (map units (z₉ .now))
-                (subst (λ (j : ℕ). CopiedBuilt (reasonIn found) j tab (firstPlaces j us vs ws) (rowPlaces us vs ws) before (map units (z₉ .now)) (z .0) (places-of (z .1)) (columns-of (z .1)) (scores-of (z .1))) (sym long-rs) e)
+                → RowsBuilt tab rs lent before (z .0) (places-of (z .1)) (columns-of (z .1))
+            met z e = rows-built tab rs (z₃ .now) (z₄ .now) us vs (z₅ .now) ws (reasonIn found) k judged counted-rs put before
+                (subst (λ (j : ℕ). PlacesBuilt (reasonIn found) j tab (rowsOf (firstPlaces j us vs ws)) (rowPlaces us vs ws) before (z .0) (places-of (z .1)) (columns-of (z .1))) (sym long-rs) e)
 
             abbrev Full : List (Item 𝓤)
             Full =

@@ -6,13 +6,17 @@ use Prim.Native.Nat.{ℕ}
 use native.Mathlib.Omega.{arith}
 use borrow.Author.Needs.{needs}
 use Rattle.rows.specs.declared.Kind.the-variants.{WordPiece}
-use Rattle.rows.specs.Columns.{Columns, columnsFault}
+use Rattle.rows.specs.Columns.{Columns, rowsOf, columnsFault}
 use Rattle.rows.specs.Answers.{columns, reasonIn}
+use Rattle.rows.proofs.NeverRoom.{columns-not-room}
 use Rattle.build.specs.Memory.{Memory, memory}
 use Rattle.build.specs.Core.{RoomFor}
 use Rattle.build.proofs.Rooms.{room-is}
 use Rattle.build.proofs.Judging.{judged}
-use Rattle.wordpiece.proofs.Builds.{built-bad, nodes-fit, lists-full, lists-built}
+use Rattle.build.proofs.Outcomes.{core-room}
+use Rattle.build.proofs.Promises.{built-bad}
+use Rattle.wordpiece.specs.Build as promise
+use Rattle.wordpiece.proofs.Builds.{lists-full, lists-built}
 use Rattle.wordpiece.proofs.from_rows.Statement.{statement}
 use Rattle.wordpiece.proofs.from_rows.Tie as tie
 
@@ -68,10 +72,13 @@ enum-known-found : tie.Need-enum-known-found
 enum-known-found c = search needs
 
 returns : tie.Need-returns
+unfolding promise.told
 returns c =
     let bound = c .before in
     let j = bound .before .before in
-    built-bad (entry j .args .tab .now) (lists (entry j)) (lent (entry j)) (found-is j ∙ ap reasonIn (bound .found .given .1))
+    let e = entry j in
+    let is = found-is j ∙ ap reasonIn (bound .found .given .1) in
+    built-bad WordPiece (e .args .tab .now) (rowsOf (lists e)) _ (lent e) is (columns-not-room WordPiece (e .args .tab .now) (lists e) _ is)
 
 enum-told : tie.Need-enum-told
 enum-told c = search needs
@@ -97,7 +104,8 @@ cast-t46 : tie.Need-cast-t46
 cast-t46 c =
     let bound = c .before in
     let b = called (bound .before .before) in
-    omega (arith, nodes-fit (b .build .ensures) (bound .built .given .1) (measured b .room .ensures))
+    let r = measured b in
+    omega (arith, core-room (b .build .ensures) (bound .built .given .1), r .room .ensures, room-is (lent (begun r)) .small)
 
 same-length : tie.Need-same-length
 same-length c = search needs

@@ -8,24 +8,6 @@ use borrow.Author.Needs.{needs}
 use Rattle.exports.proofs.builds.built_number.Statement.{statement}
 use Rattle.exports.proofs.builds.built_number.Tie as tie
 
-enum-known-a : tie.Need-enum-known-a
-enum-known-a c = search needs
-
-put-score-requires : tie.Need-put-score-requires
-put-score-requires c κs = search needs
-
-cast-result : tie.Need-cast-result
-cast-result c = search needs
-
-enum-known-a-2 : tie.Need-enum-known-a-2
-enum-known-a-2 c = search needs
-
-reason-number-requires : tie.Need-reason-number-requires
-reason-number-requires c κs = search needs
-
-same-length : tie.Need-same-length
-same-length c = search needs
-
 returns : tie.Need-returns
 unfolding told
 returns c =
@@ -49,11 +31,11 @@ pub built-number-spec : {M : Type 1} → statement M
 built-number-spec =
     tie.close
     (tie.spec
-    enum-known-a
-    put-score-requires
-    cast-result
-    enum-known-a-2
-    reason-number-requires
-    same-length
+    (λ c. search needs)
+    (λ c κs. search needs)
+    (λ c. search needs)
+    (λ c. search needs)
+    (λ c κs. search needs)
+    (λ c. search needs)
     returns
     returns-2)

@@ -19,12 +19,6 @@ none-there : (xs : List Float) (x : Float) → length xs ≤ 0 → map units xs 
 none-there [] x h = refl
 none-there (y ∷ ys) x h = absurd (omega arith)
 
-slice-write-places : tie.Need-slice-write-places
-slice-write-places c = search needs
-
-same-length : tie.Need-same-length
-same-length c = search needs
-
 returns : tie.Need-returns
 returns c = let a = c .before .args in stored (a .places .now) (a .x) (c .if1 .taken)
 
@@ -32,4 +26,4 @@ returns-2 : tie.Need-returns-2
 returns-2 c = let a = c .before .args in none-there (a .places .now) (a .x) (c .if1 .left)
 
 pub put-score-spec : {M : Type 1} → statement M
-put-score-spec = tie.close (tie.spec slice-write-places same-length returns returns-2)
+put-score-spec = tie.close (tie.spec (λ c. search needs) (λ c. search needs) returns returns-2)

@@ -8,30 +8,6 @@ use borrow.Author.Needs.{needs}
 use Rattle.exports.proofs.packs.pack_number.Statement.{statement}
 use Rattle.exports.proofs.packs.pack_number.Tie as tie
 
-enum-known-a : tie.Need-enum-known-a
-enum-known-a c = search needs
-
-put-score-requires : tie.Need-put-score-requires
-put-score-requires c κs = search needs
-
-cast-result : tie.Need-cast-result
-cast-result c = search needs
-
-enum-known-a-2 : tie.Need-enum-known-a-2
-enum-known-a-2 c = search needs
-
-cast-result-2 : tie.Need-cast-result-2
-cast-result-2 c = search needs
-
-enum-known-a-3 : tie.Need-enum-known-a-3
-enum-known-a-3 c = search needs
-
-reason-number-requires : tie.Need-reason-number-requires
-reason-number-requires c κs = search needs
-
-same-length : tie.Need-same-length
-same-length c = search needs
-
 returns : tie.Need-returns
 unfolding told
 returns c =
@@ -64,14 +40,14 @@ pub pack-number-spec : {M : Type 1} → statement M
 pack-number-spec =
     tie.close
     (tie.spec
-    enum-known-a
-    put-score-requires
-    cast-result
-    enum-known-a-2
-    cast-result-2
-    enum-known-a-3
-    reason-number-requires
-    same-length
+    (λ c. search needs)
+    (λ c κs. search needs)
+    (λ c. search needs)
+    (λ c. search needs)
+    (λ c. search needs)
+    (λ c. search needs)
+    (λ c κs. search needs)
+    (λ c. search needs)
     returns
     returns-2
     returns-3)

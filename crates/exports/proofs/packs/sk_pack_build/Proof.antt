@@ -1,76 +1,37 @@
 -- `exports::packs::sk_pack_build` meets its contract: what `pack::build` promises, its answer as a number and a score. Assumes nothing.
-use mathlib.Core.Path.{_≡_, sym, ap, _∙_}
-use mathlib.Core.List.{map}
-use Rattle.doubles.specs.Units.{units}
-use Rattle.pack.specs.Build.{Told}
-use Rattle.exports.specs.Flat.{packNumber, packScore}
 use borrow.Author.Needs.{needs}
 use Rattle.exports.proofs.packs.sk_pack_build.Statement.{statement}
 use Rattle.exports.proofs.packs.sk_pack_build.Tie as tie
 
-build-requires : tie.Need-build-requires
-build-requires c κs = search needs
-
-pack-number-requires : tie.Need-pack-number-requires
-pack-number-requires c κs = search needs
-
-same-length : tie.Need-same-length
-same-length c = search needs
-
-same-length-2 : tie.Need-same-length-2
-same-length-2 c = search needs
-
-same-length-3 : tie.Need-same-length-3
-same-length-3 c = search needs
-
-same-length-4 : tie.Need-same-length-4
-same-length-4 c = search needs
-
-same-length-5 : tie.Need-same-length-5
-same-length-5 c = search needs
-
-same-length-6 : tie.Need-same-length-6
-same-length-6 c = search needs
-
-same-length-7 : tie.Need-same-length-7
-same-length-7 c = search needs
-
-same-length-8 : tie.Need-same-length-8
-same-length-8 c = search needs
-
--- ---- the ways back: from where all that was lent is home to the call, and to the start
+-- the way back to the call, from where all that was lent is home
 
 abbrev called : tie.After-pack-number → tie.After-build
 called c =
     let k = c .before .before .before .before .before .before .before .before in
     k .before .before .before .before .before .before .before .before
 
-abbrev entry : tie.After-build → tie.Start
-entry c = let k = c .before .before .before .before .before .before .before .before in k .before .before .before .before .before .before .before .before .before
-
 returns : tie.Need-returns
 returns c =
     let n = c .before .before in
-    let done = called n .build .ensures in
     record {
-      answered = n .pack-number .ensures .0 ∙ ap packNumber (done .answered);
-      unknown = n .pack-number .ensures .1 ∙ ap (λ (t : Told). packScore t (map units (entry (called n) .args .unknown-score .now))) (done .answered);
-      columns = done .columns;
-      scores = done .scores;
+      said = called n .build .result;
+      promised = called n .build .ensures;
+      answered = n .pack-number .ensures .0;
+      unknown = n .pack-number .ensures .1;
     }
 
 pub sk-pack-build-spec : {M : Type 1} → statement M
 sk-pack-build-spec =
     tie.close
     (tie.spec
-    build-requires
-    pack-number-requires
-    same-length
-    same-length-2
-    same-length-3
-    same-length-4
-    same-length-5
-    same-length-6
-    same-length-7
-    same-length-8
+    (λ c κs. search needs)
+    (λ c κs. search needs)
+    (λ c. search needs)
+    (λ c. search needs)
+    (λ c. search needs)
+    (λ c. search needs)
+    (λ c. search needs)
+    (λ c. search needs)
+    (λ c. search needs)
+    (λ c. search needs)
     returns)

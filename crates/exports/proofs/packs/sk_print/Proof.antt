@@ -42,14 +42,8 @@ module _ (bytes input before : List ℕ) where
 returns : tie.Need-returns
 returns c = short _ _ _ (c .if1 .taken)
 
-print-requires : tie.Need-print-requires
-print-requires c κs = search needs
-
-same-length : tie.Need-same-length
-same-length c = search needs
-
 returns-2 : tie.Need-returns-2
 returns-2 c = let p = c .before .before in enough _ _ _ (p .before .before .if1 .left) (p .print .ensures)
 
 pub sk-print-spec : {M : Type 1} → statement M
-sk-print-spec = tie.close (tie.spec returns print-requires same-length returns-2)
+sk-print-spec = tie.close (tie.spec returns (λ c κs. search needs) (λ c. search needs) returns-2)

@@ -17,21 +17,6 @@ called c = c .before .before .before .before
 abbrev refused : tie.After-answer → tie.After-encode-tested
 refused c = c .before .before .before .before
 
-encode-tested-requires : tie.Need-encode-tested-requires
-encode-tested-requires c κs = search needs
-
-enum-known-answer : tie.Need-enum-known-answer
-enum-known-answer c = search needs
-
-slice-aggregate-put-refusal : tie.Need-slice-aggregate-put-refusal
-slice-aggregate-put-refusal c = search needs
-
-put-refusal-requires : tie.Need-put-refusal-requires
-put-refusal-requires c κs = search needs
-
-enum-known-answer-2 : tie.Need-enum-known-answer-2
-enum-known-answer-2 c = search needs
-
 put-first-requires : tie.Need-put-first-requires
 put-first-requires c κs =
     let b = c .before .before .before in
@@ -39,24 +24,12 @@ put-first-requires c κs =
     let s = encoded-ids (called b .encode-tested .ensures) (e .pre .1 .0) (b .answer2 .given .1) in
     (omega (arith, s .few, e .pre .1 .1), omega (arith, s .inside, e .pre .1 .0, let k = called b .encode-tested .kept .1 .1 .1 .1 .1 in k .1 .1 .1 .1 .1 .0), omega (arith, s .inside))
 
-same-length : tie.Need-same-length
-same-length c = search needs
-
-same-length-2 : tie.Need-same-length-2
-same-length-2 c = search needs
-
 returns : tie.Need-returns
 returns c =
     let p = c .before .before in
     let b = p .before .before .before .before in
     let e = entry (refused b) in
     (put-as (encoded-refused (refused b .encode-tested .ensures) (e .pre .1 .0) (b .answer .given .1)) (p .put-refusal .ensures .0), omega (arith, p .put-refusal .ensures .1))
-
-same-length-3 : tie.Need-same-length-3
-same-length-3 c = search needs
-
-same-length-4 : tie.Need-same-length-4
-same-length-4 c = search needs
 
 returns-2 : tie.Need-returns-2
 returns-2 c =
@@ -70,15 +43,15 @@ pub put-encoded-spec : {M : Type 1} → statement M
 put-encoded-spec =
     tie.close
     (tie.spec
-    encode-tested-requires
-    enum-known-answer
-    slice-aggregate-put-refusal
-    put-refusal-requires
-    enum-known-answer-2
+    (λ c κs. search needs)
+    (λ c. search needs)
+    (λ c. search needs)
+    (λ c κs. search needs)
+    (λ c. search needs)
     put-first-requires
-    same-length
-    same-length-2
+    (λ c. search needs)
+    (λ c. search needs)
     returns
-    same-length-3
-    same-length-4
+    (λ c. search needs)
+    (λ c. search needs)
     returns-2)

@@ -48,9 +48,6 @@ ends c =
     end-inside (prints h) (a .input .now) (a .out .now) (h .loop .at) (h .loop .from) (c .line-end .result) (h .loop .out) (h .loop .inv .0)
     (c .before .loop-test .taken) (c .line-end .ensures)
 
-sound-requires : tie.Need-sound-requires Inv-loop μ-loop
-sound-requires c κs = search needs
-
 sub-line : tie.Need-sub-line Inv-loop μ-loop
 sub-line c = omega (arith, c .line-end .ensures)
 
@@ -59,9 +56,6 @@ part-line-start c = omega (arith, c .line-end .ensures, ends c)
 
 part-line-end : tie.Need-part-line-end Inv-loop μ-loop
 part-line-end c = omega (arith, ends c)
-
-slice-aggregate-put-encoded : tie.Need-slice-aggregate-put-encoded Inv-loop μ-loop
-slice-aggregate-put-encoded c = search needs
 
 put-encoded-requires : tie.Need-put-encoded-requires Inv-loop μ-loop
 put-encoded-requires c κs =
@@ -109,13 +103,13 @@ put-encoded-lines-spec =
     (tie.spec
     Inv-loop
     μ-loop
-    sound-requires
+    (λ c κs. search needs)
     loop-holds
     line-end-requires
     sub-line
     part-line-start
     part-line-end
-    slice-aggregate-put-encoded
+    (λ c. search needs)
     put-encoded-requires
     add-from
     loop-less

@@ -18,9 +18,6 @@ put-ids-requires c κs =
     let s = c .before .before .before .before in
     (omega (arith, counted s, s .pre .0), omega (arith, counted s, s .pre .2))
 
-same-length : tie.Need-same-length
-same-length c = search needs
-
 returns : tie.Need-returns
 returns c =
     let p = c .before .before in
@@ -28,4 +25,4 @@ returns c =
     (p .put-ids .ensures .0, omega (arith, p .put-ids .ensures .1, counted s))
 
 pub put-first-spec : {M : Type 1} → statement M
-put-first-spec = tie.close (tie.spec slice-aggregate-put-ids put-ids-requires same-length returns)
+put-first-spec = tie.close (tie.spec slice-aggregate-put-ids put-ids-requires (λ c. search needs) returns)

@@ -21,9 +21,6 @@ entry c = c .before .before .before .before
 digits-few : (s : tie.Start) → length (decimal (length (s .args .ids .now))) ≤ 10
 digits-few s = decimal-short (length (s .args .ids .now)) (s .pre .1)
 
-cast-put-number : tie.Need-cast-put-number
-cast-put-number c = search needs
-
 put-number-requires : tie.Need-put-number-requires
 put-number-requires c κs =
     let s = c .before .before .before in
@@ -48,9 +45,6 @@ put-byte-requires c κs =
       digits-few (entry p),
     )
 
-same-length : tie.Need-same-length
-same-length c = search needs
-
 returns : tie.Need-returns
 unfolding printedIds
 returns c =
@@ -65,9 +59,9 @@ pub put-ids-spec : {M : Type 1} → statement M
 put-ids-spec =
     tie.close
     (tie.spec
-    cast-put-number
+    (λ c. search needs)
     put-number-requires
     put-numbers-requires
     put-byte-requires
-    same-length
+    (λ c. search needs)
     returns)

@@ -44,21 +44,6 @@ told-ends c =
 digits-few : (c : tie.After-number) → length (decimal (c .number .result)) ≤ 2
 digits-few c = omega (arith, ap (λ (n : ℕ). length (decimal n)) (c .number .ensures), number-short (start c .args .f))
 
-put-text-requires : tie.Need-put-text-requires
-put-text-requires c κs = search needs
-
-slice-aggregate-put-text : tie.Need-slice-aggregate-put-text
-slice-aggregate-put-text c = search needs
-
-put-text-requires-2 : tie.Need-put-text-requires-2
-put-text-requires-2 c κs = search needs
-
-put-byte-requires : tie.Need-put-byte-requires
-put-byte-requires c κs = search needs
-
-number-requires : tie.Need-number-requires
-number-requires c κs = search needs
-
 put-number-requires : tie.Need-put-number-requires
 put-number-requires c κs =
     let e = told-ends c in
@@ -69,9 +54,6 @@ put-byte-requires-2 c κs =
     let p = c .before .before .before in
     let e = told-ends (p .before) in
     omega (arith, p .put-number .ensures .ends, p .put-number .kept .0, e .0, e .1, digits-few (p .before), start (p .before) .pre)
-
-same-length : tie.Need-same-length
-same-length c = search needs
 
 -- the text, as it is put
 text-is : (what : List ℕ) (f : _) (n : ℕ) → n ≡ number f → what ++ ascii "refused" ++ spacedOne n ++ (lf ∷ []) ≡ printedRefusal what f
@@ -97,12 +79,12 @@ pub put-refusal-spec : {M : Type 1} → statement M
 put-refusal-spec =
     tie.close
     (tie.spec
-    put-text-requires
-    slice-aggregate-put-text
-    put-text-requires-2
-    put-byte-requires
-    number-requires
+    (λ c κs. search needs)
+    (λ c. search needs)
+    (λ c κs. search needs)
+    (λ c κs. search needs)
+    (λ c κs. search needs)
     put-number-requires
     put-byte-requires-2
-    same-length
+    (λ c. search needs)
     returns)

@@ -16,12 +16,6 @@ entry c = c .before .before .before
 digits-few : (s : tie.Start) → length (decimal (s .args .n)) ≤ 10
 digits-few s = decimal-short (s .args .n) (omega (arith, s .good))
 
-slice-write-out : tie.Need-slice-write-out
-slice-write-out c = search needs
-
-add-put-number : tie.Need-add-put-number
-add-put-number c = search needs
-
 put-number-requires : tie.Need-put-number-requires
 put-number-requires c κs =
     let s = c .before .before in
@@ -42,4 +36,4 @@ returns c =
 
 pub put-spaced-spec : {M : Type 1} → statement M
 put-spaced-spec =
-    tie.close (tie.spec slice-write-out add-put-number put-number-requires same-length returns)
+    tie.close (tie.spec (λ c. search needs) (λ c. search needs) put-number-requires same-length returns)

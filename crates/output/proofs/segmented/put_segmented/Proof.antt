@@ -30,20 +30,8 @@ told c = c .before .before .before .before
 abbrev told-ids : tie.After-put-first → tie.After-answer2
 told-ids c = c .before .before .before .before
 
-segment-tested-requires : tie.Need-segment-tested-requires
-segment-tested-requires c κs = search needs
-
-enum-known-answer : tie.Need-enum-known-answer
-enum-known-answer c = search needs
-
-slice-aggregate-put-refusal : tie.Need-slice-aggregate-put-refusal
-slice-aggregate-put-refusal c = search needs
-
 put-refusal-requires : tie.Need-put-refusal-requires
 put-refusal-requires c κs = let e = entry (refused (c .before .before .before)) in omega (arith, e .pre .1 .1)
-
-enum-known-answer-2 : tie.Need-enum-known-answer-2
-enum-known-answer-2 c = search needs
 
 -- as many id places as were lent
 places-there : (c : tie.After-segment-tested) → 4_096 ≤ length (let k = c .segment-tested .last .1 .1 .1 .1 .1 .1 .1 in k .1 .1 .1 .1 .1 .1 .1 .0)
@@ -56,24 +44,6 @@ put-first-requires c κs =
     let s = segmented-ids (e .pre .1 .0) (called b .segment-tested .ensures) (b .answer2 .given .1) in
     (omega (arith, s .few, e .pre .1 .1), omega (arith, s .inside, places-there (called b)), omega (arith, s .inside))
 
-same-length : tie.Need-same-length
-same-length c = search needs
-
-same-length-2 : tie.Need-same-length-2
-same-length-2 c = search needs
-
-same-length-3 : tie.Need-same-length-3
-same-length-3 c = search needs
-
-same-length-4 : tie.Need-same-length-4
-same-length-4 c = search needs
-
-same-length-5 : tie.Need-same-length-5
-same-length-5 c = search needs
-
-same-length-6 : tie.Need-same-length-6
-same-length-6 c = search needs
-
 returns : tie.Need-returns
 returns c =
     let p = c .before .before in
@@ -82,24 +52,6 @@ returns c =
       put-as (segmented-refused (e .pre .1 .0) (refused b .segment-tested .ensures) (b .answer .given .1)) (p .put-refusal .ensures .0),
       omega (arith, p .put-refusal .ensures .1),
     )
-
-same-length-7 : tie.Need-same-length-7
-same-length-7 c = search needs
-
-same-length-8 : tie.Need-same-length-8
-same-length-8 c = search needs
-
-same-length-9 : tie.Need-same-length-9
-same-length-9 c = search needs
-
-same-length-10 : tie.Need-same-length-10
-same-length-10 c = search needs
-
-same-length-11 : tie.Need-same-length-11
-same-length-11 c = search needs
-
-same-length-12 : tie.Need-same-length-12
-same-length-12 c = search needs
 
 returns-2 : tie.Need-returns-2
 returns-2 c =
@@ -113,23 +65,23 @@ pub put-segmented-spec : {M : Type 1} → statement M
 put-segmented-spec =
     tie.close
     (tie.spec
-    segment-tested-requires
-    enum-known-answer
-    slice-aggregate-put-refusal
+    (λ c κs. search needs)
+    (λ c. search needs)
+    (λ c. search needs)
     put-refusal-requires
-    enum-known-answer-2
+    (λ c. search needs)
     put-first-requires
-    same-length
-    same-length-2
-    same-length-3
-    same-length-4
-    same-length-5
-    same-length-6
+    (λ c. search needs)
+    (λ c. search needs)
+    (λ c. search needs)
+    (λ c. search needs)
+    (λ c. search needs)
+    (λ c. search needs)
     returns
-    same-length-7
-    same-length-8
-    same-length-9
-    same-length-10
-    same-length-11
-    same-length-12
+    (λ c. search needs)
+    (λ c. search needs)
+    (λ c. search needs)
+    (λ c. search needs)
+    (λ c. search needs)
+    (λ c. search needs)
     returns-2)

@@ -64,9 +64,6 @@ ends c =
     end-inside (prints h) (a .input .now) (a .out .now) (h .loop .at) (h .loop .from) (c .line-end .result) (h .loop .out) (h .loop .inv .0)
     (c .before .loop-test .taken) (c .line-end .ensures)
 
-sound-scored-requires : tie.Need-sound-scored-requires Inv-loop μ-loop
-sound-scored-requires c κs = search needs
-
 sub-line : tie.Need-sub-line Inv-loop μ-loop
 sub-line c = omega (arith, c .line-end .ensures)
 
@@ -75,21 +72,6 @@ part-line-start c = omega (arith, c .line-end .ensures, ends c)
 
 part-line-end : tie.Need-part-line-end Inv-loop μ-loop
 part-line-end c = omega (arith, ends c)
-
-slice-aggregate-put-segmented : tie.Need-slice-aggregate-put-segmented Inv-loop μ-loop
-slice-aggregate-put-segmented c = search needs
-
-slice-aggregate-put-segmented-2 : tie.Need-slice-aggregate-put-segmented-2 Inv-loop μ-loop
-slice-aggregate-put-segmented-2 c = search needs
-
-slice-aggregate-put-segmented-3 : tie.Need-slice-aggregate-put-segmented-3 Inv-loop μ-loop
-slice-aggregate-put-segmented-3 c = search needs
-
-slice-aggregate-put-segmented-4 : tie.Need-slice-aggregate-put-segmented-4 Inv-loop μ-loop
-slice-aggregate-put-segmented-4 c = search needs
-
-slice-aggregate-put-segmented-5 : tie.Need-slice-aggregate-put-segmented-5 Inv-loop μ-loop
-slice-aggregate-put-segmented-5 c = search needs
 
 put-segmented-requires : tie.Need-put-segmented-requires Inv-loop μ-loop
 put-segmented-requires c κs =
@@ -138,17 +120,17 @@ put-segmented-lines-spec =
     (tie.spec
     Inv-loop
     μ-loop
-    sound-scored-requires
+    (λ c κs. search needs)
     loop-holds
     line-end-requires
     sub-line
     part-line-start
     part-line-end
-    slice-aggregate-put-segmented
-    slice-aggregate-put-segmented-2
-    slice-aggregate-put-segmented-3
-    slice-aggregate-put-segmented-4
-    slice-aggregate-put-segmented-5
+    (λ c. search needs)
+    (λ c. search needs)
+    (λ c. search needs)
+    (λ c. search needs)
+    (λ c. search needs)
     put-segmented-requires
     add-from
     loop-less

@@ -6,12 +6,12 @@ use Prim.Native.Nat.{ℕ, _-_, _≤_}
 use native.Mathlib.Omega.{arith}
 use Rattle.rows.specs.Rows.{Row, tokenOf}
 use Rattle.build.specs.Names.{prefixes, enter}
-use Rattle.build.specs.Given.{valueOf, marked}
+use Rattle.build.specs.Given.{firstOf, valueOf, marked}
 use Rattle.build.specs.Held.{RowDone}
 use Rattle.build.proofs.Entering.{Kept, roomy-kept}
 use Rattle.build.proofs.Rowing.{Rowed, rowed-start, rowed-small, rowed-turn, rowed-full, rowed-end, rowed-enterable}
 use Rattle.pack.specs.Pack.{rowAt}
-use Rattle.pack.specs.Reading.{rowStart, firstOf}
+use Rattle.pack.specs.Reading.{rowStart}
 use Rattle.pack.proofs.Resting.{all, rest, rest-all, rest-next, rest-none}
 use Rattle.pack.proofs.enter.enter_on.Statement.{statement}
 use Rattle.pack.proofs.enter.enter_on.Tie as tie

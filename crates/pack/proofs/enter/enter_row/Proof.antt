@@ -62,20 +62,8 @@ span-requires c κs = inside c
 value-requires : tie.Need-value-requires
 value-requires c κs = entry (c .before) .pre .small
 
-keeps-first-requires : tie.Need-keeps-first-requires
-keeps-first-requires c κs = search needs
-
 enter-token-requires : tie.Need-enter-token-requires
 enter-token-requires c κs = entry (spanned (lent c .before) .before) .pre .enterable
-
-same-length : tie.Need-same-length
-same-length c = search needs
-
-same-length-2 : tie.Need-same-length-2
-same-length-2 c = search needs
-
-same-length-3 : tie.Need-same-length-3
-same-length-3 c = search needs
 
 returns : tie.Need-returns
 unfolding rowIs
@@ -98,9 +86,9 @@ enter-row-spec =
     row-at-requires
     span-requires
     value-requires
-    keeps-first-requires
+    (λ c κs. search needs)
     enter-token-requires
-    same-length
-    same-length-2
-    same-length-3
+    (λ c. search needs)
+    (λ c. search needs)
+    (λ c. search needs)
     returns)

@@ -6,15 +6,6 @@ use Rattle.pack.specs.Reading.{valueIn}
 use Rattle.pack.proofs.enter.value.Statement.{statement}
 use Rattle.pack.proofs.enter.value.Tie as tie
 
-enum-told : tie.Need-enum-told
-enum-told c = search needs
-
-cast-result : tie.Need-cast-result
-cast-result c = search needs
-
-enum-known-worth : tie.Need-enum-known-worth
-enum-known-worth c = search needs
-
 returns : tie.Need-returns
 unfolding worthIs
 returns c = let i = c .before .before .args .i in sym (ap (λ w. valueIn i (worthIs w)) (c .enum-told .given .1))
@@ -24,4 +15,4 @@ unfolding worthIs
 returns-2 c = let bound = c .before in let i = bound .before .before .args .i in sym (ap (λ w. valueIn i (worthIs w)) (bound .worth .given .1))
 
 pub value-spec : {M : Type 1} → statement M
-value-spec = tie.close (tie.spec enum-told cast-result enum-known-worth returns returns-2)
+value-spec = tie.close (tie.spec (λ c. search needs) (λ c. search needs) (λ c. search needs) returns returns-2)

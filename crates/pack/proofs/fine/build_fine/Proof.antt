@@ -54,38 +54,17 @@ left b =
     let l = b .build-rows .last .1 .1 .1 .1 in
     memory (l .0) (l .1 .0) (l .1 .1 .0) (l .1 .1 .1 .0) (l .1 .1 .1 .1 .0) (l .1 .1 .1 .1 .1 .0)
 
-room-requires : tie.Need-room-requires
-room-requires c κs = search needs
-
-cast-start : tie.Need-cast-start
-cast-start c = search needs
-
 sub-build-rows : tie.Need-sub-build-rows
 sub-build-rows c = let s = entry (c .before) in omega (arith, start-inside (s .pre))
 
 part-build-rows-start : tie.Need-part-build-rows-start
 part-build-rows-start c = let s = entry (c .before) in omega (arith, start-inside (s .pre))
 
-part-build-rows-end : tie.Need-part-build-rows-end
-part-build-rows-end c = search needs
-
-cast-build-rows : tie.Need-cast-build-rows
-cast-build-rows c = search needs
-
 build-rows-requires : tie.Need-build-rows-requires
 build-rows-requires c κs =
     let r = measured c in
     let s = entry r in
     (lent-rows (s .pre), room-is (s .pre) (lent s) (lent s) (s .args .node-score .now) (r .room .ensures))
-
-enum-told : tie.Need-enum-told
-enum-told c = search needs
-
-zero-requires : tie.Need-zero-requires
-zero-requires c κs = search needs
-
-enum-known-built : tie.Need-enum-known-built
-enum-known-built c = search needs
 
 fill-scores-requires : tie.Need-fill-scores-requires
 fill-scores-requires c κs =
@@ -112,27 +91,6 @@ summary-requires c κs =
     let b = called (n .before .before) in
     entry (measured (b .before)) .pre
 
-same-length : tie.Need-same-length
-same-length c = search needs
-
-same-length-2 : tie.Need-same-length-2
-same-length-2 c = search needs
-
-same-length-3 : tie.Need-same-length-3
-same-length-3 c = search needs
-
-same-length-4 : tie.Need-same-length-4
-same-length-4 c = search needs
-
-same-length-5 : tie.Need-same-length-5
-same-length-5 c = search needs
-
-same-length-6 : tie.Need-same-length-6
-same-length-6 c = search needs
-
-same-length-7 : tie.Need-same-length-7
-same-length-7 c = search needs
-
 returns : tie.Need-returns
 returns c =
     let z = zeroed c in
@@ -142,27 +100,6 @@ returns c =
     let s = entry r in
     fine-full (s .pre) (lent s) (left b) (s .args .node-score .now) (r .room .ensures) (b .build-rows .ensures) (told .enum-told .given .1)
     (z .zero .ensures)
-
-same-length-8 : tie.Need-same-length-8
-same-length-8 c = search needs
-
-same-length-9 : tie.Need-same-length-9
-same-length-9 c = search needs
-
-same-length-10 : tie.Need-same-length-10
-same-length-10 c = search needs
-
-same-length-11 : tie.Need-same-length-11
-same-length-11 c = search needs
-
-same-length-12 : tie.Need-same-length-12
-same-length-12 c = search needs
-
-same-length-13 : tie.Need-same-length-13
-same-length-13 c = search needs
-
-same-length-14 : tie.Need-same-length-14
-same-length-14 c = search needs
 
 returns-2 : tie.Need-returns-2
 returns-2 c =
@@ -178,32 +115,32 @@ pub build-fine-spec : {M : Type 1} → statement M
 build-fine-spec =
     tie.close
     (tie.spec
-    room-requires
-    cast-start
+    (λ c κs. search needs)
+    (λ c. search needs)
     sub-build-rows
     part-build-rows-start
-    part-build-rows-end
-    cast-build-rows
+    (λ c. search needs)
+    (λ c. search needs)
     build-rows-requires
-    enum-told
-    zero-requires
-    enum-known-built
+    (λ c. search needs)
+    (λ c κs. search needs)
+    (λ c. search needs)
     fill-scores-requires
     cast-summary
     summary-requires
-    same-length
-    same-length-2
-    same-length-3
-    same-length-4
-    same-length-5
-    same-length-6
-    same-length-7
+    (λ c. search needs)
+    (λ c. search needs)
+    (λ c. search needs)
+    (λ c. search needs)
+    (λ c. search needs)
+    (λ c. search needs)
+    (λ c. search needs)
     returns
-    same-length-8
-    same-length-9
-    same-length-10
-    same-length-11
-    same-length-12
-    same-length-13
-    same-length-14
+    (λ c. search needs)
+    (λ c. search needs)
+    (λ c. search needs)
+    (λ c. search needs)
+    (λ c. search needs)
+    (λ c. search needs)
+    (λ c. search needs)
     returns-2)

@@ -10,26 +10,11 @@ entry c = let k = c .before .before in k .before .before
 abbrev entry-2 : tie.At-match-keys2 → tie.Start
 entry-2 c = let k = c .before .before in k .before .before
 
-enum-told : tie.Need-enum-told
-enum-told c = search needs
-
-cast-fill : tie.Need-cast-fill
-cast-fill c = search needs
-
 fill-requires : tie.Need-fill-requires
 fill-requires c κs =
     let told = c .before .before in
     let s = entry (told .before) in
     (finite-rows (s .pre .0) (told .enum-told .given .1), s .pre .1)
-
-enum-told-2 : tie.Need-enum-told-2
-enum-told-2 c = search needs
-
-zero-requires : tie.Need-zero-requires
-zero-requires c κs = search needs
-
-same-length : tie.Need-same-length
-same-length c = search needs
 
 returns : tie.Need-returns
 returns c =
@@ -37,9 +22,6 @@ returns c =
     let k = f .before .before in
     let told = k .before in
     left-scored (entry (told .before) .pre .0) (told .enum-told .given .1) (f .fill .ensures)
-
-same-length-2 : tie.Need-same-length-2
-same-length-2 c = search needs
 
 returns-2 : tie.Need-returns-2
 returns-2 c =
@@ -51,12 +33,12 @@ pub fill-scores-spec : {M : Type 1} → statement M
 fill-scores-spec =
     tie.close
     (tie.spec
-    enum-told
-    cast-fill
+    (λ c. search needs)
+    (λ c. search needs)
     fill-requires
-    enum-told-2
-    zero-requires
-    same-length
+    (λ c. search needs)
+    (λ c κs. search needs)
+    (λ c. search needs)
     returns
-    same-length-2
+    (λ c. search needs)
     returns-2)

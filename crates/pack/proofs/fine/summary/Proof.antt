@@ -4,17 +4,8 @@ use Rattle.pack.proofs.FinePacks.{finite-rows, told-unigram, told-wordp
 use Rattle.pack.proofs.fine.summary.Statement.{statement}
 use Rattle.pack.proofs.fine.summary.Tie as tie
 
-enum-told : tie.Need-enum-told
-enum-told c = search needs
-
-cast-unknown-score : tie.Need-cast-unknown-score
-cast-unknown-score c = search needs
-
 unknown-score-requires : tie.Need-unknown-score-requires
 unknown-score-requires c κs = let told = c .before in finite-rows (told .before .before .before .pre) (told .enum-told .given .1)
-
-enum-told-2 : tie.Need-enum-told-2
-enum-told-2 c = search needs
 
 returns : tie.Need-returns
 returns c count =
@@ -27,4 +18,4 @@ returns-2 c count = told-wordpiece (c .before .before .before .pre) (c .enum-tol
 pub summary-spec : {M : Type 1} → statement M
 summary-spec =
     tie.close
-    (tie.spec enum-told cast-unknown-score unknown-score-requires enum-told-2 returns returns-2)
+    (tie.spec (λ c. search needs) (λ c. search needs) unknown-score-requires (λ c. search needs) returns returns-2)

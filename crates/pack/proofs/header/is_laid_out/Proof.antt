@@ -9,23 +9,11 @@ use Rattle.pack.proofs.header.is_laid_out.Tie as tie
 abbrev entry : tie.After-struct-known2 → tie.Start
 entry c = c .before .before
 
-cast-strings : tie.Need-cast-strings
-cast-strings c = search needs
-
-mul-strings : tie.Need-mul-strings
-mul-strings c = search needs
-
-add-strings : tie.Need-add-strings
-add-strings c = search needs
-
 returns : tie.Need-returns
 unfolding headerIs
 returns c =
     let s = entry (c .before) in
     wrong-rows (s .args .bytes .now) (headerIs (s .args .h)) (s .pre) (c .if1 .taken)
-
-cast-if2 : tie.Need-cast-if2
-cast-if2 c = search needs
 
 returns-2 : tie.Need-returns-2
 unfolding headerIs
@@ -33,12 +21,6 @@ returns-2 c =
     let one = c .before .before in
     let s = entry (one .before) in
     wrong-strings (s .args .bytes .now) (headerIs (s .args .h)) (s .pre) (omega (arith, one .if1 .left)) (λ e. omega (arith, c .if2 .taken))
-
-cast-result : tie.Need-cast-result
-cast-result c = search needs
-
-add-result : tie.Need-add-result
-add-result c = search needs
 
 returns-3 : tie.Need-returns-3
 unfolding headerIs
@@ -52,12 +34,12 @@ pub is-laid-out-spec : {M : Type 1} → statement M
 is-laid-out-spec =
     tie.close
     (tie.spec
-    cast-strings
-    mul-strings
-    add-strings
+    (λ c. search needs)
+    (λ c. search needs)
+    (λ c. search needs)
     returns
-    cast-if2
+    (λ c. search needs)
     returns-2
-    cast-result
-    add-result
+    (λ c. search needs)
+    (λ c. search needs)
     returns-3)

@@ -12,9 +12,6 @@ entry c = c .before .before
 abbrev not-one : tie.After-is-padded → tie.Else1
 not-one c = let k = c .before .before in k .before .before
 
-is-bare-requires : tie.Need-is-bare-requires
-is-bare-requires c κs = search needs
-
 returns : tie.Need-returns
 unfolding headerIs
 returns c =
@@ -35,12 +32,6 @@ returns-3 c =
     let one = c .before .before in
     let s = entry (one .before) in
     kind-none (s .args .bytes .now) (headerIs (s .args .h)) (one .if1 .left) (c .if3 .taken)
-
-cast-is-padded : tie.Need-cast-is-padded
-cast-is-padded c = search needs
-
-is-padded-requires : tie.Need-is-padded-requires
-is-padded-requires c κs = search needs
 
 returns-4 : tie.Need-returns-4
 unfolding headerIs
@@ -64,11 +55,11 @@ pub kind-laid-out-spec : {M : Type 1} → statement M
 kind-laid-out-spec =
     tie.close
     (tie.spec
-    is-bare-requires
+    (λ c κs. search needs)
     returns
     returns-2
     returns-3
-    cast-is-padded
-    is-padded-requires
+    (λ c. search needs)
+    (λ c κs. search needs)
     returns-4
     returns-5)

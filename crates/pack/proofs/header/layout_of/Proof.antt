@@ -15,9 +15,6 @@ entry c = c .before .before
 tested : (c : tie.After-is-laid-out) → (let s = entry c in c .is-laid-out .result ≡ laidOut (s .args .bytes .now) (headerOf (s .args .bytes .now)))
 tested c = let s = entry c in c .is-laid-out .ensures ∙ ap (laidOut (s .args .bytes .now)) (s .pre .1)
 
-is-laid-out-requires : tie.Need-is-laid-out-requires
-is-laid-out-requires c κs = search needs
-
 returns : tie.Need-returns
 returns c =
     let l = c .before in
@@ -39,4 +36,4 @@ returns-2 c =
     ∙ sym (kind-right (s .args .bytes .now) (sym (tested l) ∙ not-false _ (e .if1 .left)))
 
 pub layout-of-spec : {M : Type 1} → statement M
-layout-of-spec = tie.close (tie.spec is-laid-out-requires returns kind-laid-out-requires returns-2)
+layout-of-spec = tie.close (tie.spec (λ c κs. search needs) returns kind-laid-out-requires returns-2)

@@ -14,17 +14,8 @@ entry c = let k = c .before .before in k .before .before
 byte-is : (c : tie.After-shared-slice-known4) (i : ℕ) → getD (entry c .args .bytes .now) (entry c .args .at + i) 0 < 256
 byte-is c i = omega (arith, c .shared-slice-known4 .given (entry c .args .at + i))
 
-shared-slice-read-low : tie.Need-shared-slice-read-low
-shared-slice-read-low c = search needs
-
 cast-low : tie.Need-cast-low
 cast-low c = omega (arith, c .shared-slice-known .given (c .before .args .at))
-
-add-low : tie.Need-add-low
-add-low c = search needs
-
-shared-slice-read-low-2 : tie.Need-shared-slice-read-low-2
-shared-slice-read-low-2 c = search needs
 
 cast-low-2 : tie.Need-cast-low-2
 cast-low-2 c = let s = c .before .before in omega (arith, c .shared-slice-known2 .given (s .args .at + 1))
@@ -35,20 +26,8 @@ mul-low c = let s = c .before .before in omega (arith, c .shared-slice-known2 .g
 add-low-2 : tie.Need-add-low-2
 add-low-2 c = let s = c .before .before in omega (arith, c .shared-slice-known2 .given (s .args .at), c .shared-slice-known2 .given (s .args .at + 1))
 
-add-high : tie.Need-add-high
-add-high c = search needs
-
-shared-slice-read-high : tie.Need-shared-slice-read-high
-shared-slice-read-high c = search needs
-
 cast-high : tie.Need-cast-high
 cast-high c = let k = c .before .before in omega (arith, c .shared-slice-known3 .given (k .before .args .at + 2))
-
-add-high-2 : tie.Need-add-high-2
-add-high-2 c = search needs
-
-shared-slice-read-high-2 : tie.Need-shared-slice-read-high-2
-shared-slice-read-high-2 c = search needs
 
 cast-high-2 : tie.Need-cast-high-2
 cast-high-2 c = omega (arith, byte-is c 3)
@@ -73,18 +52,18 @@ pub word-spec : {M : Type 1} → statement M
 word-spec =
     tie.close
     (tie.spec
-    shared-slice-read-low
+    (λ c. search needs)
     cast-low
-    add-low
-    shared-slice-read-low-2
+    (λ c. search needs)
+    (λ c. search needs)
     cast-low-2
     mul-low
     add-low-2
-    add-high
-    shared-slice-read-high
+    (λ c. search needs)
+    (λ c. search needs)
     cast-high
-    add-high-2
-    shared-slice-read-high-2
+    (λ c. search needs)
+    (λ c. search needs)
     cast-high-2
     mul-high
     add-high-3

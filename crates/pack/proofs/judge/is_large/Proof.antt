@@ -5,15 +5,9 @@ use Rattle.pack.proofs.Headers.{many-rows, large-table, by-prefix}
 use Rattle.pack.proofs.judge.is_large.Statement.{statement}
 use Rattle.pack.proofs.judge.is_large.Tie as tie
 
-cast-if1 : tie.Need-cast-if1
-cast-if1 c = search needs
-
 returns : tie.Need-returns
 unfolding headerIs
 returns c = many-rows (headerIs (c .before .before .args .h)) (c .if1 .taken)
-
-cast-if2 : tie.Need-cast-if2
-cast-if2 c = search needs
 
 returns-2 : tie.Need-returns-2
 unfolding headerIs
@@ -29,4 +23,4 @@ returns-3 c =
     by-prefix (headerIs (one .before .before .args .h)) (one .if1 .left) (two .if2 .left)
 
 pub is-large-spec : {M : Type 1} → statement M
-is-large-spec = tie.close (tie.spec cast-if1 returns cast-if2 returns-2 returns-3)
+is-large-spec = tie.close (tie.spec (λ c. search needs) returns (λ c. search needs) returns-2 returns-3)

@@ -27,18 +27,6 @@ returns c =
     let bytes = c .before .before .args .bytes .now in
     bad-layout bytes (kind-wrong bytes (too-short bytes (headerOf bytes) (c .if1 .taken)))
 
-read-header-requires : tie.Need-read-header-requires
-read-header-requires c κs = search needs
-
-layout-of-requires : tie.Need-layout-of-requires
-layout-of-requires c κs = search needs
-
-enum-known-kind : tie.Need-enum-known-kind
-enum-known-kind c = search needs
-
-enum-told : tie.Need-enum-told
-enum-told c = search needs
-
 returns-2 : tie.Need-returns-2
 returns-2 c =
     let l = c .before .before in
@@ -49,12 +37,6 @@ judge-rows-requires c κs =
     let bound = c .before in
     let l = bound .before .before in
     (l .before .read-header .ensures, sym (l .layout-of .ensures) ∙ ap kindIn (bound .kind .given .1))
-
-enum-known-r : tie.Need-enum-known-r
-enum-known-r c = search needs
-
-enum-told-2 : tie.Need-enum-told-2
-enum-told-2 c = search needs
 
 returns-3 : tie.Need-returns-3
 returns-3 c =
@@ -76,13 +58,13 @@ judge-spec =
     tie.close
     (tie.spec
     returns
-    read-header-requires
-    layout-of-requires
-    enum-known-kind
-    enum-told
+    (λ c κs. search needs)
+    (λ c κs. search needs)
+    (λ c. search needs)
+    (λ c. search needs)
     returns-2
     judge-rows-requires
-    enum-known-r
-    enum-told-2
+    (λ c. search needs)
+    (λ c. search needs)
     returns-3
     returns-4)

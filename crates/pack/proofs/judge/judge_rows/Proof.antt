@@ -83,17 +83,11 @@ table c =
     let bytes = s .args .bytes .now in
     omega (arith, strings-length bytes (s .pre .1), small-table (headerOf bytes) (not-large (fits c)))
 
-is-large-requires : tie.Need-is-large-requires
-is-large-requires c κs = search needs
-
 returns : tie.Need-returns
 returns c =
     let l = c .before in
     let s = entry l in
     sym (before-large (s .args .kind) (s .args .bytes .now) (sym (sized l) ∙ c .if1 .taken))
-
-cast-start : tie.Need-cast-start
-cast-start c = search needs
 
 sub-first-bad : tie.Need-sub-first-bad
 sub-first-bad c =
@@ -105,12 +99,6 @@ part-first-bad-start c =
     let s = entry (c .before .before) in
     omega (arith, start-is s, strings-start (s .args .bytes .now) (s .pre .1))
 
-part-first-bad-end : tie.Need-part-first-bad-end
-part-first-bad-end c = search needs
-
-cast-first-bad : tie.Need-cast-first-bad
-cast-first-bad c = search needs
-
 first-bad-requires : tie.Need-first-bad-requires
 unfolding headerIs
 first-bad-requires c κs =
@@ -120,18 +108,12 @@ first-bad-requires c κs =
     let rows : s .args .h .rows ≡ headerOf bytes .rows = ap (λ (h : Header). h .rows) (s .pre .0) in
     (omega (arith, rows, rows-inside bytes (headerOf bytes) (kind-laid bytes (s .pre .1))), omega (arith, rows, few-rows (headerOf bytes) (not-large e)))
 
-enum-known-found : tie.Need-enum-known-found
-enum-known-found c = search needs
-
 returns-2 : tie.Need-returns-2
 returns-2 c =
     let bound = c .before in
     let f = bound .before .before in
     let s = entry (fits f .before) in
     sym (before-rows (s .args .kind) (s .args .bytes .now) (not-large (fits f)) (sym (rows-are f) ∙ ap reasonIn (bound .found .given .1)))
-
-enum-told : tie.Need-enum-told
-enum-told c = search needs
 
 sub-text-answer : tie.Need-sub-text-answer
 sub-text-answer c =
@@ -144,18 +126,6 @@ part-text-answer-start c =
     let f = c .before .before in
     let s = entry (fits f .before) in
     omega (arith, start-is s, strings-start (s .args .bytes .now) (s .pre .1))
-
-part-text-answer-end : tie.Need-part-text-answer-end
-part-text-answer-end c = search needs
-
-text-answer-requires : tie.Need-text-answer-requires
-text-answer-requires c κs = search needs
-
-enum-known-spelled : tie.Need-enum-known-spelled
-enum-known-spelled c = search needs
-
-enum-told-2 : tie.Need-enum-told-2
-enum-told-2 c = search needs
 
 returns-3 : tie.Need-returns-3
 returns-3 c =
@@ -180,22 +150,22 @@ pub judge-rows-spec : {M : Type 1} → statement M
 judge-rows-spec =
     tie.close
     (tie.spec
-    is-large-requires
+    (λ c κs. search needs)
     returns
-    cast-start
+    (λ c. search needs)
     sub-first-bad
     part-first-bad-start
-    part-first-bad-end
-    cast-first-bad
+    (λ c. search needs)
+    (λ c. search needs)
     first-bad-requires
-    enum-known-found
+    (λ c. search needs)
     returns-2
-    enum-told
+    (λ c. search needs)
     sub-text-answer
     part-text-answer-start
-    part-text-answer-end
-    text-answer-requires
-    enum-known-spelled
-    enum-told-2
+    (λ c. search needs)
+    (λ c κs. search needs)
+    (λ c. search needs)
+    (λ c. search needs)
     returns-3
     returns-4)

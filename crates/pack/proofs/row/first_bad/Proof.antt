@@ -48,12 +48,6 @@ add-row-at c = let s = entry (c .before) in omega (arith, c .loop-test .taken, s
 row-at-requires : tie.Need-row-at-requires Inv-loop μ-loop
 row-at-requires c κs = let s = entry (c .before) in omega (arith, c .loop-test .taken, s .pre .0)
 
-row-fault-requires : tie.Need-row-fault-requires Inv-loop μ-loop
-row-fault-requires c κs = search needs
-
-enum-known-f : tie.Need-enum-known-f Inv-loop μ-loop
-enum-known-f c = search needs
-
 cast-t12 : tie.Need-cast-t12 Inv-loop μ-loop
 cast-t12 c =
     let f = c .before .before .before in
@@ -70,9 +64,6 @@ returns c =
     (h .loop .inv .1
     ∙ bad-found (a .kind) (a .bytes .now) (a .rows) (a .strings .now) (h .loop .i) _ (turn f .loop-test .taken)
     (sym (judged f) ∙ ap faultIn (bound .f .given .1)))
-
-enum-told : tie.Need-enum-told Inv-loop μ-loop
-enum-told c = search needs
 
 add-i : tie.Need-add-i Inv-loop μ-loop
 add-i c =
@@ -110,11 +101,11 @@ first-bad-spec =
     mul-row-at
     add-row-at
     row-at-requires
-    row-fault-requires
-    enum-known-f
+    (λ c κs. search needs)
+    (λ c. search needs)
     cast-t12
     returns
-    enum-told
+    (λ c. search needs)
     add-i
     loop-less
     loop-again

@@ -12,45 +12,6 @@ reads c =
     let high = c .before in
     rw (← high .before .word .ensures, ← high .word2 .ensures) (c .from-bits .ensures)
 
-word-requires : tie.Need-word-requires
-word-requires c κs = search needs
-
-cast-low : tie.Need-cast-low
-cast-low c = search needs
-
-add-word : tie.Need-add-word
-add-word c = search needs
-
-word-requires-2 : tie.Need-word-requires-2
-word-requires-2 c κs = search needs
-
-cast-high : tie.Need-cast-high
-cast-high c = search needs
-
-mul-from-bits : tie.Need-mul-from-bits
-mul-from-bits c = search needs
-
-add-from-bits : tie.Need-add-from-bits
-add-from-bits c = search needs
-
-from-bits-requires : tie.Need-from-bits-requires
-from-bits-requires c κs = search needs
-
-enum-known-pattern : tie.Need-enum-known-pattern
-enum-known-pattern c = search needs
-
-enum-told : tie.Need-enum-told
-enum-told c = search needs
-
-infinity-requires : tie.Need-infinity-requires
-infinity-requires c κs = search needs
-
-enum-told-2 : tie.Need-enum-told-2
-enum-told-2 c = search needs
-
-infinity-requires-2 : tie.Need-infinity-requires-2
-infinity-requires-2 c κs = search needs
-
 returns : tie.Need-returns
 returns c =
     let bound = c .before in
@@ -70,19 +31,19 @@ pub score-at-spec : {M : Type 1} → statement M
 score-at-spec =
     tie.close
     (tie.spec
-    word-requires
-    cast-low
-    add-word
-    word-requires-2
-    cast-high
-    mul-from-bits
-    add-from-bits
-    from-bits-requires
-    enum-known-pattern
-    enum-told
-    infinity-requires
-    enum-told-2
-    infinity-requires-2
+    (λ c κs. search needs)
+    (λ c. search needs)
+    (λ c. search needs)
+    (λ c κs. search needs)
+    (λ c. search needs)
+    (λ c. search needs)
+    (λ c. search needs)
+    (λ c κs. search needs)
+    (λ c. search needs)
+    (λ c. search needs)
+    (λ c κs. search needs)
+    (λ c. search needs)
+    (λ c κs. search needs)
     returns
     returns-2
     returns-3)

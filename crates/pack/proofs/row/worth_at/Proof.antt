@@ -4,18 +4,6 @@ use Rattle.pack.proofs.Readings.{read-score, read-id}
 use Rattle.pack.proofs.row.worth_at.Statement.{statement}
 use Rattle.pack.proofs.row.worth_at.Tie as tie
 
-enum-told : tie.Need-enum-told
-enum-told c = search needs
-
-score-at-requires : tie.Need-score-at-requires
-score-at-requires c κs = search needs
-
-enum-told-2 : tie.Need-enum-told-2
-enum-told-2 c = search needs
-
-word-requires : tie.Need-word-requires
-word-requires c κs = search needs
-
 returns : tie.Need-returns
 returns c =
     let told = c .before in
@@ -30,4 +18,4 @@ returns-2 c =
 
 pub worth-at-spec : {M : Type 1} → statement M
 worth-at-spec =
-    tie.close (tie.spec enum-told score-at-requires enum-told-2 word-requires returns returns-2)
+    tie.close (tie.spec (λ c. search needs) (λ c κs. search needs) (λ c. search needs) (λ c κs. search needs) returns returns-2)

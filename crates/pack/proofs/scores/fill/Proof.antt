@@ -51,9 +51,6 @@ place h l =
 abbrev scoreOf : tie.Start Inv-loop μ-loop → ℕ → Double
 scoreOf s = scoreAt (scores (s .args .bytes .now) (s .args .rows)) (s .args .node-id .now)
 
-zero-requires : tie.Need-zero-requires Inv-loop μ-loop
-zero-requires c κs = search needs
-
 loop-holds : tie.Need-loop-holds Inv-loop μ-loop
 loop-holds c = (omega arith, stored-none _ _ _ refl)
 
@@ -108,7 +105,7 @@ fill-spec =
     (tie.spec
     Inv-loop
     μ-loop
-    zero-requires
+    (λ c κs. search needs)
     loop-holds
     mul-score-of
     shared-slice-read-score-of

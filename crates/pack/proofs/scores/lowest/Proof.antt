@@ -32,9 +32,6 @@ entry c = let k = c .before .before in k .before
 abbrev turn : tie.After-lower Inv-loop μ-loop → tie.In-loop Inv-loop μ-loop
 turn c = c .before .before
 
-add-score-at : tie.Need-add-score-at Inv-loop μ-loop
-add-score-at c = search needs
-
 score-at-requires : tie.Need-score-at-requires Inv-loop μ-loop
 score-at-requires c κs = let s = c .before in omega (arith, s .pre .0 .inside, s .pre .1)
 
@@ -58,9 +55,6 @@ add-score-at-3 c = let s = entry (c .before) in omega (arith, c .loop-test .take
 
 score-at-requires-2 : tie.Need-score-at-requires-2 Inv-loop μ-loop
 score-at-requires-2 c κs = let s = entry (c .before) in omega (arith, c .loop-test .taken, s .pre .0 .inside)
-
-lower-requires : tie.Need-lower-requires Inv-loop μ-loop
-lower-requires c κs = search needs
 
 add-i : tie.Need-add-i Inv-loop μ-loop
 add-i c = let t = turn c in omega (arith, t .loop-test .taken, entry (t .before) .pre .0 .few)
@@ -95,14 +89,14 @@ lowest-spec =
     (tie.spec
     Inv-loop
     μ-loop
-    add-score-at
+    (λ c. search needs)
     score-at-requires
     loop-holds
     mul-score-at
     add-score-at-2
     add-score-at-3
     score-at-requires-2
-    lower-requires
+    (λ c κs. search needs)
     add-i
     loop-less
     loop-again

@@ -6,16 +6,10 @@ use Rattle.pack.proofs.Scoring.{scores-past}
 use Rattle.pack.proofs.scores.score_of.Statement.{statement}
 use Rattle.pack.proofs.scores.score_of.Tie as tie
 
-score-in-requires : tie.Need-score-in-requires
-score-in-requires c κs = search needs
-
-returns : tie.Need-returns
-returns c = search needs
-
 returns-2 : tie.Need-returns-2
 returns-2 c =
     let a = c .before .before .args in
     zero-units ∙ sym (scores-past (a .bytes .now) (a .rows) (a .row) (c .if1 .left))
 
 pub score-of-spec : {M : Type 1} → statement M
-score-of-spec = tie.close (tie.spec score-in-requires returns returns-2)
+score-of-spec = tie.close (tie.spec (λ c κs. search needs) (λ c. search needs) returns-2)

@@ -8,20 +8,11 @@ use Rattle.pack.proofs.Scoring.{unknown-none, unknown-some}
 use Rattle.pack.proofs.scores.unknown_score.Statement.{statement}
 use Rattle.pack.proofs.scores.unknown_score.Tie as tie
 
-minus-ten-requires : tie.Need-minus-ten-requires
-minus-ten-requires c κs = search needs
-
 returns : tie.Need-returns
 returns c =
     let tested = c .before in
     let a = tested .before .before .args in
     c .minus-ten .ensures ∙ ap (λ (x : Double). sum x minusTen) zero-units ∙ sym (unknown-none (a .bytes .now) (a .rows) (tested .if1 .taken))
-
-lowest-requires : tie.Need-lowest-requires
-lowest-requires c κs = search needs
-
-minus-ten-requires-2 : tie.Need-minus-ten-requires-2
-minus-ten-requires-2 c κs = search needs
 
 returns-2 : tie.Need-returns-2
 returns-2 c =
@@ -33,4 +24,4 @@ returns-2 c =
 
 pub unknown-score-spec : {M : Type 1} → statement M
 unknown-score-spec =
-    tie.close (tie.spec minus-ten-requires returns lowest-requires minus-ten-requires-2 returns-2)
+    tie.close (tie.spec (λ c κs. search needs) returns (λ c κs. search needs) (λ c κs. search needs) returns-2)

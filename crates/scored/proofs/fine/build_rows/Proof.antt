@@ -1,16 +1,23 @@
 -- `scored::fine::build_rows` meets its contract: the room is the least that the columns have, what the core answers is answered, and the score
 -- column is made zero or filled. Assumes nothing.
-use mathlib.Core.Path.{ap}
+use mathlib.Core.Path.{sym, ap, _∙_}
+use mathlib.Core.List.{map}
+use Prim.Native.Nat.{min}
 use native.Mathlib.Omega.{arith}
 use borrow.Author.Needs.{needs}
-use lib.ListN.{length}
+use lib.ListN.{length, length-map}
+use Rattle.doubles.specs.Double.{Double}
+use Rattle.doubles.specs.Units.{units}
 use Rattle.rows.specs.declared.Kind.the-variants.{Unigram}
 use Rattle.rows.specs.Columns.{Columns}
 use Rattle.rows.specs.Answers.{scoredColumns}
 use Rattle.build.specs.Memory.{Memory, memory}
 use Rattle.build.proofs.Judging.{judged}
-use Rattle.scored.specs.Build.{built, told}
-use Rattle.scored.proofs.Builds.{scored-room-for, nodes-placed, Placed, lists-full, lists-built}
+use Rattle.build.specs.Core.{roomOf}
+use Rattle.build.specs.Promise.{built}
+use Rattle.build.proofs.Rooms.{scored-room-for}
+use Rattle.scored.specs.Build.{Report, told}
+use Rattle.scored.proofs.Builds.{nodes-placed, Placed, lists-full, lists-built}
 use Rattle.scored.proofs.fine.build_rows.Statement.{statement}
 use Rattle.scored.proofs.fine.build_rows.Tie as tie
 
@@ -56,8 +63,7 @@ placed t =
     let b = called (t .before .before) in
     let r = measured b in
     let a = entry r .args in
-    nodes-placed (a .tab .now) (a .off .now) (a .len .now) (a .id .now) (lent (entry r)) (left b) (length (a .node-score .now)) (r .room .ensures)
-    (b .build .ensures) (t .built .given .1)
+    nodes-placed (a .node-score .now) (r .room .ensures) (b .build .ensures) (t .built .given .1)
 
 -- ---- the needs
 
@@ -67,8 +73,11 @@ room-requires c κs = search needs
 build-requires : tie.Need-build-requires
 build-requires c κs =
     let r = c .before .before .before .before .before .before in
-    let a = entry r .args in
-    (judged Unigram (a .tab .now) (rows-lent (entry r)) (entry r .pre) _, scored-room-for (lent (entry r)) _ (r .room .ensures))
+    let a = entry r .args in (
+      judged Unigram (a .tab .now) (rows-lent (entry r)) (entry r .pre) _,
+      scored-room-for (lent (entry r)) (map units (a .node-score .now))
+          (r .room .ensures ∙ ap (min (roomOf (lent (entry r)))) (sym (length-map (a .node-score .now) units))),
+    )
 
 enum-told : tie.Need-enum-told
 enum-told c = search needs
@@ -152,7 +161,7 @@ returns-2 c =
     let a = entry r .args in
     lists-built (a .tab .now) (a .off .now) (a .len .now) (a .score .now) (a .id .now) (lent (entry r)) (left b) (a .node-score .now)
     (r .room .ensures) (rows-lent (entry r) .scored) (entry r .pre) (b .build .ensures) (t .built .given .1)
-    (ap (built (t .built .given .0 .0)) (c .unknown-score .ensures)) (f .fill .ensures)
+    (ap (λ (x : Double). built (record { nodes = t .built .given .0 .0; unknown = x })) (c .unknown-score .ensures)) (f .fill .ensures)
 
 pub build-rows-spec : {M : Type 1} → statement M
 build-rows-spec =

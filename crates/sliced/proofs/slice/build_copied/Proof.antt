@@ -5,9 +5,10 @@ use mathlib.Core.List.{map}
 use mathlib.Core.Option.{none}
 use borrow.Author.Needs.{needs}
 use Rattle.doubles.specs.Units.{units}
-use Rattle.rows.specs.Columns.{Columns}
+use Rattle.rows.specs.Columns.{Columns, rowsOf}
 use Rattle.rows.specs.Answers.{reasonIn}
-use Rattle.build.specs.Memory.{Memory, memory}
+use Rattle.build.specs.Memory.{Memory, memory, withScores}
+use Rattle.build.proofs.Promises.{cleared-with}
 use Rattle.sliced.specs.BuildRows.{RowPlaces, rowPlaces, shortOf}
 use Rattle.sliced.specs.Copied.{firstPlaces}
 use Rattle.sliced.proofs.Copies.{short-is, copied-bad, copied-short, copied-built}
@@ -55,8 +56,11 @@ firsts e = let a = e .args in firstPlaces (a .n) (a .off .now) (a .len .now) (a 
 abbrev places : tie.Start → RowPlaces
 places e = let a = e .args in rowPlaces (a .off .now) (a .len .now) (a .score .now)
 
+abbrev bare : tie.Start → Memory
+bare e = let a = e .args in memory (a .edge-at .now) (a .edge-n .now) (a .node-id .now) (a .byte .now) (a .to .now) (a .work .now)
+
 abbrev lent : tie.Start → Memory
-lent e = let a = e .args in memory (a .edge-at .now) (a .edge-n .now) (a .node-id .now) (a .byte .now) (a .to .now) (a .work .now)
+lent e = withScores (bare e) (map units (e .args .node-score .now))
 
 -- no fault was found, and what the test of the lengths says
 
@@ -79,46 +83,7 @@ returns c =
     let e = entry (f .before .before) in
     let a = e .args in
     let is = ap reasonIn (f .found .given .1) in
-    copied-bad (a .n) (a .tab .now) (firsts e) (places e) (lent e) (map units (a .node-score .now)) is (e .pre .other _ is)
-
-enum-told : tie.Need-enum-told
-enum-told c = search needs
-
-is-short-requires : tie.Need-is-short-requires
-is-short-requires c κs = search needs
-
-refuse-short-requires : tie.Need-refuse-short-requires
-refuse-short-requires c κs = search needs
-
-same-length : tie.Need-same-length
-same-length c = search needs
-
-same-length-2 : tie.Need-same-length-2
-same-length-2 c = search needs
-
-same-length-3 : tie.Need-same-length-3
-same-length-3 c = search needs
-
-same-length-4 : tie.Need-same-length-4
-same-length-4 c = search needs
-
-same-length-5 : tie.Need-same-length-5
-same-length-5 c = search needs
-
-same-length-6 : tie.Need-same-length-6
-same-length-6 c = search needs
-
-same-length-7 : tie.Need-same-length-7
-same-length-7 c = search needs
-
-same-length-8 : tie.Need-same-length-8
-same-length-8 c = search needs
-
-same-length-9 : tie.Need-same-length-9
-same-length-9 c = search needs
-
-same-length-10 : tie.Need-same-length-10
-same-length-10 c = search needs
+    copied-bad (a .n) (a .tab .now) (rowsOf (firsts e)) (places e) (lent e) is (e .pre .other _ is)
 
 returns-2 : tie.Need-returns-2
 returns-2 c =
@@ -126,8 +91,9 @@ returns-2 c =
     let t = tested r in
     let e = begun (t .before) in
     let a = e .args in
-    copied-short (a .n) (a .tab .now) (firsts e) (places e) (lent e) (map units (a .node-score .now)) (fine (t .before .before))
-    (sym (measured (t .before)) ∙ t .if1 .taken) (r .refuse-short .ensures .0) (r .refuse-short .ensures .1) (r .refuse-short .ensures .2) (r .refuse-short .ensures .3)
+    copied-short (a .n) (a .tab .now) (rowsOf (firsts e)) (places e) (lent e) (fine (t .before .before))
+    (sym (measured (t .before)) ∙ t .if1 .taken) (r .refuse-short .ensures .0) (r .refuse-short .ensures .1)
+    (cleared-with (bare e) (map units (a .node-score .now)) (r .refuse-short .ensures .2) (r .refuse-short .ensures .3))
 
 build-first-requires : tie.Need-build-first-requires
 build-first-requires c κs =
@@ -135,39 +101,6 @@ build-first-requires c κs =
     let e = begun (t .before) in
     let roomy = sym (measured (t .before)) ∙ t .if1 .left in
     (roomy, e .pre .fine (fine (t .before .before)) roomy)
-
-clear-rows-requires : tie.Need-clear-rows-requires
-clear-rows-requires c κs = search needs
-
-same-length-11 : tie.Need-same-length-11
-same-length-11 c = search needs
-
-same-length-12 : tie.Need-same-length-12
-same-length-12 c = search needs
-
-same-length-13 : tie.Need-same-length-13
-same-length-13 c = search needs
-
-same-length-14 : tie.Need-same-length-14
-same-length-14 c = search needs
-
-same-length-15 : tie.Need-same-length-15
-same-length-15 c = search needs
-
-same-length-16 : tie.Need-same-length-16
-same-length-16 c = search needs
-
-same-length-17 : tie.Need-same-length-17
-same-length-17 c = search needs
-
-same-length-18 : tie.Need-same-length-18
-same-length-18 c = search needs
-
-same-length-19 : tie.Need-same-length-19
-same-length-19 c = search needs
-
-same-length-20 : tie.Need-same-length-20
-same-length-20 c = search needs
 
 returns-3 : tie.Need-returns-3
 returns-3 c =
@@ -178,7 +111,7 @@ returns-3 c =
     let a = e .args in
     let roomy = sym (measured (t .before)) ∙ t .if1 .left in
     let found = fine (t .before .before) in
-    copied-built (a .n) (a .tab .now) (firsts e) (places e) (lent e) (map units (a .node-score .now)) found roomy (e .pre .fine found roomy)
+    copied-built (a .n) (a .tab .now) (rowsOf (firsts e)) (places e) (lent e) found roomy (e .pre .fine found roomy)
     (b .build-first .ensures) (k .clear-rows .ensures)
 
 pub build-copied-spec : {M : Type 1} → statement M
@@ -187,30 +120,30 @@ build-copied-spec =
     (tie.spec
     enum-known-found
     returns
-    enum-told
-    is-short-requires
-    refuse-short-requires
-    same-length
-    same-length-2
-    same-length-3
-    same-length-4
-    same-length-5
-    same-length-6
-    same-length-7
-    same-length-8
-    same-length-9
-    same-length-10
+    (λ c. search needs)
+    (λ c κs. search needs)
+    (λ c κs. search needs)
+    (λ c. search needs)
+    (λ c. search needs)
+    (λ c. search needs)
+    (λ c. search needs)
+    (λ c. search needs)
+    (λ c. search needs)
+    (λ c. search needs)
+    (λ c. search needs)
+    (λ c. search needs)
+    (λ c. search needs)
     returns-2
     build-first-requires
-    clear-rows-requires
-    same-length-11
-    same-length-12
-    same-length-13
-    same-length-14
-    same-length-15
-    same-length-16
-    same-length-17
-    same-length-18
-    same-length-19
-    same-length-20
+    (λ c κs. search needs)
+    (λ c. search needs)
+    (λ c. search needs)
+    (λ c. search needs)
+    (λ c. search needs)
+    (λ c. search needs)
+    (λ c. search needs)
+    (λ c. search needs)
+    (λ c. search needs)
+    (λ c. search needs)
+    (λ c. search needs)
     returns-3)

@@ -39,27 +39,6 @@ places e = length-take-le (e .args .n) (e .args .off .now) (room e .0)
 build-rows-requires : tie.Need-build-rows-requires
 build-rows-requires c κs = let e = lent c in rw (places e) (e .pre .1)
 
-same-length : tie.Need-same-length
-same-length c = search needs
-
-same-length-2 : tie.Need-same-length-2
-same-length-2 c = search needs
-
-same-length-3 : tie.Need-same-length-3
-same-length-3 c = search needs
-
-same-length-4 : tie.Need-same-length-4
-same-length-4 c = search needs
-
-same-length-5 : tie.Need-same-length-5
-same-length-5 c = search needs
-
-same-length-6 : tie.Need-same-length-6
-same-length-6 c = search needs
-
-same-length-7 : tie.Need-same-length-7
-same-length-7 c = search needs
-
 returns : tie.Need-returns
 returns c = let b = called c in let e = lent (b .before) in rw (places e) at (b .build-rows .ensures)
 
@@ -71,11 +50,11 @@ build-first-spec =
     slice-aggregate-build-rows
     slice-aggregate-build-rows-2
     build-rows-requires
-    same-length
-    same-length-2
-    same-length-3
-    same-length-4
-    same-length-5
-    same-length-6
-    same-length-7
+    (λ c. search needs)
+    (λ c. search needs)
+    (λ c. search needs)
+    (λ c. search needs)
+    (λ c. search needs)
+    (λ c. search needs)
+    (λ c. search needs)
     returns)

@@ -12,23 +12,8 @@ use Rattle.sliced.proofs.slice.judge_row.Tie as tie
 abbrev entry : tie.After-row-fault → tie.Start
 entry c = c .before .before .before .before
 
-enum-known-found : tie.Need-enum-known-found
-enum-known-found c = search needs
-
-enum-told : tie.Need-enum-told
-enum-told c = search needs
-
-row-fault-requires : tie.Need-row-fault-requires
-row-fault-requires c κs = search needs
-
-enum-known-f : tie.Need-enum-known-f
-enum-known-f c = search needs
-
 cast-t11 : tie.Need-cast-t11
 cast-t11 c = let s = c .before .before .before .before in omega (arith, s .before .before .before .pre (ap reasonIn (s .enum-told .given .1)))
-
-enum-told-2 : tie.Need-enum-told-2
-enum-told-2 c = search needs
 
 returns : tie.Need-returns
 returns c = let f = c .before in let a = f .before .before .before .args in already (a .tab .now) (rowIs (a .row)) (a .i) (f .found .given .1)
@@ -50,12 +35,12 @@ pub judge-row-spec : {M : Type 1} → statement M
 judge-row-spec =
     tie.close
     (tie.spec
-    enum-known-found
-    enum-told
-    row-fault-requires
-    enum-known-f
+    (λ c. search needs)
+    (λ c. search needs)
+    (λ c κs. search needs)
+    (λ c. search needs)
     cast-t11
-    enum-told-2
+    (λ c. search needs)
     returns
     returns-2
     returns-3)

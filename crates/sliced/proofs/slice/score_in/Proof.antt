@@ -8,12 +8,6 @@ use borrow.Author.Needs.{needs}
 use Rattle.sliced.proofs.slice.score_in.Statement.{statement}
 use Rattle.sliced.proofs.slice.score_in.Tie as tie
 
-enum-known-worth : tie.Need-enum-known-worth
-enum-known-worth c = search needs
-
-enum-told : tie.Need-enum-told
-enum-told c = search needs
-
 returns : tie.Need-returns
 unfolding worthIs scoreOf
 returns c = sym (ap (λ (w : Worth). scoreOf (worthIs w)) (c .before .worth .given .1))
@@ -23,4 +17,4 @@ unfolding worthIs scoreOf
 returns-2 c = zero-units ∙ sym (ap (λ (w : Worth). scoreOf (worthIs w)) (c .enum-told .given .1))
 
 pub score-in-spec : {M : Type 1} → statement M
-score-in-spec = tie.close (tie.spec enum-known-worth enum-told returns returns-2)
+score-in-spec = tie.close (tie.spec (λ c. search needs) (λ c. search needs) returns returns-2)

@@ -5,15 +5,6 @@ use borrow.Author.Needs.{needs}
 use Rattle.sliced.proofs.slice.to_copy.Statement.{statement}
 use Rattle.sliced.proofs.slice.to_copy.Tie as tie
 
-enum-told : tie.Need-enum-told
-enum-told c = search needs
-
-enum-told-2 : tie.Need-enum-told-2
-enum-told-2 c = search needs
-
-is-short-requires : tie.Need-is-short-requires
-is-short-requires c κs = search needs
-
 returns : tie.Need-returns
 returns c = copies-none _ (c .before .before .args .n) (c .enum-told .given .1)
 
@@ -25,4 +16,4 @@ returns-3 c = let s = c .before in let t = s .before in copies (t .before .befor
 
 pub to-copy-spec : {M : Type 1} → statement M
 to-copy-spec =
-    tie.close (tie.spec enum-told enum-told-2 is-short-requires returns returns-2 returns-3)
+    tie.close (tie.spec (λ c. search needs) (λ c. search needs) (λ c κs. search needs) returns returns-2 returns-3)
