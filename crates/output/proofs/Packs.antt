@@ -82,11 +82,11 @@ zeros (suc n) z e = ap₂ _∷_ e (zeros n z e)
 
 -- the memory that the program lends
 pub lent-built :
-    {pack : List ℕ} {answer : PackAnswer} {after : Memory} (z : Float) → units z ≡ plusZero
+    (pack : List ℕ) (answer : PackAnswer) {after : Memory} (z : Float) → units z ≡ plusZero
     → PackBuilt pack (withScores (memory places places places places places (replicate 8_192 0)) (map units (replicate 4_096 z))) answer after
     → PackBuilt pack lentMemory answer after
 unfolding lentMemory
-lent-built {pack = pack} {answer = answer} {after = after} z e b =
+lent-built pack answer {after = after} z e b =
     subst (λ (ys : List Double). PackBuilt pack (withScores (memory places places places places places (replicate 8_192 0)) ys) answer after) (zeros 4_096 z e) b
 
 lent-nodes : (pack : List ℕ) → packFault pack lentMemory ≡ none → nodesOf (theKind pack) pack ≤ 4_096

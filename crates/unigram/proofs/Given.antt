@@ -19,10 +19,10 @@ use Rattle.trie.specs.Trie.{walk, idAt}
 use Rattle.trie.specs.Sound.{SoundScored}
 use Rattle.trie.proofs.Walking.{walk-inside}
 use Rattle.cutting.specs.Cuttings.{Piece, nth}
-use Rattle.cutting.specs.Records.{standsAt}
+use Rattle.cutting.specs.Records.{best, standsAt}
 use Rattle.unigram.specs.Pieces.{Model, pieceAt, known, pieceHere, pieceOf, listed, rule}
 use Rattle.cutting.proofs.Lists.{below-or}
-use Rattle.cutting.proofs.Working.{Pieces, no-piece, true-false}
+use Rattle.cutting.proofs.Working.{Pieces, no-piece, true-false, absent, none-before, unchanged}
 use Rattle.cutting.proofs.Best.{zero-number, total-number}
 use Rattle.cutting.proofs.Reaching.{Reach, all-stand}
 
@@ -148,6 +148,17 @@ module _ (m : Model) (s : List ℕ) (well : wellFormed s ≡ true) (sound : Soun
   -- something stands at every boundary
   pub boundary-stands : (j : ℕ) → j ≤ length s → boundary s j ≡ true → (x : Double) × (standsAt (rule m s) j ≡ some x)
   boundary-stands = all-stand given reach (λ j c. total-number given c)
+
+  -- where no piece ends the record stays empty: at 0, and inside characters
+  ends-empty : (from j : ℕ) → ((i k : ℕ) (p : Piece) → nth (rule m s .pieces i j) k ≡ some p → ⊥) → best (rule m s) from j ≡ none
+  ends-empty from j no-such =
+      unchanged (rule m s) 0 from j (omega arith) (λ i l h. absent (rule m s .pieces i j) (no-such i)) ∙ none-before (rule m s) j
+
+  pub first-empty : (from : ℕ) → best (rule m s) from 0 ≡ none
+  first-empty from = ends-empty from 0 (λ i k p e. omega (arith, given .forward i 0 k p e))
+
+  pub within-empty : (from j : ℕ) → boundary s j ≡ false → best (rule m s) from j ≡ none
+  within-empty from j e = ends-empty from j (λ i k p h. true-false (reach .to i j k p h) e)
 
   -- no piece starts elsewhere
   pub starts-on : (i j k : ℕ) (p : Piece) → nth (rule m s .pieces i j) k ≡ some p → boundary s i ≡ true

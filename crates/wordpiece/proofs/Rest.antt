@@ -80,7 +80,7 @@ module _ (find : List ℕ → Option ℕ) (w : List ℕ) (i : ℕ) where
 module _ (find : List ℕ → Option ℕ) (prefix w : List ℕ) where
   pub pieces-empty : length w ≡ 0 → piecesOf find prefix w ≡ some []
   unfolding piecesOf
-  pieces-empty e = pieces-end find prefix w (length w) [] 0 (sym e)
+  pieces-empty e = pieces-end find _ w (length w) _ 0 (sym e)
 
   module _ (some-byte : 0 < length w) where
     -- by what the first piece is

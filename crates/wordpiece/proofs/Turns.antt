@@ -1,17 +1,16 @@
--- The pieces of a word, turn by turn; and two look-ups that agree on what stands after their prefixes find the same pieces, so
--- that a word has the same ids over both. By induction on the bound: each turn finds the same longest piece and goes on alike.
--- Assumes nothing.
-use mathlib.Core.Path.{_≡_, refl, sym, ap, _∙_}
-use mathlib.Core.Bool.{Bool, true, false, cond}
-use mathlib.Core.List.{List, [], _∷_, _++_}
+-- The pieces of a word, turn by turn; and two look-ups that agree on what stands after their prefixes find the same
+-- pieces. By induction on the bound: each turn finds the same longest piece and goes on alike. Assumes nothing.
+use mathlib.Core.Path.{_≡_, refl, sym, ap, fun-ext, _∙_}
+use mathlib.Core.Bool.{Bool, true, false}
+use mathlib.Core.List.{List, [], _++_}
 use mathlib.Core.Option.{Option, none, some}
 use Prim.Native.Nat.{ℕ, zero, suc, _<_}
 use native.Mathlib.Omega.{arith}
 use borrow.Author.Tests.{eq-eqb, ne-eqb}
-use lib.Dec.{ltb, eqb}
+use lib.Dec.{eqb}
 use lib.ListN.{length}
-use Rattle.text.specs.Text.{characters, part}
-use Rattle.wordpiece.specs.Pieces.{Found, longestTo, before, piecesFrom, piecesOf, orUnknown, idsOf}
+use Rattle.text.specs.Text.{part}
+use Rattle.wordpiece.specs.Pieces.{Found, longestTo, before, piecesFrom, idsOf}
 use Rattle.wordpiece.proofs.Longest.{piece-is, longest-more}
 
 -- ---- one turn
@@ -72,9 +71,6 @@ module _ (f g : List ℕ → Option ℕ) (w : List ℕ) where
       ∙ ap (λ (o : Option Found). turn (eqb i (length w)) o (piecesFrom g q w n q)) (longest-same at to first i (length w))
       ∙ sym (pieces-turn g q w n to i)
 
--- so look-ups that agree give a word the same ids
+-- look-ups that agree on every string give a word the same ids
 pub ids-same : (f g : List ℕ → Option ℕ) → ((s : List ℕ) → f s ≡ g s) → (unknown maxChars : ℕ) (prefix w : List ℕ) → idsOf f unknown maxChars prefix w ≡ idsOf g unknown maxChars prefix w
-unfolding idsOf piecesOf
-ids-same f g h unknown maxChars prefix w =
-    ap (λ (o : Option (List ℕ)). cond (ltb maxChars (characters w)) (unknown ∷ []) (orUnknown unknown o))
-    (pieces-same f g w prefix prefix [] [] (λ s. h (prefix ++ s)) h (suc (length w)) 0)
+ids-same f g h unknown maxChars prefix w = ap (λ (find : List ℕ → Option ℕ). idsOf find unknown maxChars prefix w) (fun-ext h)

@@ -35,7 +35,7 @@ print-built-requires c κs =
     let kept = b .build .kept in (
       record {
         work = b .build .last .1 .1 .1 .1 .1 .1 .1 .0;
-        built = lent-built _ zero-units (b .build .ensures);
+        built = lent-built (entry b .args .pack .now) (b .build .result) _ zero-units (b .build .ensures);
         small = tested b .if1 .left;
         starts = kept .1 .0 ∙ n;
         counts = kept .1 .1 .0 ∙ n;

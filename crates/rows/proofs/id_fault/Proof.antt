@@ -6,12 +6,6 @@ use Rattle.rows.proofs.RowFaults.{no-id, real-id, mark-id}
 use Rattle.rows.proofs.id_fault.Statement.{statement}
 use Rattle.rows.proofs.id_fault.Tie as tie
 
-enum-known-worth : tie.Need-enum-known-worth
-enum-known-worth c = search needs
-
-enum-told : tie.Need-enum-told
-enum-told c = search needs
-
 returns : tie.Need-returns
 returns c = sym (no-id (c .enum-told .given .1))
 
@@ -22,4 +16,4 @@ returns-3 : tie.Need-returns-3
 returns-3 c = let known = c .before .before in sym (real-id (known .worth .given .1) (c .if1 .left))
 
 pub id-fault-spec : {M : Type 1} → statement M
-id-fault-spec = tie.close (tie.spec enum-known-worth enum-told returns returns-2 returns-3)
+id-fault-spec = tie.close (tie.spec (λ c. search needs) (λ c. search needs) returns returns-2 returns-3)

@@ -56,9 +56,6 @@ worth-left c =
     let a = begun v .args in
     fault-worth (a .kind) (a .tab .now) (rowIs (a .row)) (inside (ended (sized v))) (omega arith) (omega (arith, valid-is v, long v))
 
-is-outside-requires : tie.Need-is-outside-requires
-is-outside-requires c κs = search needs
-
 returns : tie.Need-returns
 unfolding rowIs
 returns c =
@@ -74,27 +71,12 @@ returns-2 c =
 span-requires : tie.Need-span-requires
 span-requires c κs = inside (ended c)
 
-valid-up-to-requires : tie.Need-valid-up-to-requires
-valid-up-to-requires c κs = search needs
-
 returns-3 : tie.Need-returns-3
 unfolding rowIs
 returns-3 c =
     let v = c .before in
     let a = begun v .args in
     sym (fault-text (a .kind) (a .tab .now) (rowIs (a .row)) (inside (ended (sized v))) (omega arith) (omega (arith, valid-is v, long v)))
-
-enum-told : tie.Need-enum-told
-enum-told c = search needs
-
-score-fault-requires : tie.Need-score-fault-requires
-score-fault-requires c κs = search needs
-
-enum-told-2 : tie.Need-enum-told-2
-enum-told-2 c = search needs
-
-id-fault-requires : tie.Need-id-fault-requires
-id-fault-requires c κs = search needs
 
 returns-4 : tie.Need-returns-4
 returns-4 c =
@@ -114,15 +96,15 @@ pub row-fault-spec : {M : Type 1} → statement M
 row-fault-spec =
     tie.close
     (tie.spec
-    is-outside-requires
+    (λ c κs. search needs)
     returns
     returns-2
     span-requires
-    valid-up-to-requires
+    (λ c κs. search needs)
     returns-3
-    enum-told
-    score-fault-requires
-    enum-told-2
-    id-fault-requires
+    (λ c. search needs)
+    (λ c κs. search needs)
+    (λ c. search needs)
+    (λ c κs. search needs)
     returns-4
     returns-5)

@@ -9,17 +9,8 @@ use Rattle.rows.proofs.score_fault.Tie as tie
 abbrev scored : tie.After-is-finite → tie.After-worth
 scored c = c .before .before
 
-enum-known-worth : tie.Need-enum-known-worth
-enum-known-worth c = search needs
-
-enum-told : tie.Need-enum-told
-enum-told c = search needs
-
 returns : tie.Need-returns
 returns c = sym (no-score (c .enum-told .given .1))
-
-is-finite-requires : tie.Need-is-finite-requires
-is-finite-requires c κs = search needs
 
 returns-2 : tie.Need-returns-2
 returns-2 c = let asked = c .before in sym (finite-score (scored asked .worth .given .1) (sym (asked .is-finite .ensures) ∙ c .if1 .taken))
@@ -29,4 +20,4 @@ returns-3 c = let asked = c .before in sym (endless-score (scored asked .worth .
 
 pub score-fault-spec : {M : Type 1} → statement M
 score-fault-spec =
-    tie.close (tie.spec enum-known-worth enum-told returns is-finite-requires returns-2 returns-3)
+    tie.close (tie.spec (λ c. search needs) (λ c. search needs) returns (λ c κs. search needs) returns-2 returns-3)

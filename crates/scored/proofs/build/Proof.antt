@@ -54,15 +54,6 @@ found-is j = sym (j .judge .ensures)
 fine : (c : tie.After-enum-told) → columnsFault Unigram (entry (c .before .before) .args .tab .now) (lists (entry (c .before .before))) ≡ none
 fine c = found-is (c .before .before) ∙ ap reasonIn (c .enum-told .given .1)
 
-judge-requires : tie.Need-judge-requires
-judge-requires c κs = search needs
-
-enum-known-found : tie.Need-enum-known-found
-enum-known-found c = search needs
-
-enum-told : tie.Need-enum-told
-enum-told c = search needs
-
 build-rows-requires : tie.Need-build-rows-requires
 build-rows-requires c κs =
     let t = c .before .before .before .before .before .before .before in
@@ -78,27 +69,6 @@ returns c =
     let is = found-is j ∙ ap reasonIn (bound .found .given .1) in
     built-bad Unigram (e .args .tab .now) (rowsOf (lists e)) _ (lent e) is (columns-not-room Unigram (e .args .tab .now) (lists e) _ is)
 
-same-length : tie.Need-same-length
-same-length c = search needs
-
-same-length-2 : tie.Need-same-length-2
-same-length-2 c = search needs
-
-same-length-3 : tie.Need-same-length-3
-same-length-3 c = search needs
-
-same-length-4 : tie.Need-same-length-4
-same-length-4 c = search needs
-
-same-length-5 : tie.Need-same-length-5
-same-length-5 c = search needs
-
-same-length-6 : tie.Need-same-length-6
-same-length-6 c = search needs
-
-same-length-7 : tie.Need-same-length-7
-same-length-7 c = search needs
-
 returns-2 : tie.Need-returns-2
 returns-2 c =
     let b = called c in
@@ -111,16 +81,16 @@ pub build-spec : {M : Type 1} → statement M
 build-spec =
     tie.close
     (tie.spec
-    judge-requires
-    enum-known-found
-    enum-told
+    (λ c κs. search needs)
+    (λ c. search needs)
+    (λ c. search needs)
     build-rows-requires
     returns
-    same-length
-    same-length-2
-    same-length-3
-    same-length-4
-    same-length-5
-    same-length-6
-    same-length-7
+    (λ c. search needs)
+    (λ c. search needs)
+    (λ c. search needs)
+    (λ c. search needs)
+    (λ c. search needs)
+    (λ c. search needs)
+    (λ c. search needs)
     returns-2)

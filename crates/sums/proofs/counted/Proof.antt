@@ -18,12 +18,6 @@ loop-holds c = omega arith
 sub-left : tie.Need-sub-left Inv-loop μ-loop
 sub-left c = omega arith
 
-read-line-requires : tie.Need-read-line-requires Inv-loop μ-loop
-read-line-requires c κs = search needs
-
-enum-told : tie.Need-enum-told Inv-loop μ-loop
-enum-told c = search needs
-
 add-agree : tie.Need-add-agree Inv-loop μ-loop
 add-agree c = omega arith
 
@@ -32,9 +26,6 @@ loop-less c = omega arith
 
 loop-again : tie.Need-loop-again Inv-loop μ-loop
 loop-again c = omega arith
-
-enum-told-2 : tie.Need-enum-told-2 Inv-loop μ-loop
-enum-told-2 c = search needs
 
 add-differ : tie.Need-add-differ Inv-loop μ-loop
 add-differ c = omega arith
@@ -45,15 +36,6 @@ loop-less-2 c = omega arith
 loop-again-2 : tie.Need-loop-again-2 Inv-loop μ-loop
 loop-again-2 c = omega arith
 
-enum-told-3 : tie.Need-enum-told-3 Inv-loop μ-loop
-enum-told-3 c = search needs
-
-returns : tie.Need-returns Inv-loop μ-loop
-returns c = search needs
-
-returns-2 : tie.Need-returns-2 Inv-loop μ-loop
-returns-2 c = search needs
-
 pub counted-spec : {M : Type 1} → statement M
 counted-spec =
     tie.close
@@ -62,15 +44,15 @@ counted-spec =
     μ-loop
     loop-holds
     sub-left
-    read-line-requires
-    enum-told
+    (λ c κs. search needs)
+    (λ c. search needs)
     add-agree
     loop-less
     loop-again
-    enum-told-2
+    (λ c. search needs)
     add-differ
     loop-less-2
     loop-again-2
-    enum-told-3
-    returns
-    returns-2)
+    (λ c. search needs)
+    (λ c. search needs)
+    (λ c. search needs))

@@ -18,12 +18,6 @@ loop-holds c = omega arith
 add-digit : tie.Need-add-digit Inv-loop μ-loop
 add-digit c = omega arith
 
-element-copy-out-digit : tie.Need-element-copy-out-digit Inv-loop μ-loop
-element-copy-out-digit c = search needs
-
-digit-requires : tie.Need-digit-requires Inv-loop μ-loop
-digit-requires c κs = search needs
-
 add-i : tie.Need-add-i Inv-loop μ-loop
 add-i c = omega arith
 
@@ -33,10 +27,7 @@ loop-less c = omega arith
 loop-again : tie.Need-loop-again Inv-loop μ-loop
 loop-again c = omega arith
 
-returns : tie.Need-returns Inv-loop μ-loop
-returns c = search needs
-
 pub word-spec : {M : Type 1} → statement M
 word-spec =
     tie.close
-    (tie.spec Inv-loop μ-loop loop-holds add-digit element-copy-out-digit digit-requires add-i loop-less loop-again returns)
+    (tie.spec Inv-loop μ-loop loop-holds add-digit (λ c. search needs) (λ c κs. search needs) add-i loop-less loop-again (λ c. search needs))

@@ -6,17 +6,8 @@ use Rattle.text.proofs.Spans.{nothing-taken}
 use Rattle.text.proofs.nothing.Statement.{statement}
 use Rattle.text.proofs.nothing.Tie as tie
 
-sub-result : tie.Need-sub-result
-sub-result c = search needs
-
-part-result-start : tie.Need-part-result-start
-part-result-start c = search needs
-
-part-result-end : tie.Need-part-result-end
-part-result-end c = search needs
-
 returns : tie.Need-returns
 returns c = record { gave = search nothing-taken; block = refl; stands = zero-add (c .before .args .tab .ptr .1) }
 
 pub nothing-spec : {M : Type 1} → statement M
-nothing-spec = tie.close (tie.spec sub-result part-result-start part-result-end returns)
+nothing-spec = tie.close (tie.spec (λ c. search needs) (λ c. search needs) (λ c. search needs) returns)

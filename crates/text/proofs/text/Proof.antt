@@ -20,24 +20,12 @@ fault c = spanFault (c .args .tab .now) (c .args .off) (c .args .len)
 accepted : (c : tie.After-enum-told2) → fault (start (c .before .before)) ≡ none
 accepted c = accepted-none (c .before .before .text-answer .ensures) (c .enum-told2 .given .1)
 
-text-answer-requires : tie.Need-text-answer-requires
-text-answer-requires c κs = search needs
-
-enum-told : tie.Need-enum-told
-enum-told c = search needs
-
-nothing-requires : tie.Need-nothing-requires
-nothing-requires c κs = search needs
-
 returns : tie.Need-returns
 returns c =
     let told = c .before in
     let asked = told .before .before in
     let f = told .enum-told .given .0 .0 in
     nothing-given _ f (refused-fault (asked .text-answer .ensures) f (told .enum-told .given .1)) (c .nothing .ensures)
-
-enum-told-2 : tie.Need-enum-told-2
-enum-told-2 c = search needs
 
 span-requires : tie.Need-span-requires
 span-requires c κs = let a = start (c .before .before) .args in accepted-inside (a .tab .now) (a .off) (a .len) (accepted c)
@@ -49,10 +37,10 @@ pub text-spec : {M : Type 1} → statement M
 text-spec =
     tie.close
     (tie.spec
-    text-answer-requires
-    enum-told
-    nothing-requires
+    (λ c κs. search needs)
+    (λ c. search needs)
+    (λ c κs. search needs)
     returns
-    enum-told-2
+    (λ c. search needs)
     span-requires
     returns-2)

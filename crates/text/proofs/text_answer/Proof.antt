@@ -40,9 +40,6 @@ returns c =
     let a = c .before .before .args in
     record { answered = sym (ap answerOf (fault-size (a .tab .now) (a .off) (a .len) (omega arith))) }
 
-is-outside-requires : tie.Need-is-outside-requires
-is-outside-requires c κs = search needs
-
 returns-2 : tie.Need-returns-2
 unfolding answerOf
 returns-2 c =
@@ -52,9 +49,6 @@ returns-2 c =
 
 span-requires : tie.Need-span-requires
 span-requires c κs = inside c
-
-valid-up-to-requires : tie.Need-valid-up-to-requires
-valid-up-to-requires c κs = search needs
 
 returns-3 : tie.Need-returns-3
 unfolding answerOf
@@ -76,4 +70,4 @@ returns-4 c =
 
 pub text-answer-spec : {M : Type 1} → statement M
 text-answer-spec =
-    tie.close (tie.spec returns is-outside-requires returns-2 span-requires valid-up-to-requires returns-3 returns-4)
+    tie.close (tie.spec returns (λ c κs. search needs) returns-2 span-requires (λ c κs. search needs) returns-3 returns-4)

@@ -31,9 +31,6 @@ tested c = sym (c .before .sound-scored .ensures) ∙ not-false _ (c .if2 .left)
 returns : tie.Need-returns
 returns c = let e = entry (c .before) in refused-for (fault-size (e .args .text .now) _ (omega arith))
 
-sound-scored-requires : tie.Need-sound-scored-requires
-sound-scored-requires c κs = search needs
-
 returns-2 : tie.Need-returns-2
 returns-2 c = refused-unsound (omega arith) (sym (c .before .sound-scored .ensures) ∙ not-true _ (c .if2 .taken))
 
@@ -44,4 +41,4 @@ returns-3 : tie.Need-returns-3
 returns-3 c = looked-sound (tested (c .before)) (c .look-up .ensures)
 
 pub exact-spec : {M : Type 1} → statement M
-exact-spec = tie.close (tie.spec returns sound-scored-requires returns-2 look-up-requires returns-3)
+exact-spec = tie.close (tie.spec returns (λ c κs. search needs) returns-2 look-up-requires returns-3)

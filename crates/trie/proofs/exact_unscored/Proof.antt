@@ -29,9 +29,6 @@ tested c = sym (c .before .sound .ensures) ∙ not-false _ (c .if2 .left)
 returns : tie.Need-returns
 returns c = let e = entry (c .before) in refused-for (fault-size (e .args .text .now) _ (omega arith))
 
-sound-requires : tie.Need-sound-requires
-sound-requires c κs = search needs
-
 returns-2 : tie.Need-returns-2
 returns-2 c = refused-unsound (omega arith) (sym (c .before .sound .ensures) ∙ not-true _ (c .if2 .taken))
 
@@ -42,4 +39,4 @@ returns-3 : tie.Need-returns-3
 returns-3 c = looked-sound (tested (c .before)) (c .look-up .ensures)
 
 pub exact-unscored-spec : {M : Type 1} → statement M
-exact-unscored-spec = tie.close (tie.spec returns sound-requires returns-2 look-up-requires returns-3)
+exact-unscored-spec = tie.close (tie.spec returns (λ c κs. search needs) returns-2 look-up-requires returns-3)

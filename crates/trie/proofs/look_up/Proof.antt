@@ -22,9 +22,6 @@ accepted c =
     let e = entry (c .before) in
     fault-none (e .args .s .now) (e .pre .1) (omega (arith, c .before .valid-up-to .ensures, c .if1 .left))
 
-valid-up-to-requires : tie.Need-valid-up-to-requires
-valid-up-to-requires c κs = search needs
-
 returns : tie.Need-returns
 returns c =
     let e = entry (c .before) in
@@ -32,12 +29,6 @@ returns c =
 
 exact-requires : tie.Need-exact-requires
 exact-requires c κs = entry (c .before) .pre .0
-
-enum-known-i : tie.Need-enum-known-i
-enum-known-i c = search needs
-
-enum-told : tie.Need-enum-told
-enum-told c = search needs
 
 returns-2 : tie.Need-returns-2
 unfolding found
@@ -56,10 +47,10 @@ pub look-up-spec : {M : Type 1} → statement M
 look-up-spec =
     tie.close
     (tie.spec
-    valid-up-to-requires
+    (λ c κs. search needs)
     returns
     exact-requires
-    enum-known-i
-    enum-told
+    (λ c. search needs)
+    (λ c. search needs)
     returns-2
     returns-3)

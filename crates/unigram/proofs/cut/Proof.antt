@@ -68,12 +68,6 @@ free c =
     let e = begun c in
     fault-none (model e) (text e) (columns e) (e .pre) (enough c) (omega (arith, c .if2 .left, w .characters .ensures))
 
-characters-requires : tie.Need-characters-requires
-characters-requires c κs = search needs
-
-short-scratch-requires : tie.Need-short-scratch-requires
-short-scratch-requires c κs = search needs
-
 returns : tie.Need-returns
 returns c =
     let e = entry (c .before .before) in
@@ -94,21 +88,6 @@ segment-requires c κs =
     let a = e .args in
     prepared-for (a .start .now) (a .slot-id .now) (a .slot-score .now) (a .path .now) (a .ids .now) (e .pre) (enough t) (omega (arith, t .if2 .left, w .characters .ensures))
 
-same-length : tie.Need-same-length
-same-length c = search needs
-
-same-length-2 : tie.Need-same-length-2
-same-length-2 c = search needs
-
-same-length-3 : tie.Need-same-length-3
-same-length-3 c = search needs
-
-same-length-4 : tie.Need-same-length-4
-same-length-4 c = search needs
-
-same-length-5 : tie.Need-same-length-5
-same-length-5 c = search needs
-
 returns-3 : tie.Need-returns-3
 returns-3 c =
     let g = cutting c in
@@ -120,14 +99,14 @@ pub cut-spec : {M : Type 1} → statement M
 cut-spec =
     tie.close
     (tie.spec
-    characters-requires
-    short-scratch-requires
+    (λ c κs. search needs)
+    (λ c κs. search needs)
     returns
     returns-2
     segment-requires
-    same-length
-    same-length-2
-    same-length-3
-    same-length-4
-    same-length-5
+    (λ c. search needs)
+    (λ c. search needs)
+    (λ c. search needs)
+    (λ c. search needs)
+    (λ c. search needs)
     returns-3)

@@ -68,9 +68,6 @@ fine c = found-is (c .before .before) ∙ ap reasonIn (c .enum-told .given .1)
 judge-requires : tie.Need-judge-requires
 judge-requires c κs = search needs
 
-enum-known-found : tie.Need-enum-known-found
-enum-known-found c = search needs
-
 returns : tie.Need-returns
 unfolding promise.told
 returns c =
@@ -80,12 +77,6 @@ returns c =
     let is = found-is j ∙ ap reasonIn (bound .found .given .1) in
     built-bad WordPiece (e .args .tab .now) (rowsOf (lists e)) _ (lent e) is (columns-not-room WordPiece (e .args .tab .now) (lists e) _ is)
 
-enum-told : tie.Need-enum-told
-enum-told c = search needs
-
-room-requires : tie.Need-room-requires
-room-requires c κs = search needs
-
 build-requires : tie.Need-build-requires
 build-requires c κs =
     let r = c .before .before .before .before .before .before in
@@ -94,36 +85,12 @@ build-requires c κs =
       subst (λ (n : ℕ). RoomFor n (lent e)) (sym (r .room .ensures)) (room-is (lent e)),
     )
 
-enum-told-2 : tie.Need-enum-told-2
-enum-told-2 c = search needs
-
-enum-known-built : tie.Need-enum-known-built
-enum-known-built c = search needs
-
 cast-t46 : tie.Need-cast-t46
 cast-t46 c =
     let bound = c .before in
     let b = called (bound .before .before) in
     let r = measured b in
     omega (arith, core-room (b .build .ensures) (bound .built .given .1), r .room .ensures, room-is (lent (begun r)) .small)
-
-same-length : tie.Need-same-length
-same-length c = search needs
-
-same-length-2 : tie.Need-same-length-2
-same-length-2 c = search needs
-
-same-length-3 : tie.Need-same-length-3
-same-length-3 c = search needs
-
-same-length-4 : tie.Need-same-length-4
-same-length-4 c = search needs
-
-same-length-5 : tie.Need-same-length-5
-same-length-5 c = search needs
-
-same-length-6 : tie.Need-same-length-6
-same-length-6 c = search needs
 
 returns-2 : tie.Need-returns-2
 returns-2 c =
@@ -133,24 +100,6 @@ returns-2 c =
     let a = e .args in
     lists-full (a .tab .now) (a .off .now) (a .len .now) (a .id .now) (lent e) (left b) (r .room .ensures) (b .build .ensures)
     (a .scored .now) (a .score .now) (fine (told r)) (c .enum-told2 .given .1)
-
-same-length-7 : tie.Need-same-length-7
-same-length-7 c = search needs
-
-same-length-8 : tie.Need-same-length-8
-same-length-8 c = search needs
-
-same-length-9 : tie.Need-same-length-9
-same-length-9 c = search needs
-
-same-length-10 : tie.Need-same-length-10
-same-length-10 c = search needs
-
-same-length-11 : tie.Need-same-length-11
-same-length-11 c = search needs
-
-same-length-12 : tie.Need-same-length-12
-same-length-12 c = search needs
 
 returns-3 : tie.Need-returns-3
 returns-3 c =
@@ -167,25 +116,25 @@ from-rows-spec =
     tie.close
     (tie.spec
     judge-requires
-    enum-known-found
+    (λ c. search needs)
     returns
-    enum-told
-    room-requires
+    (λ c. search needs)
+    (λ c κs. search needs)
     build-requires
-    enum-told-2
-    enum-known-built
+    (λ c. search needs)
+    (λ c. search needs)
     cast-t46
-    same-length
-    same-length-2
-    same-length-3
-    same-length-4
-    same-length-5
-    same-length-6
+    (λ c. search needs)
+    (λ c. search needs)
+    (λ c. search needs)
+    (λ c. search needs)
+    (λ c. search needs)
+    (λ c. search needs)
     returns-2
-    same-length-7
-    same-length-8
-    same-length-9
-    same-length-10
-    same-length-11
-    same-length-12
+    (λ c. search needs)
+    (λ c. search needs)
+    (λ c. search needs)
+    (λ c. search needs)
+    (λ c. search needs)
+    (λ c. search needs)
     returns-3)

@@ -58,9 +58,6 @@ works c = c .enter-rows .last .1 .1 .1 .1 .1 .1 .1 .0
 abbrev rows : tie.After-enter-rows → List Row
 rows c = let a = entry c .args in given (a .off .now) (a .len .now) (a .ids .now)
 
-enter-rows-requires : tie.Need-enter-rows-requires
-enter-rows-requires c κs = search needs
-
 finish-requires : tie.Need-finish-requires
 finish-requires c κs =
     let f = entered (lent c) in
@@ -75,24 +72,6 @@ finish-requires c κs =
           room-kept (a .edge-at .now) (a .edge-n .now) (a .id .now) (a .byte .now) (a .to .now) (a .work .now) (edges f) (marks f) (works f) (l .0)
           (l .1 .0) (l .1 .1 .0) (a .room) (s .pre .1);
     }
-
-same-length : tie.Need-same-length
-same-length c = search needs
-
-same-length-2 : tie.Need-same-length-2
-same-length-2 c = search needs
-
-same-length-3 : tie.Need-same-length-3
-same-length-3 c = search needs
-
-same-length-4 : tie.Need-same-length-4
-same-length-4 c = search needs
-
-same-length-5 : tie.Need-same-length-5
-same-length-5 c = search needs
-
-same-length-6 : tie.Need-same-length-6
-same-length-6 c = search needs
 
 returns : tie.Need-returns
 returns c =
@@ -110,12 +89,12 @@ pub build-spec : {M : Type 1} → statement M
 build-spec =
     tie.close
     (tie.spec
-    enter-rows-requires
+    (λ c κs. search needs)
     finish-requires
-    same-length
-    same-length-2
-    same-length-3
-    same-length-4
-    same-length-5
-    same-length-6
+    (λ c. search needs)
+    (λ c. search needs)
+    (λ c. search needs)
+    (λ c. search needs)
+    (λ c. search needs)
+    (λ c. search needs)
     returns)

@@ -5,30 +5,6 @@ use borrow.Author.Needs.{needs}
 use Rattle.build.proofs.core.room.Statement.{statement}
 use Rattle.build.proofs.core.room.Tie as tie
 
-least-requires : tie.Need-least-requires
-least-requires c κs = search needs
-
-add-least : tie.Need-add-least
-add-least c = search needs
-
-least-requires-2 : tie.Need-least-requires-2
-least-requires-2 c κs = search needs
-
-least-requires-3 : tie.Need-least-requires-3
-least-requires-3 c κs = search needs
-
-add-least-2 : tie.Need-add-least-2
-add-least-2 c = search needs
-
-least-requires-4 : tie.Need-least-requires-4
-least-requires-4 c κs = search needs
-
-least-requires-5 : tie.Need-least-requires-5
-least-requires-5 c κs = search needs
-
-least-requires-6 : tie.Need-least-requires-6
-least-requires-6 c κs = search needs
-
 abbrev nodes-least : tie.After-least6 → tie.After-least4
 nodes-least c = c .before .before
 
@@ -47,12 +23,12 @@ pub room-spec : {M : Type 1} → statement M
 room-spec =
     tie.close
     (tie.spec
-    least-requires
-    add-least
-    least-requires-2
-    least-requires-3
-    add-least-2
-    least-requires-4
-    least-requires-5
-    least-requires-6
+    (λ c κs. search needs)
+    (λ c. search needs)
+    (λ c κs. search needs)
+    (λ c κs. search needs)
+    (λ c. search needs)
+    (λ c κs. search needs)
+    (λ c κs. search needs)
+    (λ c κs. search needs)
     returns)

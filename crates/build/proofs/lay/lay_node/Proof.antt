@@ -66,38 +66,11 @@ lay-children-requires c κs =
       room-to = p .room-to;
     }
 
-cast-edge-at : tie.Need-cast-edge-at
-cast-edge-at c = search needs
-
-mul-edge-at : tie.Need-mul-edge-at
-mul-edge-at c = search needs
-
-slice-write-edge-at : tie.Need-slice-write-edge-at
-slice-write-edge-at c = search needs
-
 sub-edge-n : tie.Need-sub-edge-n
 sub-edge-n c = size (called c) .0
 
 cast-edge-n : tie.Need-cast-edge-n
 cast-edge-n c = omega (arith, size (called c))
-
-mul-edge-n : tie.Need-mul-edge-n
-mul-edge-n c = search needs
-
-slice-write-edge-n : tie.Need-slice-write-edge-n
-slice-write-edge-n c = search needs
-
-same-length : tie.Need-same-length
-same-length c = search needs
-
-same-length-2 : tie.Need-same-length-2
-same-length-2 c = search needs
-
-same-length-3 : tie.Need-same-length-3
-same-length-3 c = search needs
-
-same-length-4 : tie.Need-same-length-4
-same-length-4 c = search needs
 
 returns : tie.Need-returns
 returns c =
@@ -115,15 +88,15 @@ lay-node-spec =
     tie.close
     (tie.spec
     lay-children-requires
-    cast-edge-at
-    mul-edge-at
-    slice-write-edge-at
+    (λ c. search needs)
+    (λ c. search needs)
+    (λ c. search needs)
     sub-edge-n
     cast-edge-n
-    mul-edge-n
-    slice-write-edge-n
-    same-length
-    same-length-2
-    same-length-3
-    same-length-4
+    (λ c. search needs)
+    (λ c. search needs)
+    (λ c. search needs)
+    (λ c. search needs)
+    (λ c. search needs)
+    (λ c. search needs)
     returns)

@@ -33,15 +33,6 @@ known c = let k = c .before .before in k .before .before
 abbrev entry : tie.After-zero32 → tie.Start
 entry c = let k = known c .before .before in k .before
 
-zero32-requires : tie.Need-zero32-requires
-zero32-requires c κs = search needs
-
-zero8-requires : tie.Need-zero8-requires
-zero8-requires c κs = search needs
-
-zero32-requires-2 : tie.Need-zero32-requires-2
-zero32-requires-2 c κs = search needs
-
 lay-all-requires : tie.Need-lay-all-requires
 lay-all-requires c κs =
     let t = to-zero c in
@@ -50,24 +41,6 @@ lay-all-requires c κs =
     let a = entry e .args in
     ready-again (a .edge-at .now) (a .edge-n .now) (a .byte .now) (a .to .now) (a .work .now) (a .n) (e .zero32 .last .0) (b .zero8 .last .0)
     (t .zero322 .last .0) (entry e .pre .ready) (e .zero32 .ensures) (b .zero8 .ensures) (t .zero322 .ensures)
-
-zero32-requires-3 : tie.Need-zero32-requires-3
-zero32-requires-3 c κs = search needs
-
-same-length : tie.Need-same-length
-same-length c = search needs
-
-same-length-2 : tie.Need-same-length-2
-same-length-2 c = search needs
-
-same-length-3 : tie.Need-same-length-3
-same-length-3 c = search needs
-
-same-length-4 : tie.Need-same-length-4
-same-length-4 c = search needs
-
-same-length-5 : tie.Need-same-length-5
-same-length-5 c = search needs
 
 returns : tie.Need-returns
 returns c =
@@ -89,14 +62,14 @@ pub lay-out-spec : {M : Type 1} → statement M
 lay-out-spec =
     tie.close
     (tie.spec
-    zero32-requires
-    zero8-requires
-    zero32-requires-2
+    (λ c κs. search needs)
+    (λ c κs. search needs)
+    (λ c κs. search needs)
     lay-all-requires
-    zero32-requires-3
-    same-length
-    same-length-2
-    same-length-3
-    same-length-4
-    same-length-5
+    (λ c κs. search needs)
+    (λ c. search needs)
+    (λ c. search needs)
+    (λ c. search needs)
+    (λ c. search needs)
+    (λ c. search needs)
     returns)

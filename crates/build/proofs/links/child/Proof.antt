@@ -89,9 +89,6 @@ edges-back c = c .before .before
 abbrev linked : tie.After-slice-known8 → tie.After-link
 linked c = edges-back (ids-back c) .before .before
 
-seek-requires : tie.Need-seek-requires
-seek-requires c κs = search needs
-
 mul-k : tie.Need-mul-k
 mul-k c = omega (arith, inside c, entry c)
 
@@ -107,12 +104,6 @@ mul-if2 c = let q = c .before .before in omega (arith, below q (c .if1 .taken), 
 slice-read-if2 : tie.Need-slice-read-if2
 slice-read-if2 c = let t = c .before in below (t .before .before) (t .if1 .taken)
 
-same-length : tie.Need-same-length
-same-length c = search needs
-
-same-length-2 : tie.Need-same-length-2
-same-length-2 c = search needs
-
 returns : tie.Need-returns
 returns c =
     let t = c .before .before in
@@ -124,12 +115,6 @@ returns c =
           (child-there ns (edges q) (works q) (h .links) (h .bytes) s (a .from .node) e (a .b) (q .seek .result)
           (q .seek .ensures .slot ns s (h .links) (h .bytes) e) (t .if1 .taken) (c .if2 .taken));
     }
-
-same-length-3 : tie.Need-same-length-3
-same-length-3 c = search needs
-
-same-length-4 : tie.Need-same-length-4
-same-length-4 c = search needs
 
 returns-2 : tie.Need-returns-2
 returns-2 c =
@@ -155,18 +140,6 @@ link-requires c κs =
       small = omega (arith, p .fits, t .if3 .left, p .roomy .small);
     }
 
-add-t14 : tie.Need-add-t14
-add-t14 c = search needs
-
-same-length-5 : tie.Need-same-length-5
-same-length-5 c = search needs
-
-same-length-6 : tie.Need-same-length-6
-same-length-6 c = search needs
-
-same-length-7 : tie.Need-same-length-7
-same-length-7 c = search needs
-
 returns-3 : tie.Need-returns-3
 returns-3 c =
     let f = linked c in
@@ -187,21 +160,21 @@ pub child-spec : {M : Type 1} → statement M
 child-spec =
     tie.close
     (tie.spec
-    seek-requires
+    (λ c κs. search needs)
     mul-k
     slice-read-k
     cast-k
     mul-if2
     slice-read-if2
-    same-length
-    same-length-2
+    (λ c. search needs)
+    (λ c. search needs)
     returns
-    same-length-3
-    same-length-4
+    (λ c. search needs)
+    (λ c. search needs)
     returns-2
     link-requires
-    add-t14
-    same-length-5
-    same-length-6
-    same-length-7
+    (λ c. search needs)
+    (λ c. search needs)
+    (λ c. search needs)
+    (λ c. search needs)
     returns-3)

@@ -59,12 +59,6 @@ loop-holds c =
       λ ns s l sp h. (0, omega arith, seek-start ns (c .args .edge-n .now) (c .args .work .now) l sp s (c .args .node) h),
     )
 
-mul-k : tie.Need-mul-k Inv-loop μ-loop
-mul-k c = search needs
-
-shared-slice-read-k : tie.Need-shared-slice-read-k Inv-loop μ-loop
-shared-slice-read-k c = search needs
-
 cast-k : tie.Need-cast-k Inv-loop μ-loop
 cast-k c = omega (arith, c .shared-slice-known .given (c .before .loop .at))
 
@@ -131,8 +125,8 @@ seek-spec =
     μ-loop
     mul-at
     loop-holds
-    mul-k
-    shared-slice-read-k
+    (λ c. search needs)
+    (λ c. search needs)
     cast-k
     returns
     mul-if2

@@ -37,32 +37,8 @@ ready c =
     ready-zeroed (a .room) (a .edge-n .now) (a .id .now) (a .work .now) (z .zero16 .last .0) (c .zero32 .last .0) (s .pre) (z .zero16 .ensures)
     (c .zero32 .ensures)
 
-zero16-requires : tie.Need-zero16-requires
-zero16-requires c κs = search needs
-
-zero32-requires : tie.Need-zero32-requires
-zero32-requires c κs = search needs
-
-same-length : tie.Need-same-length
-same-length c = search needs
-
-same-length-2 : tie.Need-same-length-2
-same-length-2 c = search needs
-
 returns : tie.Need-returns
 returns c = record { one = refl; planted = λ h. absurd (omega (arith, c .if1 .taken)) }
-
-plant-requires : tie.Need-plant-requires
-plant-requires c κs = search needs
-
-same-length-3 : tie.Need-same-length-3
-same-length-3 c = search needs
-
-same-length-4 : tie.Need-same-length-4
-same-length-4 c = search needs
-
-same-length-5 : tie.Need-same-length-5
-same-length-5 c = search needs
 
 returns-2 : tie.Need-returns-2
 returns-2 c =
@@ -81,13 +57,13 @@ pub start-spec : {M : Type 1} → statement M
 start-spec =
     tie.close
     (tie.spec
-    zero16-requires
-    zero32-requires
-    same-length
-    same-length-2
+    (λ c κs. search needs)
+    (λ c κs. search needs)
+    (λ c. search needs)
+    (λ c. search needs)
     returns
-    plant-requires
-    same-length-3
-    same-length-4
-    same-length-5
+    (λ c κs. search needs)
+    (λ c. search needs)
+    (λ c. search needs)
+    (λ c. search needs)
     returns-2)

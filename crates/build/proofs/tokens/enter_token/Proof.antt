@@ -69,21 +69,6 @@ returns c =
           (a .token .now) (length-zero (a .token .now) (c .if1 .taken)) h e (p .fits);
     }
 
-enter-requires : tie.Need-enter-requires
-enter-requires c κs = search needs
-
-add-result : tie.Need-add-result
-add-result c = search needs
-
-same-length : tie.Need-same-length
-same-length c = search needs
-
-same-length-2 : tie.Need-same-length-2
-same-length-2 c = search needs
-
-same-length-3 : tie.Need-same-length-3
-same-length-3 c = search needs
-
 returns-2 : tie.Need-returns-2
 returns-2 c =
     let f = entered (c .before) in
@@ -107,15 +92,6 @@ mark-requires c κs =
       place-below (enter (p .names) (prefixes [] (token f))) (token f) (f .enter .result .node) (d .here (t .if2 .left)),
     )
 
-same-length-4 : tie.Need-same-length-4
-same-length-4 c = search needs
-
-same-length-5 : tie.Need-same-length-5
-same-length-5 c = search needs
-
-same-length-6 : tie.Need-same-length-6
-same-length-6 c = search needs
-
 returns-3 : tie.Need-returns-3
 returns-3 c =
     let m = c .before .before in
@@ -136,14 +112,14 @@ enter-token-spec =
     tie.close
     (tie.spec
     returns
-    enter-requires
-    add-result
-    same-length
-    same-length-2
-    same-length-3
+    (λ c κs. search needs)
+    (λ c. search needs)
+    (λ c. search needs)
+    (λ c. search needs)
+    (λ c. search needs)
     returns-2
     mark-requires
-    same-length-4
-    same-length-5
-    same-length-6
+    (λ c. search needs)
+    (λ c. search needs)
+    (λ c. search needs)
     returns-3)

@@ -34,35 +34,11 @@ value-requires c κs =
     let p = start c .pre in
     (omega (arith, p .there, p .judged .few), λ e. omega (arith, p .there, p .judged .own e))
 
-mul-span : tie.Need-mul-span
-mul-span c = search needs
-
-shared-slice-read-span : tie.Need-shared-slice-read-span
-shared-slice-read-span c = search needs
-
-mul-span-2 : tie.Need-mul-span-2
-mul-span-2 c = search needs
-
-shared-slice-read-span-2 : tie.Need-shared-slice-read-span-2
-shared-slice-read-span-2 c = search needs
-
 span-requires : tie.Need-span-requires
 span-requires c κs =
     let v = c .before .before in
     let s = start (v .before) in
     s .pre .judged .inside (s .args .i) (s .pre .there)
-
-enter-token-requires : tie.Need-enter-token-requires
-enter-token-requires c κs = search needs
-
-same-length : tie.Need-same-length
-same-length c = search needs
-
-same-length-2 : tie.Need-same-length-2
-same-length-2 c = search needs
-
-same-length-3 : tie.Need-same-length-3
-same-length-3 c = search needs
 
 returns : tie.Need-returns
 returns c =
@@ -75,13 +51,13 @@ enter-row-spec =
     tie.close
     (tie.spec
     value-requires
-    mul-span
-    shared-slice-read-span
-    mul-span-2
-    shared-slice-read-span-2
+    (λ c. search needs)
+    (λ c. search needs)
+    (λ c. search needs)
+    (λ c. search needs)
     span-requires
-    enter-token-requires
-    same-length
-    same-length-2
-    same-length-3
+    (λ c κs. search needs)
+    (λ c. search needs)
+    (λ c. search needs)
+    (λ c. search needs)
     returns)

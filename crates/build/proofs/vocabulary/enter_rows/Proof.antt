@@ -27,18 +27,6 @@ entry c =
 abbrev fitting : tie.After-enter-on-arg3 → tie.Else1
 fitting c = let k = c .before .before in k .before
 
-start-requires : tie.Need-start-requires
-start-requires c κs = search needs
-
-same-length : tie.Need-same-length
-same-length c = search needs
-
-same-length-2 : tie.Need-same-length-2
-same-length-2 c = search needs
-
-same-length-3 : tie.Need-same-length-3
-same-length-3 c = search needs
-
 returns : tie.Need-returns
 returns c =
     let f = started (c .before) in
@@ -55,29 +43,17 @@ enter-on-requires c κs =
     let s = entry f in
     (s .pre .0, f .start .ensures .planted (omega (arith, b .if1 .left, f .start .ensures .one)))
 
-same-length-4 : tie.Need-same-length-4
-same-length-4 c = search needs
-
-same-length-5 : tie.Need-same-length-5
-same-length-5 c = search needs
-
-same-length-6 : tie.Need-same-length-6
-same-length-6 c = search needs
-
-returns-2 : tie.Need-returns-2
-returns-2 c = search needs
-
 pub enter-rows-spec : {M : Type 1} → statement M
 enter-rows-spec =
     tie.close
     (tie.spec
-    start-requires
-    same-length
-    same-length-2
-    same-length-3
+    (λ c κs. search needs)
+    (λ c. search needs)
+    (λ c. search needs)
+    (λ c. search needs)
     returns
     enter-on-requires
-    same-length-4
-    same-length-5
-    same-length-6
-    returns-2)
+    (λ c. search needs)
+    (λ c. search needs)
+    (λ c. search needs)
+    (λ c. search needs))

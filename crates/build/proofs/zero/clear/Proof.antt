@@ -4,42 +4,6 @@ use Rattle.build.proofs.Zeros.{cleared-is}
 use Rattle.build.proofs.zero.clear.Statement.{statement}
 use Rattle.build.proofs.zero.clear.Tie as tie
 
-zero32-requires : tie.Need-zero32-requires
-zero32-requires c κs = search needs
-
-zero16-requires : tie.Need-zero16-requires
-zero16-requires c κs = search needs
-
-zero32-requires-2 : tie.Need-zero32-requires-2
-zero32-requires-2 c κs = search needs
-
-zero8-requires : tie.Need-zero8-requires
-zero8-requires c κs = search needs
-
-zero32-requires-3 : tie.Need-zero32-requires-3
-zero32-requires-3 c κs = search needs
-
-zero32-requires-4 : tie.Need-zero32-requires-4
-zero32-requires-4 c κs = search needs
-
-same-length : tie.Need-same-length
-same-length c = search needs
-
-same-length-2 : tie.Need-same-length-2
-same-length-2 c = search needs
-
-same-length-3 : tie.Need-same-length-3
-same-length-3 c = search needs
-
-same-length-4 : tie.Need-same-length-4
-same-length-4 c = search needs
-
-same-length-5 : tie.Need-same-length-5
-same-length-5 c = search needs
-
-same-length-6 : tie.Need-same-length-6
-same-length-6 c = search needs
-
 -- ---- the way back, column by column
 
 abbrev to-zero : tie.After-zero324 → tie.After-zero323
@@ -79,16 +43,16 @@ pub clear-spec : {M : Type 1} → statement M
 clear-spec =
     tie.close
     (tie.spec
-    zero32-requires
-    zero16-requires
-    zero32-requires-2
-    zero8-requires
-    zero32-requires-3
-    zero32-requires-4
-    same-length
-    same-length-2
-    same-length-3
-    same-length-4
-    same-length-5
-    same-length-6
+    (λ c κs. search needs)
+    (λ c κs. search needs)
+    (λ c κs. search needs)
+    (λ c κs. search needs)
+    (λ c κs. search needs)
+    (λ c κs. search needs)
+    (λ c. search needs)
+    (λ c. search needs)
+    (λ c. search needs)
+    (λ c. search needs)
+    (λ c. search needs)
+    (λ c. search needs)
     returns)

@@ -50,42 +50,12 @@ better c =
     let s = c .before .before in
     ap (λ (r : Slot). less (r .score) (given s .score)) (sym (read s)) ∙ sym (c .better .ensures)
 
-slot-at-requires : tie.Need-slot-at-requires
-slot-at-requires c κs = search needs
-
-put-requires : tie.Need-put-requires
-put-requires c κs = search needs
-
-same-length : tie.Need-same-length
-same-length c = search needs
-
-same-length-2 : tie.Need-same-length-2
-same-length-2 c = search needs
-
-same-length-3 : tie.Need-same-length-3
-same-length-3 c = search needs
-
 returns : tie.Need-returns
 returns c =
     let put = stored-empty c in
     let t = empty put in
     let s = t .before in
     put-as (put .put .ensures) (sym (taken-empty (there s) (given s) (ap (λ (r : Slot). r .start) (sym (read s)) ∙ t .if1 .taken)))
-
-better-requires : tie.Need-better-requires
-better-requires c κs = search needs
-
-put-requires-2 : tie.Need-put-requires-2
-put-requires-2 c κs = search needs
-
-same-length-4 : tie.Need-same-length-4
-same-length-4 c = search needs
-
-same-length-5 : tie.Need-same-length-5
-same-length-5 c = search needs
-
-same-length-6 : tie.Need-same-length-6
-same-length-6 c = search needs
 
 returns-2 : tie.Need-returns-2
 returns-2 c =
@@ -95,15 +65,6 @@ returns-2 c =
     let f = b .before in
     let s = f .before in
     put-as (put .put2 .ensures) (sym (taken-better (there s) (given s) (full f) (better b ∙ t .if2 .taken)))
-
-same-length-7 : tie.Need-same-length-7
-same-length-7 c = search needs
-
-same-length-8 : tie.Need-same-length-8
-same-length-8 c = search needs
-
-same-length-9 : tie.Need-same-length-9
-same-length-9 c = search needs
 
 returns-3 : tie.Need-returns-3
 returns-3 c =
@@ -116,19 +77,19 @@ pub offer-spec : {M : Type 1} → statement M
 offer-spec =
     tie.close
     (tie.spec
-    slot-at-requires
-    put-requires
-    same-length
-    same-length-2
-    same-length-3
+    (λ c κs. search needs)
+    (λ c κs. search needs)
+    (λ c. search needs)
+    (λ c. search needs)
+    (λ c. search needs)
     returns
-    better-requires
-    put-requires-2
-    same-length-4
-    same-length-5
-    same-length-6
+    (λ c κs. search needs)
+    (λ c κs. search needs)
+    (λ c. search needs)
+    (λ c. search needs)
+    (λ c. search needs)
     returns-2
-    same-length-7
-    same-length-8
-    same-length-9
+    (λ c. search needs)
+    (λ c. search needs)
+    (λ c. search needs)
     returns-3)

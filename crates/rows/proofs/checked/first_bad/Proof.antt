@@ -50,18 +50,6 @@ turn c =
 loop-holds : tie.Need-loop-holds Inv-loop μ-loop
 loop-holds c = let s = start c in (omega arith, bad-start (s .args .kind) (s .args .tab .now) (given s))
 
-row-at-requires : tie.Need-row-at-requires Inv-loop μ-loop
-row-at-requires c κs = search needs
-
-row-fault-requires : tie.Need-row-fault-requires Inv-loop μ-loop
-row-fault-requires c κs = search needs
-
-enum-known-f : tie.Need-enum-known-f Inv-loop μ-loop
-enum-known-f c = search needs
-
-cast-t14 : tie.Need-cast-t14 Inv-loop μ-loop
-cast-t14 c = search needs
-
 returns : tie.Need-returns Inv-loop μ-loop
 returns c =
     let bound = c .before in
@@ -71,15 +59,6 @@ returns c =
     sym
     (h .loop .inv .1
     ∙ bad-found (s .args .kind) (s .args .tab .now) (given s) (h .loop .i) _ (omega arith) (sym (turn told) ∙ ap faultIn (bound .f .given .1)))
-
-enum-told : tie.Need-enum-told Inv-loop μ-loop
-enum-told c = search needs
-
-add-i : tie.Need-add-i Inv-loop μ-loop
-add-i c = search needs
-
-loop-less : tie.Need-loop-less Inv-loop μ-loop
-loop-less c = search needs
 
 loop-again : tie.Need-loop-again Inv-loop μ-loop
 loop-again c =
@@ -105,13 +84,13 @@ first-bad-spec =
     Inv-loop
     μ-loop
     loop-holds
-    row-at-requires
-    row-fault-requires
-    enum-known-f
-    cast-t14
+    (λ c κs. search needs)
+    (λ c κs. search needs)
+    (λ c. search needs)
+    (λ c. search needs)
     returns
-    enum-told
-    add-i
-    loop-less
+    (λ c. search needs)
+    (λ c. search needs)
+    (λ c. search needs)
     loop-again
     returns-2)

@@ -38,9 +38,6 @@ returns c = let s = start (c .before) in sym (too-many (s .args .kind) (s .args 
 returns-2 : tie.Need-returns-2
 returns-2 c = let s = start (c .before .before) in sym (too-large (s .args .kind) (s .args .tab .now) (given s) (omega arith))
 
-is-level-requires : tie.Need-is-level-requires
-is-level-requires c κs = search needs
-
 returns-3 : tie.Need-returns-3
 returns-3 c =
     let s = sized (c .before) in
@@ -59,4 +56,4 @@ returns-4 c =
 
 pub judge-spec : {M : Type 1} → statement M
 judge-spec =
-    tie.close (tie.spec returns returns-2 is-level-requires returns-3 first-bad-requires returns-4)
+    tie.close (tie.spec returns returns-2 (λ c κs. search needs) returns-3 first-bad-requires returns-4)

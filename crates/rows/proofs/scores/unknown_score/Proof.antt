@@ -7,33 +7,12 @@ use Rattle.rows.proofs.LowestScores.{unknown-none, unknown-some}
 use Rattle.rows.proofs.scores.unknown_score.Statement.{statement}
 use Rattle.rows.proofs.scores.unknown_score.Tie as tie
 
-minus-ten-requires : tie.Need-minus-ten-requires
-minus-ten-requires c κs = search needs
-
 returns : tie.Need-returns
 returns c =
     let tested = c .before in
     c .minus-ten .ensures
     ∙ ap (λ (x : Double). sum x minusTen) zero-units
     ∙ sym (unknown-none (tested .before .before .args .score .now) (tested .if1 .taken))
-
-shared-slice-read-lowest : tie.Need-shared-slice-read-lowest
-shared-slice-read-lowest c = search needs
-
-sub-lowest : tie.Need-sub-lowest
-sub-lowest c = search needs
-
-part-lowest-start : tie.Need-part-lowest-start
-part-lowest-start c = search needs
-
-part-lowest-end : tie.Need-part-lowest-end
-part-lowest-end c = search needs
-
-lowest-requires : tie.Need-lowest-requires
-lowest-requires c κs = search needs
-
-minus-ten-requires-2 : tie.Need-minus-ten-requires-2
-minus-ten-requires-2 c κs = search needs
 
 returns-2 : tie.Need-returns-2
 returns-2 c =
@@ -48,12 +27,12 @@ pub unknown-score-spec : {M : Type 1} → statement M
 unknown-score-spec =
     tie.close
     (tie.spec
-    minus-ten-requires
+    (λ c κs. search needs)
     returns
-    shared-slice-read-lowest
-    sub-lowest
-    part-lowest-start
-    part-lowest-end
-    lowest-requires
-    minus-ten-requires-2
+    (λ c. search needs)
+    (λ c. search needs)
+    (λ c. search needs)
+    (λ c. search needs)
+    (λ c κs. search needs)
+    (λ c κs. search needs)
     returns-2)

@@ -79,15 +79,6 @@ build-requires c κs =
           (r .room .ensures ∙ ap (min (roomOf (lent (entry r)))) (sym (length-map (a .node-score .now) units))),
     )
 
-enum-told : tie.Need-enum-told
-enum-told c = search needs
-
-zero-requires : tie.Need-zero-requires
-zero-requires c κs = search needs
-
-enum-known-built : tie.Need-enum-known-built
-enum-known-built c = search needs
-
 fill-requires : tie.Need-fill-requires
 fill-requires c κs =
     let t = c .before .before .before in
@@ -97,30 +88,6 @@ fill-requires c κs =
 cast-t53 : tie.Need-cast-t53
 cast-t53 c = omega (arith, placed (counted (c .before .before)) .small)
 
-unknown-score-requires : tie.Need-unknown-score-requires
-unknown-score-requires c κs = search needs
-
-same-length : tie.Need-same-length
-same-length c = search needs
-
-same-length-2 : tie.Need-same-length-2
-same-length-2 c = search needs
-
-same-length-3 : tie.Need-same-length-3
-same-length-3 c = search needs
-
-same-length-4 : tie.Need-same-length-4
-same-length-4 c = search needs
-
-same-length-5 : tie.Need-same-length-5
-same-length-5 c = search needs
-
-same-length-6 : tie.Need-same-length-6
-same-length-6 c = search needs
-
-same-length-7 : tie.Need-same-length-7
-same-length-7 c = search needs
-
 returns : tie.Need-returns
 returns c =
     let told-full = c .before .before .before .before in
@@ -129,27 +96,6 @@ returns c =
     let a = entry r .args in
     lists-full (a .tab .now) (a .off .now) (a .len .now) (a .score .now) (a .id .now) (lent (entry r)) (left b) (a .node-score .now)
     (r .room .ensures) (rows-lent (entry r) .scored) (entry r .pre) (b .build .ensures) (told-full .enum-told .given .1) (c .before .before .zero .ensures)
-
-same-length-8 : tie.Need-same-length-8
-same-length-8 c = search needs
-
-same-length-9 : tie.Need-same-length-9
-same-length-9 c = search needs
-
-same-length-10 : tie.Need-same-length-10
-same-length-10 c = search needs
-
-same-length-11 : tie.Need-same-length-11
-same-length-11 c = search needs
-
-same-length-12 : tie.Need-same-length-12
-same-length-12 c = search needs
-
-same-length-13 : tie.Need-same-length-13
-same-length-13 c = search needs
-
-same-length-14 : tie.Need-same-length-14
-same-length-14 c = search needs
 
 returns-2 : tie.Need-returns-2
 unfolding told
@@ -169,25 +115,25 @@ build-rows-spec =
     (tie.spec
     room-requires
     build-requires
-    enum-told
-    zero-requires
-    enum-known-built
+    (λ c. search needs)
+    (λ c κs. search needs)
+    (λ c. search needs)
     fill-requires
     cast-t53
-    unknown-score-requires
-    same-length
-    same-length-2
-    same-length-3
-    same-length-4
-    same-length-5
-    same-length-6
-    same-length-7
+    (λ c κs. search needs)
+    (λ c. search needs)
+    (λ c. search needs)
+    (λ c. search needs)
+    (λ c. search needs)
+    (λ c. search needs)
+    (λ c. search needs)
+    (λ c. search needs)
     returns
-    same-length-8
-    same-length-9
-    same-length-10
-    same-length-11
-    same-length-12
-    same-length-13
-    same-length-14
+    (λ c. search needs)
+    (λ c. search needs)
+    (λ c. search needs)
+    (λ c. search needs)
+    (λ c. search needs)
+    (λ c. search needs)
+    (λ c. search needs)
     returns-2)

@@ -12,9 +12,6 @@ right a b e h = omega (arith, e, h)
 left : (a b : ℕ) {r : ℕ} → r ≡ a → r ≤ b → r ≡ min a b
 left a b e h = omega (arith, e, h)
 
-room-requires : tie.Need-room-requires
-room-requires c κs = search needs
-
 returns : tie.Need-returns
 returns c = right _ _ (c .before .room .ensures) (c .if1 .taken)
 
@@ -22,4 +19,4 @@ returns-2 : tie.Need-returns-2
 returns-2 c = left _ _ (c .before .room .ensures) (c .if1 .left)
 
 pub room-spec : {M : Type 1} → statement M
-room-spec = tie.close (tie.spec room-requires returns returns-2)
+room-spec = tie.close (tie.spec (λ c κs. search needs) returns returns-2)

@@ -44,9 +44,6 @@ room h l =
     let z = cleared h in
     omega (arith, l, h .loop .inv .1 .kept, length-map (z .zero .last .0) units, zeros-kept z, entry z .pre .1)
 
-zero-requires : tie.Need-zero-requires Inv-loop μ-loop
-zero-requires c κs = search needs
-
 loop-holds : tie.Need-loop-holds Inv-loop μ-loop
 loop-holds c = (omega arith, stored-none _ _ _ refl)
 
@@ -55,9 +52,6 @@ mul-score-of c = let e = entry (cleared (c .before)) in omega (arith, c .loop-te
 
 shared-slice-read-score-of : tie.Need-shared-slice-read-score-of Inv-loop μ-loop
 shared-slice-read-score-of c = let t = c .before in omega (arith, t .loop-test .taken, entry (cleared (t .before)) .pre .0)
-
-score-of-requires : tie.Need-score-of-requires Inv-loop μ-loop
-score-of-requires c κs = search needs
 
 mul-node-score : tie.Need-mul-node-score Inv-loop μ-loop
 mul-node-score c = let e = entry (cleared (head c)) in omega (arith, c .before .before .loop-test .taken, e .pre .1, e .good)
@@ -101,11 +95,11 @@ fill-spec =
     (tie.spec
     Inv-loop
     μ-loop
-    zero-requires
+    (λ c κs. search needs)
     loop-holds
     mul-score-of
     shared-slice-read-score-of
-    score-of-requires
+    (λ c κs. search needs)
     mul-node-score
     slice-write-node-score
     add-k

@@ -7,12 +7,6 @@ use Rattle.scored.proofs.Storing.{score-inside, score-none}
 use Rattle.scored.proofs.scores.score_of.Statement.{statement}
 use Rattle.scored.proofs.scores.score_of.Tie as tie
 
-mul-result : tie.Need-mul-result
-mul-result c = search needs
-
-shared-slice-read-result : tie.Need-shared-slice-read-result
-shared-slice-read-result c = search needs
-
 returns : tie.Need-returns
 returns c = let b = c .before in let a = b .before .args in score-inside (a .score .now) (a .row) nan (b .if1 .taken)
 
@@ -20,4 +14,4 @@ returns-2 : tie.Need-returns-2
 returns-2 c = let a = c .before .args in zero-units ∙ score-none (a .score .now) (a .row) (c .if1 .left)
 
 pub score-of-spec : {M : Type 1} → statement M
-score-of-spec = tie.close (tie.spec mul-result shared-slice-read-result returns returns-2)
+score-of-spec = tie.close (tie.spec (λ c. search needs) (λ c. search needs) returns returns-2)

@@ -49,12 +49,6 @@ loop-holds : tie.Need-loop-holds Inv-loop μ-loop
 unfolding characters
 loop-holds c = (omega arith, boundary-zero (c .before .args .s .now) (c .before .pre), refl)
 
-shared-slice-read-char-len : tie.Need-shared-slice-read-char-len Inv-loop μ-loop
-shared-slice-read-char-len c = search needs
-
-char-len-requires : tie.Need-char-len-requires Inv-loop μ-loop
-char-len-requires c κs = search needs
-
 add-i : tie.Need-add-i Inv-loop μ-loop
 add-i c = omega (arith, turn c, inside c, head c .before .before .good)
 
@@ -89,8 +83,8 @@ characters-spec =
     Inv-loop
     μ-loop
     loop-holds
-    shared-slice-read-char-len
-    char-len-requires
+    (λ c. search needs)
+    (λ c κs. search needs)
     add-i
     add-n
     loop-less

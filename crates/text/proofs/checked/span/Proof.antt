@@ -7,18 +7,6 @@ use Rattle.text.proofs.Spans.{part-is}
 use Rattle.text.proofs.checked.span.Statement.{statement}
 use Rattle.text.proofs.checked.span.Tie as tie
 
-add-end : tie.Need-add-end
-add-end c = search needs
-
-sub-result : tie.Need-sub-result
-sub-result c = search needs
-
-part-result-start : tie.Need-part-result-start
-part-result-start c = search needs
-
-part-result-end : tie.Need-part-result-end
-part-result-end c = search needs
-
 returns : tie.Need-returns
 unfolding givenFor startFor
 returns c =
@@ -26,4 +14,4 @@ returns c =
     record { gave = part-is (a .tab .now) (a .off) (a .len); block = refl; stands = add-comm (a .off) (a .tab .ptr .1) }
 
 pub span-spec : {M : Type 1} → statement M
-span-spec = tie.close (tie.spec add-end sub-result part-result-start part-result-end returns)
+span-spec = tie.close (tie.spec (λ c. search needs) (λ c. search needs) (λ c. search needs) (λ c. search needs) returns)

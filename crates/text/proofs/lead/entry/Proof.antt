@@ -4,14 +4,8 @@ use borrow.Author.Needs.{needs}
 use Rattle.text.proofs.lead.entry.Statement.{statement}
 use Rattle.text.proofs.lead.entry.Tie as tie
 
-mul-result : tie.Need-mul-result
-mul-result c = search needs
-
-element-copy-out-result : tie.Need-element-copy-out-result
-element-copy-out-result c = search needs
-
 returns : tie.Need-returns
 returns c = c .before .pre .entry (c .before .args .b) (omega arith)
 
 pub entry-spec : {M : Type 1} → statement M
-entry-spec = tie.close (tie.spec mul-result element-copy-out-result returns)
+entry-spec = tie.close (tie.spec (λ c. search needs) (λ c. search needs) returns)

@@ -55,9 +55,6 @@ add-fits-5 c = omega arith
 shared-slice-read-fits-3 : tie.Need-shared-slice-read-fits-3 Inv-loop μ-loop
 shared-slice-read-fits-3 c = omega arith
 
-fits-requires : tie.Need-fits-requires Inv-loop μ-loop
-fits-requires c κs = search needs
-
 add-count : tie.Need-add-count Inv-loop μ-loop
 add-count c = omega arith
 
@@ -100,7 +97,7 @@ is-fit-spec =
     add-fits-4
     add-fits-5
     shared-slice-read-fits-3
-    fits-requires
+    (λ c κs. search needs)
     add-count
     add-k
     loop-less

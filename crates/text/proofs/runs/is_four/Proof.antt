@@ -18,17 +18,8 @@ first-test c = c .before .before .before
 abbrev start : tie.Else4 → tie.Start
 start c = let f = first-test (second-test c) in f .before .before .before
 
-shared-slice-read-if1 : tie.Need-shared-slice-read-if1
-shared-slice-read-if1 c = search needs
-
 returns : tie.Need-returns
 returns c e = false-true e
-
-add-x : tie.Need-add-x
-add-x c = search needs
-
-shared-slice-read-x : tie.Need-shared-slice-read-x
-shared-slice-read-x c = search needs
 
 returns-2 : tie.Need-returns-2
 returns-2 c e = false-true e
@@ -36,26 +27,8 @@ returns-2 c e = false-true e
 returns-3 : tie.Need-returns-3
 returns-3 c e = false-true e
 
-add-is-tail : tie.Need-add-is-tail
-add-is-tail c = search needs
-
-shared-slice-read-is-tail : tie.Need-shared-slice-read-is-tail
-shared-slice-read-is-tail c = search needs
-
-is-tail-requires : tie.Need-is-tail-requires
-is-tail-requires c κs = search needs
-
 returns-4 : tie.Need-returns-4
 returns-4 c e = false-true e
-
-add-is-tail-2 : tie.Need-add-is-tail-2
-add-is-tail-2 c = search needs
-
-shared-slice-read-is-tail-2 : tie.Need-shared-slice-read-is-tail-2
-shared-slice-read-is-tail-2 c = search needs
-
-is-tail-requires-2 : tie.Need-is-tail-requires-2
-is-tail-requires-2 c κs = search needs
 
 returns-5 : tie.Need-returns-5
 returns-5 c e =
@@ -69,17 +42,17 @@ pub is-four-spec : {M : Type 1} → statement M
 is-four-spec =
     tie.close
     (tie.spec
-    shared-slice-read-if1
+    (λ c. search needs)
     returns
-    add-x
-    shared-slice-read-x
+    (λ c. search needs)
+    (λ c. search needs)
     returns-2
     returns-3
-    add-is-tail
-    shared-slice-read-is-tail
-    is-tail-requires
+    (λ c. search needs)
+    (λ c. search needs)
+    (λ c κs. search needs)
     returns-4
-    add-is-tail-2
-    shared-slice-read-is-tail-2
-    is-tail-requires-2
+    (λ c. search needs)
+    (λ c. search needs)
+    (λ c κs. search needs)
     returns-5)

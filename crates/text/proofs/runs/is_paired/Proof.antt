@@ -46,9 +46,6 @@ add-follows-3 c = omega arith
 shared-slice-read-follows-2 : tie.Need-shared-slice-read-follows-2 Inv-loop μ-loop
 shared-slice-read-follows-2 c = omega arith
 
-follows-requires : tie.Need-follows-requires Inv-loop μ-loop
-follows-requires c κs = search needs
-
 add-count : tie.Need-add-count Inv-loop μ-loop
 add-count c = omega arith
 
@@ -88,7 +85,7 @@ is-paired-spec =
     add-follows-2
     add-follows-3
     shared-slice-read-follows-2
-    follows-requires
+    (λ c κs. search needs)
     add-count
     add-k
     loop-less

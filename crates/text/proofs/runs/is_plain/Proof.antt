@@ -4,20 +4,11 @@ use borrow.Author.Needs.{needs}
 use Rattle.text.proofs.runs.is_plain.Statement.{statement}
 use Rattle.text.proofs.runs.is_plain.Tie as tie
 
-is-two-requires : tie.Need-is-two-requires
-is-two-requires c κs = search needs
-
 returns : tie.Need-returns
 returns c e = omega (arith, c .is-two .ensures e)
 
-is-three-requires : tie.Need-is-three-requires
-is-three-requires c κs = search needs
-
 returns-2 : tie.Need-returns-2
 returns-2 c e = omega (arith, c .is-three .ensures e)
-
-is-four-requires : tie.Need-is-four-requires
-is-four-requires c κs = search needs
 
 returns-3 : tie.Need-returns-3
 returns-3 c e = omega (arith, c .is-four .ensures e)
@@ -25,4 +16,4 @@ returns-3 c e = omega (arith, c .is-four .ensures e)
 pub is-plain-spec : {M : Type 1} → statement M
 is-plain-spec =
     tie.close
-    (tie.spec is-two-requires returns is-three-requires returns-2 is-four-requires returns-3)
+    (tie.spec (λ c κs. search needs) returns (λ c κs. search needs) returns-2 (λ c κs. search needs) returns-3)

@@ -49,41 +49,14 @@ whole c =
     three-at (a .s .now) (a .i) (omega arith) (omega arith) (omega arith) (second-tail c)
     (sym (c .before .is-tail2 .ensures) ∙ not-false _ (c .if3 .left))
 
-shared-slice-read-b : tie.Need-shared-slice-read-b
-shared-slice-read-b c = search needs
-
 returns : tie.Need-returns
 returns c e = false-true e
-
-add-x : tie.Need-add-x
-add-x c = search needs
-
-shared-slice-read-x : tie.Need-shared-slice-read-x
-shared-slice-read-x c = search needs
-
-is-tail-requires : tie.Need-is-tail-requires
-is-tail-requires c κs = search needs
 
 returns-2 : tie.Need-returns-2
 returns-2 c e = false-true e
 
-add-is-tail : tie.Need-add-is-tail
-add-is-tail c = search needs
-
-shared-slice-read-is-tail : tie.Need-shared-slice-read-is-tail
-shared-slice-read-is-tail c = search needs
-
-is-tail-requires-2 : tie.Need-is-tail-requires-2
-is-tail-requires-2 c κs = search needs
-
 returns-3 : tie.Need-returns-3
 returns-3 c e = false-true e
-
-sub-part : tie.Need-sub-part
-sub-part c = search needs
-
-mul-part : tie.Need-mul-part
-mul-part c = search needs
 
 sub-part-2 : tie.Need-sub-part-2
 sub-part-2 c = omega (arith, second-low c)
@@ -105,18 +78,18 @@ pub is-three-spec : {M : Type 1} → statement M
 is-three-spec =
     tie.close
     (tie.spec
-    shared-slice-read-b
+    (λ c. search needs)
     returns
-    add-x
-    shared-slice-read-x
-    is-tail-requires
+    (λ c. search needs)
+    (λ c. search needs)
+    (λ c κs. search needs)
     returns-2
-    add-is-tail
-    shared-slice-read-is-tail
-    is-tail-requires-2
+    (λ c. search needs)
+    (λ c. search needs)
+    (λ c κs. search needs)
     returns-3
-    sub-part
-    mul-part
+    (λ c. search needs)
+    (λ c. search needs)
     sub-part-2
     add-part
     returns-4

@@ -11,23 +11,11 @@ use Rattle.text.proofs.runs.is_two.Tie as tie
 abbrev start : tie.Else2 → tie.Start
 start c = c .before .before .before .before
 
-shared-slice-read-b : tie.Need-shared-slice-read-b
-shared-slice-read-b c = search needs
-
 returns : tie.Need-returns
 returns c e = false-true e
 
 returns-2 : tie.Need-returns-2
 returns-2 c e = false-true e
-
-add-is-tail : tie.Need-add-is-tail
-add-is-tail c = search needs
-
-shared-slice-read-is-tail : tie.Need-shared-slice-read-is-tail
-shared-slice-read-is-tail c = search needs
-
-is-tail-requires : tie.Need-is-tail-requires
-is-tail-requires c κs = search needs
 
 returns-3 : tie.Need-returns-3
 returns-3 c e =
@@ -38,10 +26,10 @@ pub is-two-spec : {M : Type 1} → statement M
 is-two-spec =
     tie.close
     (tie.spec
-    shared-slice-read-b
+    (λ c. search needs)
     returns
     returns-2
-    add-is-tail
-    shared-slice-read-is-tail
-    is-tail-requires
+    (λ c. search needs)
+    (λ c. search needs)
+    (λ c κs. search needs)
     returns-3)

@@ -34,59 +34,14 @@ ends c =
 goes-on : (c : tie.Else3) → let a = start (block (c .before)) .args in Tail (a .s .now) (a .i + 32)
 goes-on c = tail-quarter _ (sym (c .before .is-tail .ensures) ∙ not-false _ (c .if3 .left))
 
-shared-slice-read-begins : tie.Need-shared-slice-read-begins
-shared-slice-read-begins c = search needs
-
-add-begins : tie.Need-add-begins
-add-begins c = search needs
-
-shared-slice-read-begins-2 : tie.Need-shared-slice-read-begins-2
-shared-slice-read-begins-2 c = search needs
-
-begins-requires : tie.Need-begins-requires
-begins-requires c κs = search needs
-
-returns : tie.Need-returns
-returns c = search needs
-
-is-fit-requires : tie.Need-is-fit-requires
-is-fit-requires c κs = search needs
-
-returns-2 : tie.Need-returns-2
-returns-2 c = search needs
-
-add-end : tie.Need-add-end
-add-end c = search needs
-
-shared-slice-read-is-tail : tie.Need-shared-slice-read-is-tail
-shared-slice-read-is-tail c = search needs
-
-is-tail-requires : tie.Need-is-tail-requires
-is-tail-requires c κs = search needs
-
 returns-3 : tie.Need-returns-3
 returns-3 c = ends (block (c .before)) .none (no-tail-quarter _ (sym (c .before .is-tail .ensures) ∙ not-true _ (c .if3 .taken)))
-
-add-is-tail : tie.Need-add-is-tail
-add-is-tail c = search needs
-
-shared-slice-read-is-tail-2 : tie.Need-shared-slice-read-is-tail-2
-shared-slice-read-is-tail-2 c = search needs
-
-is-tail-requires-2 : tie.Need-is-tail-requires-2
-is-tail-requires-2 c κs = search needs
-
-add-result : tie.Need-add-result
-add-result c = search needs
 
 returns-4 : tie.Need-returns-4
 returns-4 c =
     let last = c .before in
     let behind = last .before .before in
     ends (block (behind .before)) .two (goes-on behind) (tail-quarter _ (sym (last .is-tail2 .ensures) ∙ c .if4 .taken))
-
-add-result-2 : tie.Need-add-result-2
-add-result-2 c = search needs
 
 returns-5 : tie.Need-returns-5
 returns-5 c =
@@ -98,21 +53,21 @@ pub past-fit-block-spec : {M : Type 1} → statement M
 past-fit-block-spec =
     tie.close
     (tie.spec
-    shared-slice-read-begins
-    add-begins
-    shared-slice-read-begins-2
-    begins-requires
-    returns
-    is-fit-requires
-    returns-2
-    add-end
-    shared-slice-read-is-tail
-    is-tail-requires
+    (λ c. search needs)
+    (λ c. search needs)
+    (λ c. search needs)
+    (λ c κs. search needs)
+    (λ c. search needs)
+    (λ c κs. search needs)
+    (λ c. search needs)
+    (λ c. search needs)
+    (λ c. search needs)
+    (λ c κs. search needs)
     returns-3
-    add-is-tail
-    shared-slice-read-is-tail-2
-    is-tail-requires-2
-    add-result
+    (λ c. search needs)
+    (λ c. search needs)
+    (λ c κs. search needs)
+    (λ c. search needs)
     returns-4
-    add-result-2
+    (λ c. search needs)
     returns-5)

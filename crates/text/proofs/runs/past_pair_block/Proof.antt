@@ -29,33 +29,6 @@ no-tail c = no-tail-quarter _ (sym (first c .before .is-tail .ensures) ∙ first
 paired : (c : tie.Else2) → let a = start c .args in Paired (a .s .now) (a .i) (a .i + 32)
 paired c = c .before .is-paired .ensures (not-false _ (c .if2 .left))
 
-shared-slice-read-is-tail : tie.Need-shared-slice-read-is-tail
-shared-slice-read-is-tail c = search needs
-
-is-tail-requires : tie.Need-is-tail-requires
-is-tail-requires c κs = search needs
-
-returns : tie.Need-returns
-returns c = search needs
-
-is-paired-requires : tie.Need-is-paired-requires
-is-paired-requires c κs = search needs
-
-returns-2 : tie.Need-returns-2
-returns-2 c = search needs
-
-add-end : tie.Need-add-end
-add-end c = search needs
-
-shared-slice-read-is-tail-2 : tie.Need-shared-slice-read-is-tail-2
-shared-slice-read-is-tail-2 c = search needs
-
-is-tail-requires-2 : tie.Need-is-tail-requires-2
-is-tail-requires-2 c κs = search needs
-
-add-result : tie.Need-add-result
-add-result c = search needs
-
 returns-3 : tie.Need-returns-3
 returns-3 c =
     let b = block (c .before) in
@@ -74,14 +47,14 @@ pub past-pair-block-spec : {M : Type 1} → statement M
 past-pair-block-spec =
     tie.close
     (tie.spec
-    shared-slice-read-is-tail
-    is-tail-requires
-    returns
-    is-paired-requires
-    returns-2
-    add-end
-    shared-slice-read-is-tail-2
-    is-tail-requires-2
-    add-result
+    (λ c. search needs)
+    (λ c κs. search needs)
+    (λ c. search needs)
+    (λ c κs. search needs)
+    (λ c. search needs)
+    (λ c. search needs)
+    (λ c. search needs)
+    (λ c κs. search needs)
+    (λ c. search needs)
     returns-3
     returns-4)

@@ -17,12 +17,6 @@ passed c = c .before .before .before
 returns : tie.Need-returns
 returns c = let a = c .before .before .args in sym (tails-none (a .s .now) (a .i) (a .n) (c .if1 .taken))
 
-shared-slice-read-is-tail : tie.Need-shared-slice-read-is-tail
-shared-slice-read-is-tail c = search needs
-
-is-tail-requires : tie.Need-is-tail-requires
-is-tail-requires c κs = search needs
-
 returns-2 : tie.Need-returns-2
 returns-2 c =
     let a = start (c .before) .args in
@@ -34,15 +28,6 @@ returns-3 c =
     sym
     (tails-only (a .s .now) (a .i) (a .n) (omega arith) (omega arith)
     (sym (c .before .before .is-tail .ensures) ∙ not-false _ (c .before .if2 .left)))
-
-add-is-tail : tie.Need-add-is-tail
-add-is-tail c = search needs
-
-shared-slice-read-is-tail-2 : tie.Need-shared-slice-read-is-tail-2
-shared-slice-read-is-tail-2 c = search needs
-
-is-tail-requires-2 : tie.Need-is-tail-requires-2
-is-tail-requires-2 c κs = search needs
 
 returns-4 : tie.Need-returns-4
 returns-4 c =
@@ -58,11 +43,11 @@ are-tails-spec =
     tie.close
     (tie.spec
     returns
-    shared-slice-read-is-tail
-    is-tail-requires
+    (λ c. search needs)
+    (λ c κs. search needs)
     returns-2
     returns-3
-    add-is-tail
-    shared-slice-read-is-tail-2
-    is-tail-requires-2
+    (λ c. search needs)
+    (λ c. search needs)
+    (λ c κs. search needs)
     returns-4)

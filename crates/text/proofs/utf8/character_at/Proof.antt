@@ -50,36 +50,15 @@ tails-is c =
 returns : tie.Need-returns
 returns c = sym (character-past (c .before .before .args .s .now) (c .before .before .args .i) (c .if1 .taken))
 
-shared-slice-read-entry : tie.Need-shared-slice-read-entry
-shared-slice-read-entry c = search needs
-
-entry-requires : tie.Need-entry-requires
-entry-requires c κs = search needs
-
-cast-n : tie.Need-cast-n
-cast-n c = search needs
-
 returns-2 : tie.Need-returns-2
 returns-2 c =
     let e = c .before in
     length-is e ∙ sym (character-short (text e) (place e) (omega arith) (omega (arith, length-is e)))
 
-sub-if3 : tie.Need-sub-if3
-sub-if3 c = search needs
-
 returns-3 : tie.Need-returns-3
 returns-3 c =
     let e = c .before .before in
     sym (character-none (text e) (place e) (omega arith) (omega (arith, length-is e)))
-
-add-is-second : tie.Need-add-is-second
-add-is-second c = search needs
-
-shared-slice-read-is-second : tie.Need-shared-slice-read-is-second
-shared-slice-read-is-second c = search needs
-
-is-second-requires : tie.Need-is-second-requires
-is-second-requires c κs = search needs
 
 returns-4 : tie.Need-returns-4
 returns-4 c =
@@ -87,9 +66,6 @@ returns-4 c =
     sym
     (second-bad (text e) (place e) (omega arith) (omega (arith, length-is e))
     (sym (second-is (c .before)) ∙ not-true _ (c .if4 .taken)))
-
-add-are-tails : tie.Need-add-are-tails
-add-are-tails c = search needs
 
 are-tails-requires : tie.Need-are-tails-requires
 are-tails-requires c κs =
@@ -120,17 +96,17 @@ character-at-spec =
     tie.close
     (tie.spec
     returns
-    shared-slice-read-entry
-    entry-requires
-    cast-n
+    (λ c. search needs)
+    (λ c κs. search needs)
+    (λ c. search needs)
     returns-2
-    sub-if3
+    (λ c. search needs)
     returns-3
-    add-is-second
-    shared-slice-read-is-second
-    is-second-requires
+    (λ c. search needs)
+    (λ c. search needs)
+    (λ c κs. search needs)
     returns-4
-    add-are-tails
+    (λ c. search needs)
     are-tails-requires
     returns-5
     returns-6)

@@ -6,12 +6,6 @@ use Rattle.text.proofs.Reading.{boundary-inside, boundary-outside}
 use Rattle.text.proofs.utf8.is_boundary.Statement.{statement}
 use Rattle.text.proofs.utf8.is_boundary.Tie as tie
 
-shared-slice-read-is-tail : tie.Need-shared-slice-read-is-tail
-shared-slice-read-is-tail c = search needs
-
-is-tail-requires : tie.Need-is-tail-requires
-is-tail-requires c κs = search needs
-
 -- the way back to the function's start from after the call
 abbrev start : tie.After-is-tail → tie.Start
 start c = c .before .before .before .before
@@ -27,4 +21,4 @@ returns-2 c =
     sym (boundary-outside (a .s .now) (a .i) (c .if1 .left))
 
 pub is-boundary-spec : {M : Type 1} → statement M
-is-boundary-spec = tie.close (tie.spec shared-slice-read-is-tail is-tail-requires returns returns-2)
+is-boundary-spec = tie.close (tie.spec (λ c. search needs) (λ c κs. search needs) returns returns-2)

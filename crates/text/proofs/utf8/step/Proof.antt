@@ -23,9 +23,6 @@ found c =
     let a = start (c .before) .args in
     passed-character (a .s .now) (a .i) (c .before .character-at .result) (sym (c .before .character-at .ensures)) (omega arith)
 
-character-at-requires : tie.Need-character-at-requires
-character-at-requires c κs = search needs
-
 returns : tie.Need-returns
 returns c =
     let a = start (c .before) .args in
@@ -53,4 +50,4 @@ returns-2 c =
 
 pub step-spec : {M : Type 1} → statement M
 step-spec =
-    tie.close (tie.spec character-at-requires returns add-past-runs past-runs-requires returns-2)
+    tie.close (tie.spec (λ c κs. search needs) returns add-past-runs past-runs-requires returns-2)

@@ -5,9 +5,6 @@ use Rattle.text.proofs.Valid.{valid-past}
 use Rattle.text.proofs.utf8.valid_after.Statement.{statement}
 use Rattle.text.proofs.utf8.valid_after.Tie as tie
 
-past-runs-requires : tie.Need-past-runs-requires
-past-runs-requires c κs = search needs
-
 returns : tie.Need-returns
 returns c =
     let runs = c .before in
@@ -17,11 +14,5 @@ returns c =
       valid-past (runs .before .before .args .s .now) (runs .past-runs .result) (omega arith),
     )
 
-valid-from-requires : tie.Need-valid-from-requires
-valid-from-requires c κs = search needs
-
-returns-2 : tie.Need-returns-2
-returns-2 c = search needs
-
 pub valid-after-spec : {M : Type 1} → statement M
-valid-after-spec = tie.close (tie.spec past-runs-requires returns valid-from-requires returns-2)
+valid-after-spec = tie.close (tie.spec (λ c κs. search needs) returns (λ c κs. search needs) (λ c. search needs))

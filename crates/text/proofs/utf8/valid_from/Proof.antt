@@ -11,8 +11,5 @@ valid-by-requires : tie.Need-valid-by-requires
 unfolding entryOf
 valid-by-requires c κs = (lead-table _ refl refl, c .before .before .pre)
 
-returns : tie.Need-returns
-returns c = search needs
-
 pub valid-from-spec : {M : Type 1} → statement M
-valid-from-spec = tie.close (tie.spec valid-by-requires returns)
+valid-from-spec = tie.close (tie.spec valid-by-requires (λ c. search needs))

@@ -33,25 +33,16 @@ walked c =
 ended : (c : tie.After-end) → let e = begun (c .before .before) in walk (parts e) 0 (e .args .s .now) ≡ some (c .end .given .0 .0 .node)
 ended c = walked (c .before .before) ∙ ap nextOf (c .end .given .1)
 
-root-requires : tie.Need-root-requires
-root-requires c κs = search needs
-
 over-requires : tie.Need-over-requires
 over-requires c κs =
     let e = entry c in
     record { ids = e .args .id .now; parts = e .pre; inside = omega (arith, c .root .ensures, e .pre .some-node) }
-
-enum-known-end : tie.Need-enum-known-end
-enum-known-end c = search needs
 
 id-at-requires : tie.Need-id-at-requires
 id-at-requires c κs =
     let last = c .before in
     let e = begun (last .before .before) in
     omega (arith, walk-inside (e .pre) 0 (e .args .s .now) (e .pre .some-node) (ended last), e .pre .level-id)
-
-enum-told : tie.Need-enum-told
-enum-told c = search needs
 
 returns : tie.Need-returns
 returns c =
@@ -72,10 +63,10 @@ pub exact-spec : {M : Type 1} → statement M
 exact-spec =
     tie.close
     (tie.spec
-    root-requires
+    (λ c κs. search needs)
     over-requires
-    enum-known-end
+    (λ c. search needs)
     id-at-requires
-    enum-told
+    (λ c. search needs)
     returns
     returns-2)

@@ -12,12 +12,6 @@ use Rattle.refusal.specs.Sizes.{noId}
 use Rattle.trie.proofs.checked.first_step.Statement.{statement}
 use Rattle.trie.proofs.checked.first_step.Tie as tie
 
-mul-x : tie.Need-mul-x
-mul-x c = search needs
-
-shared-slice-read-x : tie.Need-shared-slice-read-x
-shared-slice-read-x c = search needs
-
 -- a place inside, whatever is read outside
 place-is : (xs : List ℕ) (k : ℕ) → k < length xs → getD xs k 0 ≡ getD xs k noId
 place-is [] k l = absurd (omega arith)
@@ -45,4 +39,4 @@ returns-2 c =
     ∙ sym (ap (λ (t : Bool). cond t none (some x)) (ne-eqb x noId (λ e. c .if1 .left (place (c .before) ∙ e))))
 
 pub first-step-spec : {M : Type 1} → statement M
-first-step-spec = tie.close (tie.spec mul-x shared-slice-read-x returns returns-2)
+first-step-spec = tie.close (tie.spec (λ c. search needs) (λ c. search needs) returns returns-2)

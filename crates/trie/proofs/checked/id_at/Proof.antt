@@ -10,15 +10,6 @@ use borrow.Author.Needs.{needs}
 use Rattle.trie.proofs.checked.id_at.Statement.{statement}
 use Rattle.trie.proofs.checked.id_at.Tie as tie
 
-cast-node : tie.Need-cast-node
-cast-node c = search needs
-
-mul-i : tie.Need-mul-i
-mul-i c = search needs
-
-shared-slice-read-i : tie.Need-shared-slice-read-i
-shared-slice-read-i c = search needs
-
 returns : tie.Need-returns
 returns c t e =
     let told = c .before .before in
@@ -32,4 +23,4 @@ returns-2 c t e =
     sym (id-some t k (rw e (omega arith)) (λ f. c .if1 .left (sym same ∙ f)) ∙ ap some same)
 
 pub id-at-spec : {M : Type 1} → statement M
-id-at-spec = tie.close (tie.spec cast-node mul-i shared-slice-read-i returns returns-2)
+id-at-spec = tie.close (tie.spec (λ c. search needs) (λ c. search needs) (λ c. search needs) returns returns-2)

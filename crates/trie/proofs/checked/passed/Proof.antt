@@ -8,12 +8,6 @@ use Rattle.trie.proofs.Seeking.{passed-is, at-most}
 use Rattle.trie.proofs.checked.passed.Statement.{statement}
 use Rattle.trie.proofs.checked.passed.Tie as tie
 
-add-result : tie.Need-add-result
-add-result c = search needs
-
-sub-result : tie.Need-sub-result
-sub-result c = search needs
-
 -- how far it goes on, and no further than `part`
 far : (c : tie.Start) → let a = c .args in a .part * ((256 + a .b - a .x) / 256) ≤ a .part
 far c =
@@ -27,4 +21,4 @@ returns : tie.Need-returns
 returns c = (passed-is (c .args .part) (c .args .x) (c .args .b) (omega arith) (omega arith), far c)
 
 pub passed-spec : {M : Type 1} → statement M
-passed-spec = tie.close (tie.spec add-result sub-result mul-result returns)
+passed-spec = tie.close (tie.spec (λ c. search needs) (λ c. search needs) mul-result returns)

@@ -42,9 +42,6 @@ add-passed c = omega arith
 shared-slice-read-passed : tie.Need-shared-slice-read-passed Inv-loop μ-loop
 shared-slice-read-passed c = omega arith
 
-passed-requires : tie.Need-passed-requires Inv-loop μ-loop
-passed-requires c κs = search needs
-
 mul-passed : tie.Need-mul-passed Inv-loop μ-loop
 mul-passed c = omega arith
 
@@ -54,9 +51,6 @@ add-passed-2 c = omega arith
 shared-slice-read-passed-2 : tie.Need-shared-slice-read-passed-2 Inv-loop μ-loop
 shared-slice-read-passed-2 c = omega arith
 
-passed-requires-2 : tie.Need-passed-requires-2 Inv-loop μ-loop
-passed-requires-2 c κs = search needs
-
 mul-passed-2 : tie.Need-mul-passed-2 Inv-loop μ-loop
 mul-passed-2 c = omega arith
 
@@ -65,9 +59,6 @@ add-passed-3 c = omega arith
 
 shared-slice-read-passed-3 : tie.Need-shared-slice-read-passed-3 Inv-loop μ-loop
 shared-slice-read-passed-3 c = omega arith
-
-passed-requires-3 : tie.Need-passed-requires-3 Inv-loop μ-loop
-passed-requires-3 c κs = search needs
 
 add-low : tie.Need-add-low Inv-loop μ-loop
 add-low c = omega arith
@@ -118,15 +109,15 @@ seek-spec =
     loop-holds
     add-passed
     shared-slice-read-passed
-    passed-requires
+    (λ c κs. search needs)
     mul-passed
     add-passed-2
     shared-slice-read-passed-2
-    passed-requires-2
+    (λ c κs. search needs)
     mul-passed-2
     add-passed-3
     shared-slice-read-passed-3
-    passed-requires-3
+    (λ c κs. search needs)
     add-low
     add-low-2
     add-low-3

@@ -46,9 +46,6 @@ mul-is-finite c = omega arith
 shared-slice-read-is-finite : tie.Need-shared-slice-read-is-finite Inv-loop μ-loop
 shared-slice-read-is-finite c = omega arith
 
-is-finite-requires : tie.Need-is-finite-requires Inv-loop μ-loop
-is-finite-requires c κs = search needs
-
 returns : tie.Need-returns Inv-loop μ-loop
 returns c = sym (stopped (c .before .is-finite .result) _ (turn (c .before)) (c .if1 .taken))
 
@@ -75,7 +72,7 @@ all-finite-spec =
     loop-holds
     mul-is-finite
     shared-slice-read-is-finite
-    is-finite-requires
+    (λ c κs. search needs)
     returns
     add-k
     loop-less

@@ -10,9 +10,6 @@ use Rattle.trie.proofs.soundness.edges_sound.Tie as tie
 abbrev entry : tie.Else1 → tie.Start
 entry c = c .before .before
 
-add-if1 : tie.Need-add-if1
-add-if1 c = search needs
-
 returns : tie.Need-returns
 returns c = let a = c .before .before .args in sym (edges-outside (a .byte .now) (a .at) (a .n) (omega arith))
 
@@ -20,13 +17,10 @@ returns-2 : tie.Need-returns-2
 returns-2 c =
     let a = entry (c .before) .args in sym (edges-many (a .byte .now) (a .at) (a .n) (omega arith) (omega arith))
 
-rising-requires : tie.Need-rising-requires
-rising-requires c κs = search needs
-
 returns-3 : tie.Need-returns-3
 returns-3 c =
     let a = entry (c .before .before) .args in
     c .rising .ensures ∙ sym (edges-rise (a .byte .now) (a .at) (a .n) (omega arith) (omega arith))
 
 pub edges-sound-spec : {M : Type 1} → statement M
-edges-sound-spec = tie.close (tie.spec add-if1 returns returns-2 rising-requires returns-3)
+edges-sound-spec = tie.close (tie.spec (λ c. search needs) returns returns-2 (λ c κs. search needs) returns-3)

@@ -47,9 +47,6 @@ mul-edges-sound-2 c = omega arith
 shared-slice-read-edges-sound-2 : tie.Need-shared-slice-read-edges-sound-2 Inv-loop μ-loop
 shared-slice-read-edges-sound-2 c = omega arith
 
-edges-sound-requires : tie.Need-edges-sound-requires Inv-loop μ-loop
-edges-sound-requires c κs = search needs
-
 returns : tie.Need-returns Inv-loop μ-loop
 returns c =
     let h = head (c .before) in
@@ -88,7 +85,7 @@ nodes-sound-spec =
     shared-slice-read-edges-sound
     mul-edges-sound-2
     shared-slice-read-edges-sound-2
-    edges-sound-requires
+    (λ c κs. search needs)
     returns
     add-k
     loop-less

@@ -61,14 +61,8 @@ returns-5 c =
     sym
     (sound-uneven-to (parts (from-if3 (c .before .before))) (omega arith) (omega arith) (omega arith) (omega arith) (c .if5 .taken))
 
-nodes-sound-requires : tie.Need-nodes-sound-requires
-nodes-sound-requires c κs = search needs
-
 returns-6 : tie.Need-returns-6
 returns-6 c = sym (stopped (c .before .nodes-sound .result) _ (level (c .before)) (c .if6 .taken))
-
-targets-inside-requires : tie.Need-targets-inside-requires
-targets-inside-requires c κs = search needs
 
 returns-7 : tie.Need-returns-7
 returns-7 c =
@@ -87,7 +81,7 @@ sound-spec =
     returns-3
     returns-4
     returns-5
-    nodes-sound-requires
+    (λ c κs. search needs)
     returns-6
-    targets-inside-requires
+    (λ c κs. search needs)
     returns-7)

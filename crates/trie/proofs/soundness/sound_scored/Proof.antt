@@ -45,9 +45,6 @@ level c =
     (length-map (e .args .score .now) units ∙ tested .if2 .left)
     ∙ ap (λ (b : Bool). b && allFinite (scores e)) (sym (c .sound .ensures))
 
-is-finite-requires : tie.Need-is-finite-requires
-is-finite-requires c κs = search needs
-
 returns : tie.Need-returns
 returns c =
     let e = entry (c .before .before) in
@@ -62,14 +59,8 @@ returns-2 c =
     (scored-uneven (parts e) (scores e) (units (e .args .unknown-score)) (finite-unknown (c .before))
     (λ same. c .if2 .taken (sym (length-map (e .args .score .now) units) ∙ same)))
 
-sound-requires : tie.Need-sound-requires
-sound-requires c κs = search needs
-
 returns-3 : tie.Need-returns-3
 returns-3 c = sym (stopped (c .before .sound .result) _ (level (c .before)) (c .if3 .taken))
-
-all-finite-requires : tie.Need-all-finite-requires
-all-finite-requires c κs = search needs
 
 returns-4 : tie.Need-returns-4
 returns-4 c =
@@ -80,10 +71,10 @@ pub sound-scored-spec : {M : Type 1} → statement M
 sound-scored-spec =
     tie.close
     (tie.spec
-    is-finite-requires
+    (λ c κs. search needs)
     returns
     returns-2
-    sound-requires
+    (λ c κs. search needs)
     returns-3
-    all-finite-requires
+    (λ c κs. search needs)
     returns-4)

@@ -74,21 +74,6 @@ merge-requires c κs =
     let p = entry w .pre in
     mergeable (p .ready) (w .best-cutting .ensures) (omega (arith, inside (some-text w) .id, w .best-cutting .kept .1 .1 .1 .1 .1 .1 .1 .1 .1 .1 .0)) (p .ids)
 
-same-length : tie.Need-same-length
-same-length c = search needs
-
-same-length-2 : tie.Need-same-length-2
-same-length-2 c = search needs
-
-same-length-3 : tie.Need-same-length-3
-same-length-3 c = search needs
-
-same-length-4 : tie.Need-same-length-4
-same-length-4 c = search needs
-
-same-length-5 : tie.Need-same-length-5
-same-length-5 c = search needs
-
 returns-2 : tie.Need-returns-2
 returns-2 c =
     let g = c .before .before in
@@ -107,9 +92,9 @@ segment-spec =
     slice-reshare-prefix-merge
     slice-aggregate-merge
     merge-requires
-    same-length
-    same-length-2
-    same-length-3
-    same-length-4
-    same-length-5
+    (λ c. search needs)
+    (λ c. search needs)
+    (λ c. search needs)
+    (λ c. search needs)
+    (λ c. search needs)
     returns-2)

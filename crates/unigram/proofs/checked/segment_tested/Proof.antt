@@ -50,9 +50,6 @@ returns-2 c =
     let e = entry (t .before) in
     refused-for (model e) (text e) (columns e) (fault-trie (model e) (text e) (columns e) (t .if1 .left) (sym (e .pre) ∙ not-true (e .args .tested) (c .if2 .taken)))
 
-valid-up-to-requires : tie.Need-valid-up-to-requires
-valid-up-to-requires c κs = search needs
-
 returns-3 : tie.Need-returns-3
 returns-3 c =
     let v = c .before in
@@ -70,36 +67,18 @@ cut-requires c κs =
     let e = entry (t .before) in
     ready-of (model e) (text e) (columns e) (t .if1 .left) (sound u) (omega (arith, w .if3 .left, v .valid-up-to .ensures))
 
-same-length : tie.Need-same-length
-same-length c = search needs
-
-same-length-2 : tie.Need-same-length-2
-same-length-2 c = search needs
-
-same-length-3 : tie.Need-same-length-3
-same-length-3 c = search needs
-
-same-length-4 : tie.Need-same-length-4
-same-length-4 c = search needs
-
-same-length-5 : tie.Need-same-length-5
-same-length-5 c = search needs
-
-returns-4 : tie.Need-returns-4
-returns-4 c = search needs
-
 pub segment-tested-spec : {M : Type 1} → statement M
 segment-tested-spec =
     tie.close
     (tie.spec
     returns
     returns-2
-    valid-up-to-requires
+    (λ c κs. search needs)
     returns-3
     cut-requires
-    same-length
-    same-length-2
-    same-length-3
-    same-length-4
-    same-length-5
-    returns-4)
+    (λ c. search needs)
+    (λ c. search needs)
+    (λ c. search needs)
+    (λ c. search needs)
+    (λ c. search needs)
+    (λ c. search needs))

@@ -13,26 +13,11 @@ filled c = c .before .before .before .before .before .before .before .before
 abbrev entry : tie.After-fill → tie.Start
 entry c = c .before .before .before .before .before .before .before .before .before .before .before .before .before .before .before
 
-fill-requires : tie.Need-fill-requires
-fill-requires c κs = search needs
-
 trace-requires : tie.Need-trace-requires
 trace-requires c κs =
     let f = filled c in
     let p = entry f .pre in
     (starts-fall (p .0) (f .fill .ensures) (omega (arith, f .fill .kept .1 .1 .1 .1 .1 .1 .1 .1 .1 .0, p .1 .start)), omega (arith, ends-few (p .0) (f .fill .ensures), p .2))
-
-same-length : tie.Need-same-length
-same-length c = search needs
-
-same-length-2 : tie.Need-same-length-2
-same-length-2 c = search needs
-
-same-length-3 : tie.Need-same-length-3
-same-length-3 c = search needs
-
-same-length-4 : tie.Need-same-length-4
-same-length-4 c = search needs
 
 returns : tie.Need-returns
 returns c =
@@ -44,10 +29,10 @@ pub best-cutting-spec : {M : Type 1} → statement M
 best-cutting-spec =
     tie.close
     (tie.spec
-    fill-requires
+    (λ c κs. search needs)
     trace-requires
-    same-length
-    same-length-2
-    same-length-3
-    same-length-4
+    (λ c. search needs)
+    (λ c. search needs)
+    (λ c. search needs)
+    (λ c. search needs)
     returns)

@@ -100,9 +100,6 @@ or-false false b e = sym e
 abbrev given : tie.After-slice-known6 → tie.After-offer
 given c = c .before .before .before .before .before .before
 
-is-boundary-requires : tie.Need-is-boundary-requires
-is-boundary-requires c κs = search needs
-
 returns : tie.Need-returns
 returns c m ids scores =
     let e = entry (c .before) in
@@ -110,53 +107,11 @@ returns c m ids scores =
     ended-none m (a .text .now) (a .node) (a .i) (a .one) (a .single) (a .at) (units (a .till)) (columns e)
     (ends-off m (a .node) (a .text .now) (a .i) (sym (c .before .is-boundary .ensures) ∙ not-true (c .before .is-boundary .result) (c .if1 .taken)))
 
-id-at-requires : tie.Need-id-at-requires
-id-at-requires c κs = search needs
-
-enum-known-x : tie.Need-enum-known-x
-enum-known-x c = search needs
-
-cast-t21 : tie.Need-cast-t21
-cast-t21 c = search needs
-
-mul-added : tie.Need-mul-added
-mul-added c = search needs
-
-shared-slice-read-added : tie.Need-shared-slice-read-added
-shared-slice-read-added c = search needs
-
-added-requires : tie.Need-added-requires
-added-requires c κs = search needs
-
-offer-requires : tie.Need-offer-requires
-offer-requires c κs = search needs
-
-same-length : tie.Need-same-length
-same-length c = search needs
-
-same-length-2 : tie.Need-same-length-2
-same-length-2 c = search needs
-
-same-length-3 : tie.Need-same-length-3
-same-length-3 c = search needs
-
 returns-2 : tie.Need-returns-2
 returns-2 c m ids scores =
     let o = given (c .before) in
     let a = begun (told (summed o)) .args in
     gave o m true ids scores (or-true (a .single) (eqb (a .i) (a .one)) (eq-eqb (a .i) (a .one) (c .if2 .taken)))
-
-enum-told : tie.Need-enum-told
-enum-told c = search needs
-
-same-length-4 : tie.Need-same-length-4
-same-length-4 c = search needs
-
-same-length-5 : tie.Need-same-length-5
-same-length-5 c = search needs
-
-same-length-6 : tie.Need-same-length-6
-same-length-6 c = search needs
 
 returns-3 : tie.Need-returns-3
 returns-3 c m ids scores =
@@ -176,22 +131,22 @@ pub end-at-spec : {M : Type 1} → statement M
 end-at-spec =
     tie.close
     (tie.spec
-    is-boundary-requires
+    (λ c κs. search needs)
     returns
-    id-at-requires
-    enum-known-x
-    cast-t21
-    mul-added
-    shared-slice-read-added
-    added-requires
-    offer-requires
-    same-length
-    same-length-2
-    same-length-3
+    (λ c κs. search needs)
+    (λ c. search needs)
+    (λ c. search needs)
+    (λ c. search needs)
+    (λ c. search needs)
+    (λ c κs. search needs)
+    (λ c κs. search needs)
+    (λ c. search needs)
+    (λ c. search needs)
+    (λ c. search needs)
     returns-2
-    enum-told
-    same-length-4
-    same-length-5
-    same-length-6
+    (λ c. search needs)
+    (λ c. search needs)
+    (λ c. search needs)
+    (λ c. search needs)
     returns-3
     returns-4)

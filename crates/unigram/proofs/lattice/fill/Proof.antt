@@ -76,9 +76,6 @@ goes-on c =
 clear-requires : tie.Need-clear-requires Inv-loop μ-loop
 clear-requires c κs = asked c .pre .1
 
-slice-aggregate-fill-first : tie.Need-slice-aggregate-fill-first Inv-loop μ-loop
-slice-aggregate-fill-first c = search needs
-
 fill-first-requires : tie.Need-fill-first-requires Inv-loop μ-loop
 fill-first-requires c κs =
     let e = begun (unmade c) in
@@ -90,9 +87,6 @@ loop-holds c =
     let d = emptied c in
     let e = begun d in
     (omega arith, boundary-zero (text e) (e .pre .0 .well), refl, refl, refl, holds-none (d .clear .ensures), λ k l. refl)
-
-slice-aggregate-work-at : tie.Need-slice-aggregate-work-at Inv-loop μ-loop
-slice-aggregate-work-at c = search needs
 
 work-at-requires : tie.Need-work-at-requires Inv-loop μ-loop
 work-at-requires c κs =
@@ -167,10 +161,10 @@ fill-spec =
     Inv-loop
     μ-loop
     clear-requires
-    slice-aggregate-fill-first
+    (λ c. search needs)
     fill-first-requires
     loop-holds
-    slice-aggregate-work-at
+    (λ c. search needs)
     work-at-requires
     loop-less
     loop-again

@@ -105,12 +105,6 @@ step-by-requires c κs =
     let e = entry (h .before) in
     (record { ids = e .args .id .now; parts = e .pre .0 .parts; inside = h .loop .inv .2 }, e .pre .2)
 
-enum-known-next : tie.Need-enum-known-next Inv-loop μ-loop
-enum-known-next c = search needs
-
-enum-told : tie.Need-enum-told Inv-loop μ-loop
-enum-told c = search needs
-
 same-length : tie.Need-same-length Inv-loop μ-loop
 same-length c = head (c .before .before) .loop .inv .3
 
@@ -199,8 +193,8 @@ offer-known-spec =
     loop-holds
     shared-slice-read-step-by
     step-by-requires
-    enum-known-next
-    enum-told
+    (λ c. search needs)
+    (λ c. search needs)
     same-length
     same-length-2
     same-length-3

@@ -122,18 +122,6 @@ unknown-is : (x : Double) (at id : ℕ) (score : Float) (q : Slot) → q .start 
 unfolding candidate
 unknown-is x at id score q a b c = same-slot q (candidate x at (pieceWith id score)) a b c
 
-mul-till : tie.Need-mul-till
-mul-till c = search needs
-
-slice-read-till : tie.Need-slice-read-till
-slice-read-till c = search needs
-
-shared-slice-read-char-len : tie.Need-shared-slice-read-char-len
-shared-slice-read-char-len c = search needs
-
-char-len-requires : tie.Need-char-len-requires
-char-len-requires c κs = search needs
-
 add-one : tie.Need-add-one
 add-one c = let l = within c in omega arith
 
@@ -153,15 +141,6 @@ offer-known-requires c κs =
       e .pre .1,
     )
 
-same-length : tie.Need-same-length
-same-length c = search needs
-
-same-length-2 : tie.Need-same-length-2
-same-length-2 c = search needs
-
-same-length-3 : tie.Need-same-length-3
-same-length-3 c = search needs
-
 returns : tie.Need-returns
 returns c =
     let k = offered (c .before) in
@@ -172,9 +151,6 @@ returns c =
 cast-t30 : tie.Need-cast-t30
 cast-t30 c = let e = entry (measured (offered (c .before))) in omega (arith, e .pre .0 .below, e .pre .0 .ready .size)
 
-added-requires : tie.Need-added-requires
-added-requires c κs = search needs
-
 offer-requires : tie.Need-offer-requires
 offer-requires c κs =
     let t = weighed c in
@@ -184,15 +160,6 @@ offer-requires c κs =
     let s = entry d .pre .0 .inside in
     let kept = k .offer-known .kept .1 .1 .1 .1 .1 .1 .1 .1 .1 .1 in
     record { start = omega (arith, s .start, kept .0); id = omega (arith, s .id, kept .1 .0); score = omega (arith, s .score, kept .1 .1 .0) }
-
-same-length-4 : tie.Need-same-length-4
-same-length-4 c = search needs
-
-same-length-5 : tie.Need-same-length-5
-same-length-5 c = search needs
-
-same-length-6 : tie.Need-same-length-6
-same-length-6 c = search needs
 
 returns-2 : tie.Need-returns-2
 returns-2 c =
@@ -209,20 +176,20 @@ pub work-at-spec : {M : Type 1} → statement M
 work-at-spec =
     tie.close
     (tie.spec
-    mul-till
-    slice-read-till
-    shared-slice-read-char-len
-    char-len-requires
+    (λ c. search needs)
+    (λ c. search needs)
+    (λ c. search needs)
+    (λ c κs. search needs)
     add-one
     offer-known-requires
-    same-length
-    same-length-2
-    same-length-3
+    (λ c. search needs)
+    (λ c. search needs)
+    (λ c. search needs)
     returns
     cast-t30
-    added-requires
+    (λ c κs. search needs)
     offer-requires
-    same-length-4
-    same-length-5
-    same-length-6
+    (λ c. search needs)
+    (λ c. search needs)
+    (λ c. search needs)
     returns-2)

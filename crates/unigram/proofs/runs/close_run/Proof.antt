@@ -29,9 +29,6 @@ returns c =
     let a = e .args in
     placed-as (placed-none (a .ids .now) (a .n)) (sym (ids-none (partId (parts e) (a .text .now)) (a .unknown) (a .run) (a .at) (c .if1 .taken)))
 
-run-id-requires : tie.Need-run-id-requires
-run-id-requires c κs = search needs
-
 mul-ids : tie.Need-mul-ids
 mul-ids c = let l = room (c .before) in omega arith
 
@@ -40,9 +37,6 @@ slice-write-ids c = room (c .before)
 
 add-result : tie.Need-add-result
 add-result c = let l = room (c .before) in omega arith
-
-same-length : tie.Need-same-length
-same-length c = search needs
 
 returns-2 : tie.Need-returns-2
 returns-2 c =
@@ -59,4 +53,4 @@ returns-2 c =
 pub close-run-spec : {M : Type 1} → statement M
 close-run-spec =
     tie.close
-    (tie.spec returns run-id-requires mul-ids slice-write-ids add-result same-length returns-2)
+    (tie.spec returns (λ c κs. search needs) mul-ids slice-write-ids add-result (λ c. search needs) returns-2)

@@ -58,12 +58,6 @@ ahead c =
 loop-holds : tie.Need-loop-holds Inv-loop μ-loop
 loop-holds c = let e = entry c in going-first (look e) (e .args .unknown) (length (e .args .text .now)) (e .args .slot-id .now) (e .args .path .now) (e .args .ids .now) (e .pre .ends)
 
-mul-end : tie.Need-mul-end Inv-loop μ-loop
-mul-end c = search needs
-
-shared-slice-read-end : tie.Need-shared-slice-read-end Inv-loop μ-loop
-shared-slice-read-end c = search needs
-
 cast-end : tie.Need-cast-end Inv-loop μ-loop
 cast-end c = omega (arith, c .shared-slice-known9 .given (c .before .before .loop .k))
 
@@ -82,9 +76,6 @@ stand-requires c κs =
     let g = h .loop .inv in
     let e = begun h in
     (record { sound = e .pre .sound; forward = g .back; inside = g .inside }, omega (arith, g .few, g .level, t .loop-test .taken, e .pre .room))
-
-run-after-requires : tie.Need-run-after-requires Inv-loop μ-loop
-run-after-requires c κs = search needs
 
 add-k : tie.Need-add-k Inv-loop μ-loop
 add-k c = let l = turn (stood c) .loop-test .taken in omega arith
@@ -137,13 +128,13 @@ merge-spec =
     Inv-loop
     μ-loop
     loop-holds
-    mul-end
-    shared-slice-read-end
+    (λ c. search needs)
+    (λ c. search needs)
     cast-end
     mul-x
     shared-slice-read-x
     stand-requires
-    run-after-requires
+    (λ c κs. search needs)
     add-k
     loop-less
     loop-again

@@ -19,24 +19,6 @@ entry c = c .before .before .before .before .before .before .before .before
 abbrev parts : tie.Start → Trie
 parts c = let a = c .args in partsOf (a .edge-at .now) (a .edge-n .now) (a .id .now) (a .byte .now) (a .to .now)
 
-sub-exact : tie.Need-sub-exact
-sub-exact c = search needs
-
-part-exact-start : tie.Need-part-exact-start
-part-exact-start c = search needs
-
-part-exact-end : tie.Need-part-exact-end
-part-exact-end c = search needs
-
-exact-requires : tie.Need-exact-requires
-exact-requires c κs = search needs
-
-enum-known-i : tie.Need-enum-known-i
-enum-known-i c = search needs
-
-enum-told : tie.Need-enum-told
-enum-told c = search needs
-
 returns : tie.Need-returns
 returns c =
     let i = c .before in
@@ -56,11 +38,11 @@ pub run-id-spec : {M : Type 1} → statement M
 run-id-spec =
     tie.close
     (tie.spec
-    sub-exact
-    part-exact-start
-    part-exact-end
-    exact-requires
-    enum-known-i
-    enum-told
+    (λ c. search needs)
+    (λ c. search needs)
+    (λ c. search needs)
+    (λ c κs. search needs)
+    (λ c. search needs)
+    (λ c. search needs)
     returns
     returns-2)

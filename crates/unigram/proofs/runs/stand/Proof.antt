@@ -54,9 +54,6 @@ slice-write-ids c = omega (arith, room (closed c), kept (closed c))
 add-result : tie.Need-add-result
 add-result c = let l = room (closed c) in omega arith
 
-same-length : tie.Need-same-length
-same-length c = search needs
-
 returns-2 : tie.Need-returns-2
 returns-2 c =
     let d = closed c in
@@ -70,4 +67,4 @@ returns-2 c =
 pub stand-spec : {M : Type 1} → statement M
 stand-spec =
     tie.close
-    (tie.spec returns close-run-requires mul-ids slice-write-ids add-result same-length returns-2)
+    (tie.spec returns close-run-requires mul-ids slice-write-ids add-result (λ c. search needs) returns-2)

@@ -79,12 +79,6 @@ loop-holds c =
 longest-requires : tie.Need-longest-requires Inv-loop μ-loop
 longest-requires c κs = let h = c .before in (entry h .pre .0, (entry h .pre .1 .0, h .loop .inv .below))
 
-enum-known-piece : tie.Need-enum-known-piece Inv-loop μ-loop
-enum-known-piece c = search needs
-
-enum-told : tie.Need-enum-told Inv-loop μ-loop
-enum-told c = search needs
-
 same-length : tie.Need-same-length Inv-loop μ-loop
 same-length c = head (c .before .before) .loop .inv .level
 
@@ -98,9 +92,6 @@ returns c =
       answered = sym (h .loop .inv .same ∙ ap (λ (o : Option (List ℕ)). more (h .loop .n) (counted o)) miss);
       held = λ xs g. absurd (none-some (sym miss ∙ h .loop .inv .stored xs g .1));
     }
-
-hold-requires : tie.Need-hold-requires Inv-loop μ-loop
-hold-requires c κs = search needs
 
 add-n : tie.Need-add-n Inv-loop μ-loop
 add-n c =
@@ -169,11 +160,11 @@ count-rest-spec =
     μ-loop
     loop-holds
     longest-requires
-    enum-known-piece
-    enum-told
+    (λ c. search needs)
+    (λ c. search needs)
     same-length
     returns
-    hold-requires
+    (λ c κs. search needs)
     add-n
     loop-less
     loop-again

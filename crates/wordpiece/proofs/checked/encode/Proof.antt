@@ -79,14 +79,8 @@ returns c =
     let e = c .before .before .before .before .before .before .before .before .before in
     written (e .args .ids .now) (ids-empty (find e) (e .args .unknown) (e .args .max-chars) (e .args .prefix .now) (word e) (c .if1 .taken)) (refl, refl)
 
-too-long-requires : tie.Need-too-long-requires
-too-long-requires c κs = search needs
-
 put-requires : tie.Need-put-requires
 put-requires c κs = place (c .before .before .before)
-
-same-length : tie.Need-same-length
-same-length c = search needs
 
 returns-2 : tie.Need-returns-2
 returns-2 c =
@@ -97,25 +91,13 @@ returns-2 c =
     (ids-long (find e) (e .args .unknown) (e .args .max-chars) (e .args .prefix .now) (word e) (sym (arm .before .too-long .ensures) ∙ arm .if2 .taken))
     (called .put .ensures)
 
-root-requires : tie.Need-root-requires
-root-requires c κs = search needs
-
 longest-requires : tie.Need-longest-requires
 longest-requires c κs =
     let e = entry (c .before .before .before) in
     (e .pre .parts, (omega (arith, c .root .ensures, e .pre .parts .some-node), omega arith))
 
-enum-known-first : tie.Need-enum-known-first
-enum-known-first c = search needs
-
-enum-told : tie.Need-enum-told
-enum-told c = search needs
-
 put-requires-2 : tie.Need-put-requires-2
 put-requires-2 c κs = place (nonempty (c .before .before .before))
-
-same-length-2 : tie.Need-same-length-2
-same-length-2 c = search needs
 
 returns-3 : tie.Need-returns-3
 returns-3 c =
@@ -131,9 +113,6 @@ returns-3 c =
 
 put-requires-3 : tie.Need-put-requires-3
 put-requires-3 c κs = let f = c .before .before .before in place (nonempty (sought f))
-
-same-length-3 : tie.Need-same-length-3
-same-length-3 c = search needs
 
 returns-4 : tie.Need-returns-4
 returns-4 c =
@@ -153,9 +132,6 @@ encode-rest-requires c κs =
     let s = longest-ends (find e) [] (word e) 0 (length (word e)) (first f) in
     (e .pre, record { longest = first f; below = omega (arith, s .below, arm .if3 .left) })
 
-same-length-4 : tie.Need-same-length-4
-same-length-4 c = search needs
-
 returns-5 : tie.Need-returns-5
 returns-5 c =
     let called = c .before .before in
@@ -167,20 +143,20 @@ encode-spec =
     tie.close
     (tie.spec
     returns
-    too-long-requires
+    (λ c κs. search needs)
     put-requires
-    same-length
+    (λ c. search needs)
     returns-2
-    root-requires
+    (λ c κs. search needs)
     longest-requires
-    enum-known-first
-    enum-told
+    (λ c. search needs)
+    (λ c. search needs)
     put-requires-2
-    same-length-2
+    (λ c. search needs)
     returns-3
     put-requires-3
-    same-length-3
+    (λ c. search needs)
     returns-4
     encode-rest-requires
-    same-length-4
+    (λ c. search needs)
     returns-5)

@@ -89,27 +89,15 @@ pieces c =
     follows (parts e) (e .args .unknown) (prefix e) (word e) (e .pre .0 .well) (e .pre .1) (at r)
     (sym (ap countIn (c .n .given .1)) ∙ k .count-rest .ensures .answered)
 
-root-requires : tie.Need-root-requires
-root-requires c κs = search needs
-
 over-requires : tie.Need-over-requires
 over-requires c κs =
     let e = c .before .before .before .before .before .before .before .before .before in
     record { ids = e .args .id .now; parts = e .pre .0 .parts; inside = omega (arith, c .root .ensures, e .pre .0 .parts .some-node) }
 
-enum-known-rest : tie.Need-enum-known-rest
-enum-known-rest c = search needs
-
-enum-told : tie.Need-enum-told
-enum-told c = search needs
-
 put-requires : tie.Need-put-requires
 put-requires c κs =
     let told = c .before in
     omega (arith, missing told .1, entry (told .before .before) .pre .0 .room)
-
-same-length : tie.Need-same-length
-same-length c = search needs
 
 returns : tie.Need-returns
 returns c =
@@ -117,20 +105,11 @@ returns c =
     let told = called .before .before in
     written (entry (told .before .before) .args .ids .now) (missing told .0) (called .put .ensures)
 
-slice-aggregate-count-rest : tie.Need-slice-aggregate-count-rest
-slice-aggregate-count-rest c = search needs
-
 count-rest-requires : tie.Need-count-rest-requires
 count-rest-requires c κs =
     let r = c .before .before in
     let e = begun r in
     (e .pre .0 .parts, (inside r, omega (arith, e .pre .1 .below)))
-
-enum-known-n : tie.Need-enum-known-n
-enum-known-n c = search needs
-
-slice-aggregate-put-all : tie.Need-slice-aggregate-put-all
-slice-aggregate-put-all c = search needs
 
 put-all-requires : tie.Need-put-all-requires
 put-all-requires c κs =
@@ -148,16 +127,10 @@ put-all-requires c κs =
       ),
     )
 
-enum-told-2 : tie.Need-enum-told-2
-enum-told-2 c = search needs
-
 put-requires-2 : tie.Need-put-requires-2
 put-requires-2 c κs =
     let told = c .before in
     omega (arith, missed told .1, begun (walked-from (counted-to told)) .pre .0 .room)
-
-same-length-2 : tie.Need-same-length-2
-same-length-2 c = search needs
 
 returns-2 : tie.Need-returns-2
 returns-2 c =
@@ -167,9 +140,6 @@ returns-2 c =
     let f = pieces bound in
     let done = called .put-all .ensures (f .ids) (f .rest) in
     written (e .args .ids .now) (f .whole) (omega (arith, done .0), done .1)
-
-same-length-3 : tie.Need-same-length-3
-same-length-3 c = search needs
 
 returns-3 : tie.Need-returns-3
 returns-3 c =
@@ -181,21 +151,21 @@ pub encode-rest-spec : {M : Type 1} → statement M
 encode-rest-spec =
     tie.close
     (tie.spec
-    root-requires
+    (λ c κs. search needs)
     over-requires
-    enum-known-rest
-    enum-told
+    (λ c. search needs)
+    (λ c. search needs)
     put-requires
-    same-length
+    (λ c. search needs)
     returns
-    slice-aggregate-count-rest
+    (λ c. search needs)
     count-rest-requires
-    enum-known-n
-    slice-aggregate-put-all
+    (λ c. search needs)
+    (λ c. search needs)
     put-all-requires
-    enum-told-2
+    (λ c. search needs)
     put-requires-2
-    same-length-2
+    (λ c. search needs)
     returns-2
-    same-length-3
+    (λ c. search needs)
     returns-3)

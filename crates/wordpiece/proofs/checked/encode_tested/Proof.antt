@@ -25,15 +25,6 @@ judged-fault j = let e = entry j in sym (j .judge .ensures (parts e) (e .args .i
 fine : (c : tie.After-enum-told) → encodeFault (parts (entry (c .before .before))) (entry (c .before .before) .args .prefix .now) (entry (c .before .before) .args .word .now) (entry (c .before .before) .args .ids .now) ≡ none
 fine c = judged-fault (c .before .before) ∙ ap faultIn (c .enum-told .given .1)
 
-judge-requires : tie.Need-judge-requires
-judge-requires c κs = search needs
-
-enum-known-judged : tie.Need-enum-known-judged
-enum-known-judged c = search needs
-
-enum-told : tie.Need-enum-told
-enum-told c = search needs
-
 encode-requires : tie.Need-encode-requires
 encode-requires c κs =
     let told = c .before in
@@ -48,9 +39,6 @@ returns c =
     encoded-refused (parts e) (e .args .prefix .now) (e .args .word .now) (e .args .ids .now) (e .args .unknown) (e .args .max-chars)
     (judged-fault j ∙ ap faultIn (bound .judged .given .1))
 
-same-length : tie.Need-same-length
-same-length c = search needs
-
 returns-2 : tie.Need-returns-2
 returns-2 c =
     let called = c .before .before in
@@ -63,4 +51,4 @@ returns-2 c =
 pub encode-tested-spec : {M : Type 1} → statement M
 encode-tested-spec =
     tie.close
-    (tie.spec judge-requires enum-known-judged enum-told encode-requires returns same-length returns-2)
+    (tie.spec (λ c κs. search needs) (λ c. search needs) (λ c. search needs) encode-requires returns (λ c. search needs) returns-2)

@@ -29,22 +29,10 @@ by-id c t e =
     let a = start (c .before) .args in
     ap (λ (b : Bool). endAt b (a .j) (idAt t (a .at .node))) (boundary-here c) ∙ ap (foundAt (a .j)) e
 
-is-boundary-requires : tie.Need-is-boundary-requires
-is-boundary-requires c κs = search needs
-
 returns : tie.Need-returns
 returns c t e =
     let a = start (c .before) .args in
     ap (λ (b : Bool). endAt b (a .j) (idAt t (a .at .node))) (sym (c .before .is-boundary .ensures) ∙ not-true _ (c .if1 .taken))
-
-id-at-requires : tie.Need-id-at-requires
-id-at-requires c κs = search needs
-
-enum-told : tie.Need-enum-told
-enum-told c = search needs
-
-enum-told-2 : tie.Need-enum-told-2
-enum-told-2 c = search needs
 
 returns-2 : tie.Need-returns-2
 returns-2 c t e =
@@ -64,10 +52,10 @@ pub ends-here-spec : {M : Type 1} → statement M
 ends-here-spec =
     tie.close
     (tie.spec
-    is-boundary-requires
+    (λ c κs. search needs)
     returns
-    id-at-requires
-    enum-told
-    enum-told-2
+    (λ c κs. search needs)
+    (λ c. search needs)
+    (λ c. search needs)
     returns-2
     returns-3)

@@ -69,9 +69,6 @@ returns-3 c t ids s e =
     (fault-trie t (prefix b) (word b) ids (two .before .if1 .left) (two .if2 .left)
     (s ∙ not-true _ (c .if3 .taken)))
 
-valid-up-to-requires : tie.Need-valid-up-to-requires
-valid-up-to-requires c κs = search needs
-
 returns-4 : tie.Need-returns-4
 returns-4 c t ids s e =
     let three = c .before .before in
@@ -80,9 +77,6 @@ returns-4 c t ids s e =
     sym
     (fault-text t (prefix b) (word b) ids (two .before .if1 .left) (two .if2 .left) (sound-parts three t s)
     (short-ill (word b) (omega (arith, c .before .valid-up-to .ensures, c .if4 .taken))))
-
-valid-up-to-requires-2 : tie.Need-valid-up-to-requires-2
-valid-up-to-requires-2 c κs = search needs
 
 returns-5 : tie.Need-returns-5
 returns-5 c t ids s e =
@@ -126,9 +120,9 @@ judge-spec =
     returns
     returns-2
     returns-3
-    valid-up-to-requires
+    (λ c κs. search needs)
     returns-4
-    valid-up-to-requires-2
+    (λ c κs. search needs)
     returns-5
     characters-requires
     returns-6

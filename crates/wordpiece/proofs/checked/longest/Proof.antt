@@ -123,15 +123,6 @@ step-requires c κs =
     let h = c .before .before in
     record { ids = entry h .args .id .now; parts = entry h .pre .0; inside = h .loop .inv .inside }
 
-enum-known-next : tie.Need-enum-known-next Inv-loop μ-loop
-enum-known-next c = search needs
-
-enum-told : tie.Need-enum-told Inv-loop μ-loop
-enum-told c = search needs
-
-piece-to-requires : tie.Need-piece-to-requires Inv-loop μ-loop
-piece-to-requires c κs = search needs
-
 returns : tie.Need-returns Inv-loop μ-loop
 returns c =
     let told = c .before in
@@ -191,9 +182,6 @@ loop-again-2 c =
     turn b
     (h .loop .inv .longest ∙ sym (ap (λ (r : Bool). pick (foundIf r (j + 1) (id-here b)) (longest-to h j)) (c .if1 .left)))
 
-piece-to-requires-2 : tie.Need-piece-to-requires-2 Inv-loop μ-loop
-piece-to-requires-2 c κs = search needs
-
 returns-2 : tie.Need-returns-2 Inv-loop μ-loop
 returns-2 c =
     let left = c .before in
@@ -211,9 +199,9 @@ longest-spec =
     loop-holds
     shared-slice-read-step
     step-requires
-    enum-known-next
-    enum-told
-    piece-to-requires
+    (λ c. search needs)
+    (λ c. search needs)
+    (λ c κs. search needs)
     returns
     add-j
     ends-here-requires
@@ -224,5 +212,5 @@ longest-spec =
     loop-again
     loop-less-2
     loop-again-2
-    piece-to-requires-2
+    (λ c κs. search needs)
     returns-2)

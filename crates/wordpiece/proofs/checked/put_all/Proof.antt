@@ -26,9 +26,6 @@ level e = length-set (e .args .ids .now) 0 (e .args .first .id)
 held : (e : tie.Start) → Held (e .pre .1 .1 .0 .ids) (e .args .held .now) (e .args .n)
 held e = e .pre .1 .1 .1 (e .pre .1 .1 .0 .ids) (e .pre .1 .1 .0 .rest)
 
-slice-write-ids : tie.Need-slice-write-ids
-slice-write-ids c = search needs
-
 write-rest-requires : tie.Need-write-rest-requires
 write-rest-requires c κs =
     let e = again (c .before) in
@@ -79,7 +76,7 @@ pub put-all-spec : {M : Type 1} → statement M
 put-all-spec =
     tie.close
     (tie.spec
-    slice-write-ids
+    (λ c. search needs)
     write-rest-requires
     same-length
     returns

@@ -15,11 +15,8 @@ returns c =
     let a = c .before .before .args in
     sym (le-ltb (a .limit) (characters (a .w .now)) (omega (arith, c .if1 .taken, characters-le (a .w .now))))
 
-characters-requires : tie.Need-characters-requires
-characters-requires c κs = search needs
-
 returns-2 : tie.Need-returns-2
 returns-2 c = ap (ltb (c .before .before .before .args .limit)) (c .characters .ensures)
 
 pub too-long-spec : {M : Type 1} → statement M
-too-long-spec = tie.close (tie.spec returns characters-requires returns-2)
+too-long-spec = tie.close (tie.spec returns (λ c κs. search needs) returns-2)

@@ -96,12 +96,6 @@ loop-holds c =
 longest-requires : tie.Need-longest-requires Inv-loop μ-loop
 longest-requires c κs = let h = c .before in (entry h .pre .0, (entry h .pre .1 .0, h .loop .inv .below))
 
-enum-known-piece : tie.Need-enum-known-piece Inv-loop μ-loop
-enum-known-piece c = search needs
-
-enum-told : tie.Need-enum-told Inv-loop μ-loop
-enum-told c = search needs
-
 same-length : tie.Need-same-length Inv-loop μ-loop
 same-length c = absurd (never c)
 
@@ -160,8 +154,8 @@ write-rest-spec =
     μ-loop
     loop-holds
     longest-requires
-    enum-known-piece
-    enum-told
+    (λ c. search needs)
+    (λ c. search needs)
     same-length
     returns
     mul-ids

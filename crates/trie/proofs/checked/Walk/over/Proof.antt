@@ -55,12 +55,6 @@ step-requires c κs =
     let pre = entry (h .before) .pre in
     record { ids = pre .ids; parts = pre .parts; inside = h .loop .inv .1 }
 
-enum-known-next : tie.Need-enum-known-next Inv-loop μ-loop
-enum-known-next c = search needs
-
-enum-told : tie.Need-enum-told Inv-loop μ-loop
-enum-told c = search needs
-
 returns : tie.Need-returns Inv-loop μ-loop
 returns c ids =
     let told = c .before .before in
@@ -109,8 +103,8 @@ over-spec =
     loop-holds
     shared-slice-read-step
     step-requires
-    enum-known-next
-    enum-told
+    (λ c. search needs)
+    (λ c. search needs)
     returns
     add-i
     loop-less

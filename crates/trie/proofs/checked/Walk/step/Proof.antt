@@ -12,23 +12,8 @@ use Rattle.trie.proofs.checked.Walk.step.Tie as tie
 abbrev entry : tie.After-shared-slice-known5 → tie.Start
 entry c = c .before .before .before .before .before .before
 
-cast-node : tie.Need-cast-node
-cast-node c = search needs
-
-mul-at : tie.Need-mul-at
-mul-at c = search needs
-
-shared-slice-read-at : tie.Need-shared-slice-read-at
-shared-slice-read-at c = search needs
-
 cast-at : tie.Need-cast-at
 cast-at c = omega (arith, c .shared-slice-known5 .given (entry c .args .self .node))
-
-mul-n : tie.Need-mul-n
-mul-n c = search needs
-
-shared-slice-read-n : tie.Need-shared-slice-read-n
-shared-slice-read-n c = search needs
 
 cast-n : tie.Need-cast-n
 cast-n c = omega (arith, c .shared-slice-known6 .given (entry (c .before) .args .self .node))
@@ -52,12 +37,12 @@ pub step-spec : {M : Type 1} → statement M
 step-spec =
     tie.close
     (tie.spec
-    cast-node
-    mul-at
-    shared-slice-read-at
+    (λ c. search needs)
+    (λ c. search needs)
+    (λ c. search needs)
     cast-at
-    mul-n
-    shared-slice-read-n
+    (λ c. search needs)
+    (λ c. search needs)
     cast-n
     seek-requires
     returns)

@@ -24,11 +24,5 @@ returns c ids =
     ∙ e .pre .1 .led (a .b) (omega arith)
     ∙ ap (λ (k : ℕ). step (partsOf (a .edge-at .now) (a .edge-n .now) ids (a .byte .now) (a .to .now)) k (a .b)) (sym (c .before .if1 .taken))
 
-step-requires : tie.Need-step-requires
-step-requires c κs = search needs
-
-returns-2 : tie.Need-returns-2
-returns-2 c = search needs
-
 pub step-by-spec : {M : Type 1} → statement M
-step-by-spec = tie.close (tie.spec first-step-requires returns step-requires returns-2)
+step-by-spec = tie.close (tie.spec first-step-requires returns (λ c κs. search needs) (λ c. search needs))
