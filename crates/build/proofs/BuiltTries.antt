@@ -78,8 +78,7 @@ module _ (tab : List ℕ) (rows : List Row) (bytes : Bytes tab) where
 
 pub length-scores : (tab : List ℕ) (rows : List Row) → length (unigramScores tab rows) ≡ nodesOf tab rows
 unfolding unigramScores
-length-scores tab rows =
-    let tokens = tokensOf tab rows in length-map (names tokens) (λ s. nodeScore (scoresOf rows) (firstRow tokens s))
+length-scores tab rows = length-map (names (tokensOf tab rows)) _
 
 -- the score of node k is that of the row of its string
 pub score-at :

@@ -17,7 +17,7 @@ use Rattle.doubles.proofs.Sums.{sum-number, sum-mono, never-minus-zero}
 use Rattle.cutting.specs.Cuttings.{Piece, Rule, Slot, nth, Cutting, empty, then, total, Through, whole, Best}
 use Rattle.cutting.specs.Records.{offered, candidate, offeredAll, best, standsAt}
 use Rattle.cutting.proofs.Laws.{keeps, takes}
-use Rattle.cutting.proofs.Lists.{below-or}
+use Rattle.refusal.proofs.Lists.{below-or}
 use Rattle.cutting.proofs.Working.{Pieces, no-piece, true-false, looked, worked, passed, none-before, stands-first, stands-record, record-stands}
 
 some-same : {A : Type 0} {x y : A} → some x ≡ some y → x ≡ y

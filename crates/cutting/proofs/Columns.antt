@@ -17,7 +17,7 @@ use Rattle.refusal.specs.Sizes.{noId}
 use Rattle.cutting.specs.Cuttings.{Slot}
 use Rattle.cutting.specs.Records.{shown}
 use Rattle.cutting.specs.Slots.{Slots, slotsOf, slotAt, Inside, PutAt, Cleared, taken}
-use Rattle.cutting.proofs.Lists.{below-or, map-inside, place-inside, map-set}
+use Rattle.refusal.proofs.Lists.{below-or, map-inside, place-inside, map-set}
 use Rattle.cutting.proofs.Best.{same-slot}
 
 -- ---- places

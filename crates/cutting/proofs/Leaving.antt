@@ -18,7 +18,7 @@ use Rattle.cutting.specs.Records.{best, shown, recordsFrom, followed, st
 use Rattle.cutting.specs.Slots.{Slots, slotAt}
 use Rattle.cutting.specs.Tracing.{followedIn, endsFrom, stepsAt, Ends, Falling, Traced}
 use Rattle.cutting.specs.Law.{Recorded, bestPieces, slotsLeft, pathLeft, RecordLaw}
-use Rattle.cutting.proofs.Lists.{below-or, map-inside}
+use Rattle.refusal.proofs.Lists.{below-or, map-inside}
 use Rattle.cutting.proofs.Working.{Pieces, settled-le}
 use Rattle.cutting.proofs.Best.{sooner-below, filled, is-best}
 use Rattle.cutting.proofs.Following.{piece-to, followed-first, followed-more, chained, chain-ends, covers, named}

@@ -1,6 +1,4 @@
 -- Laws of cuttings by any rule of what a piece is, that the layers above cite.
--- numbers and lists
-pub mod Lists
 -- what a record takes
 pub mod Laws
 -- the turns of the work

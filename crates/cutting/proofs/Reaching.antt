@@ -10,7 +10,7 @@ use lib.Dec.{T}
 use Rattle.doubles.specs.Double.{Double}
 use Rattle.cutting.specs.Cuttings.{Piece, Rule, nth, Cutting, empty, then, total}
 use Rattle.cutting.specs.Records.{standsAt}
-use Rattle.cutting.proofs.Lists.{below-or}
+use Rattle.refusal.proofs.Lists.{below-or}
 use Rattle.cutting.proofs.Working.{Pieces, true-false}
 use Rattle.cutting.proofs.Best.{at-most-best}
 

@@ -12,7 +12,7 @@ use lib.Dec.{T}
 use Rattle.doubles.specs.Double.{Double, plusZero, sum, atMost, isNumber, isFinite}
 use Rattle.cutting.specs.Cuttings.{Piece, Rule, Slot, nth}
 use Rattle.cutting.specs.Records.{offeredAll, standing, best, standsAt}
-use Rattle.cutting.proofs.Lists.{below-or}
+use Rattle.refusal.proofs.Lists.{below-or}
 
 -- What is asked of a rule. A piece is not empty, ends within the text and has a finite score. A sum that counts is a number,
 -- one that is at least as great counts too, and so does what it was added to.

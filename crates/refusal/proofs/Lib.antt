@@ -1,2 +1,3 @@
--- Laws of refusals that the layers above cite.
+-- Laws of refusals, and of numbers and lists, that the layers above cite.
 pub mod Tests
+pub mod Lists

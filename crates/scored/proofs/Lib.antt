@@ -1,6 +1,4 @@
 -- Laws of the Unigram build that the layers above cite.
--- numbers and lists
-pub mod Lists
 -- the score column of a build
 pub mod Storing
 -- the promise of `build`, in each case

@@ -25,8 +25,8 @@ use Rattle.doubles.specs.Double.{Double, plusZero}
 use Rattle.doubles.specs.Units.{units}
 use Rattle.refusal.specs.Places.{zeroed}
 use Rattle.scored.specs.NodeScores.{rowScore, filledScores}
-use Rattle.scored.proofs.Lists.{below-or}
-use Rattle.scored.proofs.Lists.{map-inside, map-set}
+use Rattle.refusal.proofs.Lists.{below-or}
+use Rattle.refusal.proofs.Lists.{map-inside, map-set}
 
 pub record Stored (f : ℕ → Double) (before : List Double) (k : ℕ) (xs : List Float) : Type 0 where
   pub inside : k ≤ length before

@@ -31,7 +31,7 @@ use Rattle.rows.specs.Rows.{Row, rowIs, worthIs, rowFault, firstBad}
 use Rattle.rows.specs.Answers.{faultIn, reasonIn}
 use Rattle.build.specs.Rules.{scoreOf}
 use Rattle.build.proofs.Rooms.{or-false}
-use Rattle.scored.proofs.Lists.{map-set}
+use Rattle.refusal.proofs.Lists.{map-set}
 use Rattle.sliced.specs.BuildRows.{RowPlaces, rowPlaces, rowsJudged}
 use Rattle.sliced.specs.Copied.{foundAfter, putRow, putRows, toCopy}
 

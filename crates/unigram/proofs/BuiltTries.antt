@@ -47,7 +47,7 @@ use Rattle.scored.specs.declared.BuildAnswer.the-variants as answer-is
 use Rattle.scored.specs.Build.{Report, reportOf, told, Built}
 use Rattle.scored.proofs.Builds.{scores-are}
 use Rattle.cutting.specs.Cuttings.{Piece}
-use Rattle.cutting.proofs.Lists.{below-or}
+use Rattle.refusal.proofs.Lists.{below-or}
 use Rattle.unigram.specs.declared.SegmentAnswer.the-variants as segment-is
 use Rattle.unigram.specs.Work.{pieceWith}
 use Rattle.unigram.specs.Pieces.{Model, pieceAt, known}

@@ -21,7 +21,7 @@ use Rattle.trie.proofs.Walking.{walk-inside}
 use Rattle.cutting.specs.Cuttings.{Piece, nth}
 use Rattle.cutting.specs.Records.{best, standsAt}
 use Rattle.unigram.specs.Pieces.{Model, pieceAt, known, pieceHere, pieceOf, listed, rule}
-use Rattle.cutting.proofs.Lists.{below-or}
+use Rattle.refusal.proofs.Lists.{below-or}
 use Rattle.cutting.proofs.Working.{Pieces, no-piece, true-false, absent, none-before, unchanged}
 use Rattle.cutting.proofs.Best.{zero-number, total-number}
 use Rattle.cutting.proofs.Reaching.{Reach, all-stand}

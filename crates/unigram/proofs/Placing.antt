@@ -18,7 +18,7 @@ use Rattle.cutting.specs.Cuttings.{Step}
 use Rattle.unigram.specs.Runs.{runId, merged}
 use Rattle.cutting.specs.Tracing.{stepsAt, Ends, no-more, and-then}
 use Rattle.unigram.specs.Merge.{runOf, waiting, runIds, closing, Placed}
-use Rattle.cutting.proofs.Lists.{below-or}
+use Rattle.refusal.proofs.Lists.{below-or}
 use Rattle.cutting.proofs.Following.{piece-to}
 use Rattle.unigram.proofs.Merging.{merged-end, merged-end-run, begins, joins, stands, ends-run}
 

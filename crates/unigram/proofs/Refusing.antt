@@ -23,7 +23,7 @@ use Rattle.trie.specs.Trie.{idOf}
 use Rattle.trie.specs.Sound.{soundScored}
 use Rattle.trie.proofs.SoundParts.{scored-of, of-scored}
 use Rattle.build.specs.Memory.{anyBelow}
-use Rattle.cutting.proofs.Lists.{below-or}
+use Rattle.refusal.proofs.Lists.{below-or}
 use Rattle.unigram.specs.declared.SegmentAnswer.the-variants.{Ids, Refused}
 use Rattle.unigram.specs.Pieces.{Model, piecesOf, idsOf}
 use Rattle.unigram.specs.Segment.{Scratch, slotsIn, shortScratch, segmentFault, segmentAnswer, written, segmentLeaves, Segmented}

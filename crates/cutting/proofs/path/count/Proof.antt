@@ -9,7 +9,7 @@ use borrow.Author.Needs.{needs}
 use lib.ListN.{length, getD, length-append}
 use Rattle.refusal.specs.Sizes.{noId}
 use Rattle.cutting.specs.Tracing.{endsFrom, Falling}
-use Rattle.cutting.proofs.Lists.{place-inside}
+use Rattle.refusal.proofs.Lists.{place-inside}
 use Rattle.cutting.proofs.Tracing.{ends-first, ends-few, ends-turn}
 use Rattle.cutting.proofs.path.count.Statement.{statement}
 use Rattle.cutting.proofs.path.count.Tie as tie

@@ -10,7 +10,7 @@ use lib.ListN.{length, getD, drop, set, length-append, length-set}
 use Rattle.refusal.specs.Sizes.{noId}
 use Rattle.refusal.specs.Places.{overlay}
 use Rattle.cutting.specs.Tracing.{endsFrom, Falling}
-use Rattle.cutting.proofs.Lists.{place-inside}
+use Rattle.refusal.proofs.Lists.{place-inside}
 use Rattle.cutting.proofs.Tracing.{ends-first, ends-turn, written-back}
 use Rattle.cutting.proofs.path.write.Statement.{statement}
 use Rattle.cutting.proofs.path.write.Tie as tie

@@ -20,7 +20,7 @@ use Rattle.unigram.specs.Pieces.{Model, pieceAt}
 use Rattle.cutting.specs.Slots.{Slots, slotsOf, slotAt, PutAt, taken, held}
 use Rattle.unigram.specs.Work.{endsHere, Ended}
 use Rattle.cutting.proofs.Best.{same-slot}
-use Rattle.cutting.proofs.Lists.{map-inside}
+use Rattle.refusal.proofs.Lists.{map-inside}
 use Rattle.cutting.proofs.Columns.{put-as}
 use Rattle.unigram.proofs.Offering.{piece-none, piece-some, ends-off, ends-on, ended-none, ended-some}
 use borrow.Author.Needs.{needs}

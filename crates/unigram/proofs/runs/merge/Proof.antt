@@ -12,7 +12,7 @@ use lib.ListN.{length, getD}
 use Rattle.refusal.specs.Sizes.{noId}
 use Rattle.trie.specs.Trie.{Trie, partsOf}
 use Rattle.unigram.specs.Merge.{partId, Run, Merged}
-use Rattle.cutting.proofs.Lists.{place-inside}
+use Rattle.refusal.proofs.Lists.{place-inside}
 use Rattle.unigram.proofs.Placing.{Going, going-first, next-end, going-more, going-end, waits}
 use Rattle.unigram.proofs.runs.merge.Statement.{statement}
 use Rattle.unigram.proofs.runs.merge.Tie as tie

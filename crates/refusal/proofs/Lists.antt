@@ -1,4 +1,4 @@
--- Numbers and lists, as the build and the cutting both read them. Assumes nothing.
+-- Numbers and lists: what more than one layer asks of them. Assumes nothing.
 use mathlib.Core.Path.{_≡_, refl, ap}
 use mathlib.Core.Bool.{Bool, true, false}
 use mathlib.Core.List.{List, [], _∷_, map}
