@@ -15,6 +15,7 @@ use Rattle.refusal.specs.Sizes.{maxRows, maxToken}
 use Rattle.rows.specs.declared.Kind.{Kind}
 use Rattle.rows.specs.Rows.{Row, firstBad}
 use Rattle.rows.proofs.RowFaults.{fine-short, fine-token-length}
+use Rattle.refusal.proofs.Tests.{neither-says}
 use Rattle.rows.proofs.FirstBad.{none-bad-says}
 use Rattle.build.specs.Rules.{tokensOf}
 use Rattle.build.specs.Memory.{Memory, withScores, anyBelow, noRoom, noScoredRoom}
@@ -75,10 +76,6 @@ room-is m = room-for m (roomOf m) (omega arith)
 
 -- ---- 7
 
-pub or-false : (a b : Bool) → (a || b) ≡ false → (a ≡ false) × (b ≡ false)
-or-false true b e = let z : _≡_ {A = ℕ} 0 1 = cc in absurd (omega arith)
-or-false false b e = (refl, e)
-
 fits-all : (m : Memory) (n : ℕ) → RoomFor n m → noRoom n m ≡ false
 unfolding noRoom anyBelow
 fits-all m n r =
@@ -94,8 +91,8 @@ fits-all m n r =
 -- no column below n
 none-below : (n a b : ℕ) → (ltb a n || (ltb b n || false)) ≡ false → (n ≤ a) × (n ≤ b)
 none-below n a b e =
-    let p = or-false (ltb a n) (ltb b n || false) e in
-    (ltb-false a n (p .0), ltb-false b n (or-false (ltb b n) false (p .1) .0))
+    let p = neither-says (ltb a n) (ltb b n || false) e in
+    (ltb-false a n (p .0), ltb-false b n (neither-says (ltb b n) false (p .1) .0))
 
 all-fit : (m : Memory) (n : ℕ) → 1 ≤ n → n ≤ 4_294_967_295 → noRoom n m ≡ false → RoomFor n m
 unfolding noRoom anyBelow
@@ -103,9 +100,9 @@ all-fit m n some-node small e =
     let nodes = anyBelow n (length (m .edgeAt) ∷ length (m .edgeN) ∷ length (m .id) ∷ []) in
     let edges = anyBelow (n - 1) (length (m .byte) ∷ length (m .to) ∷ []) in
     let work = ltb (length (m .work)) (2 * n) in
-    let p = or-false (nodes || edges) work e in
-    let q = or-false nodes edges (p .0) in
-    let s = or-false (ltb (length (m .edgeAt)) n) (ltb (length (m .edgeN)) n || (ltb (length (m .id)) n || false)) (q .0) in
+    let p = neither-says (nodes || edges) work e in
+    let q = neither-says nodes edges (p .0) in
+    let s = neither-says (ltb (length (m .edgeAt)) n) (ltb (length (m .edgeN)) n || (ltb (length (m .id)) n || false)) (q .0) in
     let t = none-below n (length (m .edgeN)) (length (m .id)) (s .1) in
     let u = none-below (n - 1) (length (m .byte)) (length (m .to)) (q .1) in
     record {

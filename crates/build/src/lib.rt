@@ -7,9 +7,6 @@ pub mod tokens;
 mod vocabulary;
 pub mod zero;
 
-// The mark for no id, which no row's id may be.
-pub const NO_ID: u32 = 4_294_967_295;
-
 // What a build of judged rows answers: how many nodes the trie has, or that the lent columns have no room for them.
 pub enum Built {
     Nodes(usize),

@@ -1,11 +1,11 @@
 // The first and the last step of a build, for callers that have judged their rows, wherever those stand. Between the two each row's token is
 // entered, by `tokens::enter_token`.
 use crate::Built;
-use crate::NO_ID;
 use crate::lay::lay_out;
 use crate::zero::clear;
 use crate::zero::zero16;
 use crate::zero::zero32;
+use refusal::NO_ID;
 ghost use mathlib.Core.Path.{_≡_};
 ghost use Prim.Native.Nat.{_<_};
 ghost use lib.ListN.{length, set};

@@ -1,7 +1,7 @@
 // Tokens entered byte by byte, each new prefix taking the next node number, and the ids that their last nodes take.
-use crate::NO_ID;
 use crate::links::Reached;
 use crate::links::child;
+use refusal::NO_ID;
 ghost use mathlib.Core.Path.{_≡_};
 ghost use Prim.Native.Nat.{_<_};
 ghost use lib.ListN.{length};

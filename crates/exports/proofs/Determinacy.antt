@@ -9,6 +9,8 @@ use lib.Ieee.{Float}
 use Rattle.doubles.specs.Double.{Double}
 use Rattle.doubles.specs.Units.{units, allHeld}
 use Rattle.doubles.proofs.Determinacy.{column-once}
+use Rattle.refusal.proofs.Codings.{coded-once}
+use Rattle.trie.specs.Trie.{Trie}
 use Rattle.rows.specs.Columns.{Columns}
 use Rattle.build.specs.Memory.{Memory, withScores}
 use Rattle.build.specs.Promise.{Told}
@@ -20,14 +22,22 @@ use Rattle.unigram.specs.Core.{scratchOf, Cut}
 use Rattle.unigram.proofs.Determinacy.{scratch-once, cut-once}
 use Rattle.wordpiece.proofs.Determinacy as words
 use Rattle.pack.specs.Build as packs
-use Rattle.exports.specs.Flat.{SegmentedAs, fromRowsNumber, FromRowsAs, toldNumber, toldScore, BuiltAs, packNumber, packScore, PackBuiltAs, PrintedAs}
+use Rattle.exports.specs.Flat.{codeNumber, EncodedAs, SegmentedAs, fromRowsNumber, FromRowsAs, toldNumber, toldScore, BuiltAs, packNumber, packScore, PackBuiltAs, PrintedAs}
 
 -- A call that is lent nothing to write: `sk_valid_up_to`, `sk_char_len`, `sk_is_boundary`, `sk_characters`, `sk_text`, `sk_text_len`, `sk_sound`,
 -- `sk_sound_scored`, `sk_exact`, `sk_exact_unscored`.
 pub answer-once : {A : Type 0} {a b c : A} → a ≡ c → b ≡ c → a ≡ b
 answer-once p q = p ∙ sym q
 
--- `sk_encode`, `sk_encode_checked`: the answer, and the id places
+-- `sk_encode`: the answer, and the id places
+pub encoded-once :
+    {t : Trie} {unknown maxChars : ℕ} {prefix w before a b : List ℕ} {r s : ℕ} → EncodedAs t unknown maxChars prefix w before r a
+    → EncodedAs t unknown maxChars prefix w before s b → (r ≡ s) × (a ≡ b)
+encoded-once p q =
+    let one = coded-once (p .promised) (q .promised) in
+    (p .answered ∙ ap codeNumber (one .0) ∙ sym (q .answered), one .1)
+
+-- `sk_encode_checked`: the same
 pub ids-once : {r s n : ℕ} {a b left : List ℕ} → (r ≡ n) × (a ≡ left) → (s ≡ n) × (b ≡ left) → (r ≡ s) × (a ≡ b)
 ids-once p q = (p .0 ∙ sym (q .0), p .1 ∙ sym (q .1))
 
@@ -37,8 +47,9 @@ module _ {a b c d a′ b′ c′ d′ : List ℕ} (x x′ : List Float) (held : 
       {m : Model} {s : List ℕ} {before : Scratch} {r r′ : ℕ} → SegmentedAs m s before r (scratchOf a b x c d)
       → SegmentedAs m s before r′ (scratchOf a′ b′ x′ c′ d′) → (r ≡ r′) × (a ≡ a′) × (b ≡ b′) × (x ≡ x′) × (c ≡ c′) × (d ≡ d′)
   segmented-once p q =
-      let left = scratch-once x x′ held held′ (p .left ∙ sym (q .left)) in
-      (p .answered ∙ sym (q .answered), left .0, left .1, left .2, left .3, left .4)
+      let one = coded-once (p .promised .coded) (q .promised .coded) in
+      let left = scratch-once x x′ held held′ (one .1) in
+      (p .answered ∙ ap codeNumber (one .0) ∙ sym (q .answered), left .0, left .1, left .2, left .3, left .4)
 
   pub segmented-checked-once :
       {m : Model} {s : List ℕ} {before : Scratch} {r r′ : ℕ} → Cut m s before (scratchOf a b x c d) r

@@ -1,13 +1,15 @@
 -- Answers as numbers, for callers in other languages. Definitions only; assumes nothing.
 use mathlib.Core.Path.{_≡_}
 use Prim.Native.Nat.{ℕ, _+_, _*_, _^_}
-use mathlib.Core.Bool.{not, cond}
+use mathlib.Core.Bool.{cond}
 use mathlib.Core.List.{List, [], _∷_}
 use mathlib.Core.Option.{Option, none, some}
 use lib.Dec.{ltb}
 use lib.ListN.{length}
 use Rattle.doubles.specs.Double.{Double}
 use Rattle.refusal.specs.declared.Fault.{Fault}
+use Rattle.refusal.specs.declared.CodeAnswer.{CodeAnswer}
+use Rattle.refusal.specs.declared.CodeAnswer.the-variants as code-is
 use Rattle.refusal.specs.declared.Reason.{Reason}
 use Rattle.refusal.specs.declared.Reason.the-variants.{Call, Row}
 use Rattle.refusal.specs.declared.Fault.the-variants as fault
@@ -17,17 +19,15 @@ use Rattle.refusal.specs.Places.{overlay}
 use Rattle.rows.specs.Columns.{Columns}
 use Rattle.build.specs.Memory.{Memory}
 use Rattle.build.specs.Promise.{Told, built, refused}
-use Rattle.text.specs.Text.{wellFormed}
+use Rattle.text.specs.Text.{textFault}
+use Rattle.trie.specs.Trie.{Trie}
 use Rattle.trie.specs.declared.LookupAnswer.{LookupAnswer}
 use Rattle.trie.specs.declared.LookupAnswer.the-variants.{Found, Absent, Refused}
-use Rattle.unigram.specs.declared.SegmentAnswer.{SegmentAnswer}
-use Rattle.unigram.specs.declared.SegmentAnswer.the-variants as segment-is
 use Rattle.scored.specs.declared.BuildAnswer.{BuildAnswer}
 use Rattle.scored.specs.Build.{Report, told, Built}
-use Rattle.unigram.specs.Pieces.{Model, idsOf}
-use Rattle.unigram.specs.Segment.{Scratch, segmentFault, segmentAnswer, segmentLeaves, RecordLaw}
-use Rattle.wordpiece.specs.declared.EncodeAnswer.{EncodeAnswer}
-use Rattle.wordpiece.specs.declared.EncodeAnswer.the-variants as encode-is
+use Rattle.unigram.specs.Pieces.{Model}
+use Rattle.unigram.specs.Segment.{Scratch, Segmented}
+use Rattle.wordpiece.specs.Encode.{Encoded}
 use Rattle.wordpiece.specs.declared.BuildAnswer as wordpiece
 use Rattle.wordpiece.specs.declared.BuildAnswer.the-variants as wordpiece-is
 use Rattle.wordpiece.specs.Build as from-rows
@@ -41,8 +41,8 @@ status none = 0
 status (some f) = number f
 
 -- of a text by itself: 1, then 4
-abbrev pub textFault : List ℕ → Option Fault
-textFault s = refuse (above maxText (length s)) fault.Size (refuse (not (wellFormed s)) fault.Text none)
+abbrev pub countFault : List ℕ → Option Fault
+countFault s = refuse (above maxText (length s)) fault.Size (textFault s)
 
 -- a count, which is below 2 ^ 32; or 2 ^ 32 and the number of the fault
 abbrev pub countNumber : Option Fault → ℕ → ℕ
@@ -56,19 +56,21 @@ lookupNumber Absent = 2 ^ 32
 lookupNumber (Refused f) = 2 ^ 32 + number f
 
 -- how many ids; or 2 ^ 32 and the number of the fault
-abbrev pub encodeNumber : EncodeAnswer → ℕ
-encodeNumber (encode-is.Ids n) = n
-encodeNumber (encode-is.Refused f) = 2 ^ 32 + number f
+abbrev pub codeNumber : CodeAnswer → ℕ
+codeNumber (code-is.Ids n) = n
+codeNumber (code-is.Refused f) = 2 ^ 32 + number f
 
-abbrev pub segmentNumber : SegmentAnswer → ℕ
-segmentNumber (segment-is.Ids n) = n
-segmentNumber (segment-is.Refused f) = 2 ^ 32 + number f
+-- what `encode` promises, its answer as a number
+pub record EncodedAs (t : Trie) (unknown maxChars : ℕ) (prefix w before : List ℕ) (answer : ℕ) (after : List ℕ) : Type 0 where
+  pub said : CodeAnswer
+  pub promised : Encoded t unknown maxChars prefix w before said after
+  pub answered : answer ≡ codeNumber said
 
 -- what `segment` promises, its answer as a number
 pub record SegmentedAs (m : Model) (s : List ℕ) (before : Scratch) (answer : ℕ) (after : Scratch) : Type 0 where
-  pub answered : answer ≡ segmentNumber (segmentAnswer (segmentFault m s before) (length (idsOf m s)))
-  pub left : after ≡ segmentLeaves (segmentFault m s before) m s before
-  pub law : segmentFault m s before ≡ none → RecordLaw m s after
+  pub said : CodeAnswer
+  pub promised : Segmented m s before said after
+  pub answered : answer ≡ codeNumber said
 
 -- ---- builds
 

@@ -1,11 +1,10 @@
 // The calls for other languages. A slice passes as a pointer and a length, an answer as numbers. A caller outside Rattle is checked by nothing:
 // it passes what the parameters' types say.
+use refusal::CodeAnswer;
 use refusal::Fault;
-use text::MAX_TEXT;
-use text::SpanAnswer;
+use refusal::Judged;
+use refusal::MAX_TEXT;
 use trie::LookupAnswer;
-use unigram::SegmentAnswer;
-use wordpiece::EncodeAnswer;
 
 pub mod builds;
 pub mod packs;
@@ -23,10 +22,9 @@ ghost use Rattle.trie.specs.Lookup.{lookupFault, lookupAnswer};
 ghost use Rattle.unigram.specs.Work.{model, modelNow};
 ghost use Rattle.unigram.specs.Core.{Prepared, Cut, scratchIs, scratchWas};
 ghost use Rattle.wordpiece.specs.Pieces.{idsOf};
-ghost use Rattle.wordpiece.specs.Encode.{encodeFault, encodeAnswer, encodeLeaves};
 ghost use Rattle.wordpiece.specs.Checked.{Ready};
 ghost use Rattle.refusal.specs.Places.{overlay};
-ghost use Rattle.exports.specs.Flat.{status, textFault, countNumber, lookupNumber, encodeNumber, segmentNumber, SegmentedAs};
+ghost use Rattle.exports.specs.Flat.{status, countFault, countNumber, lookupNumber, codeNumber, EncodedAs, SegmentedAs};
 ghost use Rattle.refusal.specs.Lent.{is, was};
 
 // The length of the longest prefix made of whole well-formed characters.
@@ -63,13 +61,13 @@ fn refused(f: Fault) -> usize
 // How many characters a text has, or 2^32 and 1 or 4: what is no text is not taken for an empty one.
 #[no_mangle]
 pub extern "C" fn sk_characters(s: &[u8]) -> usize
-    ensures { λ r. ⌜ r ≡ countNumber (textFault (was s)) (characters (was s)) ⌝ }
+    ensures { λ r. ⌜ r ≡ countNumber (countFault (was s)) (characters (was s)) ⌝ }
 {
     if MAX_TEXT < s.len() {
         return refused(Fault::Size);
     }
-    if text::utf8::valid_up_to(s) < s.len() {
-        return refused(Fault::Text);
+    if let Judged::Bad(f) = text::utf8::judge(s) {
+        return refused(f);
     }
     text::checked::characters(s)
 }
@@ -80,8 +78,8 @@ pub extern "C" fn sk_text(tab: &[u8], off: u32, len: u32) -> u32
     ensures { λ r. ⌜ r ≡ status (spanFault (was tab) off len) ⌝ }
 {
     match text::text_answer(tab, off, len) {
-        SpanAnswer::Accepted => 0,
-        SpanAnswer::Refused(f) => refusal::number(f),
+        Judged::Fine => 0,
+        Judged::Bad(f) => refusal::number(f),
     }
 }
 
@@ -171,13 +169,13 @@ pub extern "C" fn sk_exact_unscored(
     lookup_number(trie::exact_unscored(edge_at, edge_n, id, byte, to, s))
 }
 
-// An answer of `encode` as one number.
-fn encode_number(a: EncodeAnswer) -> usize
-    ensures { λ r. ⌜ r ≡ encodeNumber a ⌝ }
+// An answer of `encode` or `segment` as one number.
+fn code_number(a: CodeAnswer) -> usize
+    ensures { λ r. ⌜ r ≡ codeNumber a ⌝ }
 {
     match a {
-        EncodeAnswer::Ids(n) => n,
-        EncodeAnswer::Refused(f) => refused(f),
+        CodeAnswer::Ids(n) => n,
+        CodeAnswer::Refused(f) => refused(f),
     }
 }
 
@@ -196,11 +194,10 @@ pub extern "C" fn sk_encode(
     ids: &mut [u32],
 ) -> usize
     ensures { λ r.
-        ⌜ (let t = parts «edge_at» «edge_n» id byte to in let all = idsOf (idOf t) unknown «max_chars» (was prefix)
-        (was word) in let fault = encodeFault t (was prefix) (was word) (was ids) in
-        (r ≡ encodeNumber (encodeAnswer fault (length all))) × (is ids ≡ encodeLeaves fault all (was ids))) ⌝ }
+        ⌜ EncodedAs (parts «edge_at» «edge_n» id byte to) unknown «max_chars» (was prefix) (was word) (was ids) r (is ids)
+        ⌝ }
 {
-    encode_number(wordpiece::encode(
+    code_number(wordpiece::encode(
         edge_at,
         edge_n,
         id,
@@ -247,16 +244,6 @@ pub extern "C" fn sk_encode_checked(
     )
 }
 
-// An answer of `segment` as one number.
-fn segment_number(a: SegmentAnswer) -> usize
-    ensures { λ r. ⌜ r ≡ segmentNumber a ⌝ }
-{
-    match a {
-        SegmentAnswer::Ids(n) => n,
-        SegmentAnswer::Refused(f) => refused(f),
-    }
-}
-
 // The ids of a text by its best cutting, its pieces' ends and its records: how many ids, or 2^32 and 1, 8, 4, 9 or 10.
 #[no_mangle]
 pub extern "C" fn sk_segment(
@@ -279,7 +266,7 @@ pub extern "C" fn sk_segment(
         ⌜ SegmentedAs (model «edge_at» «edge_n» id score byte to unknown «unknown_score») (was text)
         (scratchWas start «slot_id» «slot_score» path ids) r (scratchIs start «slot_id» «slot_score» path ids) ⌝ }
 {
-    segment_number(unigram::segment(
+    code_number(unigram::segment(
         edge_at,
         edge_n,
         id,

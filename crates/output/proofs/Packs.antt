@@ -16,9 +16,11 @@ use Rattle.refusal.specs.declared.Fault.{Fault}
 use Rattle.refusal.specs.declared.Fault.the-variants as fault
 use Rattle.refusal.specs.declared.Reason.{Reason}
 use Rattle.refusal.specs.Sizes.{maxTable}
-use Rattle.refusal.proofs.Tests.{not-found}
+use Rattle.refusal.specs.Refusal.{faultOf}
+use Rattle.refusal.proofs.Tests.{neither-says, not-found}
 use Rattle.text.specs.Ascii.{ascii}
 use Rattle.text.specs.Text.{wellFormed}
+use Rattle.text.proofs.Spans.{fault-part, part-inside, text-fine}
 use Rattle.text.specs.Span.{spanOf, spanFault, givenFor}
 use Rattle.trie.specs.Trie.{Trie, partsOf}
 use Rattle.trie.proofs.Every.{first, second}
@@ -27,9 +29,12 @@ use Rattle.rows.specs.declared.Kind.the-variants.{Unigram, WordPiece}
 use Rattle.build.specs.Grown.{Bytes}
 use Rattle.build.specs.Memory.{Memory, memory, withScores, noRoom, noScoredRoom}
 use Rattle.build.proofs.Promises.{none-exactly}
-use Rattle.build.proofs.Rooms.{or-false, nodes-some}
+use Rattle.build.proofs.Rooms.{nodes-some}
 use Rattle.unigram.specs.Work as work
 use Rattle.unigram.specs.Pieces.{Model}
+use Rattle.coder.specs.declared.Coder.the-variants as coder-is
+use Rattle.coder.specs.Vocabulary.{unigramOf, wordpieceOf}
+use Rattle.coder.specs.Columns.{vocabularyOf}
 use Rattle.pack.specs.declared.PackAnswer.{PackAnswer}
 use Rattle.pack.specs.declared.PackAnswer.the-variants as answer-is
 use Rattle.pack.specs.Pack.{headerOf, laidOut, rowsOf, stringsOf, prefixOf}
@@ -38,8 +43,8 @@ use Rattle.pack.proofs.Headers.{kind-laid}
 use Rattle.pack.proofs.Determinacy as determined
 use Rattle.pack.proofs.BuiltPacks as packs
 use Rattle.output.specs.Lines.{printedRefusal}
-use Rattle.output.specs.Output.{maxPack, places, lentMemory, scorePlaces, segmentedLine, encodedLine, printedLine, linesPrinted, faultOf, outputOf, output}
-use Rattle.output.specs.Cut.{PrefixGiven, Cuttable, Judged}
+use Rattle.output.specs.Output.{maxPack, places, lentMemory, scorePlaces, codedLine, vocabularyIn, linesPrinted, outputOf, output}
+use Rattle.output.specs.Cut.{PrefixGiven, Cuttable, cutTo, Judged}
 
 -- ---- a pack that is too large
 
@@ -58,13 +63,13 @@ module _ (pack input : List ℕ) where
   -- ---- by what the pack's fault is
 
   abbrev by-fault : Option Reason → List ℕ
-  by-fault o = elim o [ some r ↦ printedRefusal (ascii "pack ") (faultOf r) | none ↦ linesPrinted (printedLine (theKind pack) pack) input ]
+  by-fault o = elim o [ some r ↦ printedRefusal (ascii "pack ") (faultOf r) | none ↦ linesPrinted (codedLine (vocabularyIn (theKind pack) pack)) input ]
 
   fault-some : {r : Reason} → packFault pack lentMemory ≡ some r → printedRefusal (ascii "pack ") (faultOf r) ≡ outputOf pack input
   unfolding outputOf
   fault-some e = sym (ap by-fault e)
 
-  fault-none : packFault pack lentMemory ≡ none → linesPrinted (printedLine (theKind pack) pack) input ≡ outputOf pack input
+  fault-none : packFault pack lentMemory ≡ none → linesPrinted (codedLine (vocabularyIn (theKind pack) pack)) input ≡ outputOf pack input
   unfolding outputOf
   fault-none e = sym (ap by-fault e)
 
@@ -93,7 +98,7 @@ lent-nodes : (pack : List ℕ) → packFault pack lentMemory ≡ none → nodesO
 unfolding noScoredRoom lentMemory
 lent-nodes pack e =
     let n = nodesOf (theKind pack) pack in
-    let p = or-false (noRoom n lentMemory) (ltb (length scorePlaces) n) (none-exactly _ _ .0 e .1) in
+    let p = neither-says (noRoom n lentMemory) (ltb (length scorePlaces) n) (none-exactly _ _ .0 e .1) in
     omega (arith, ltb-false (length scorePlaces) n (p .1), length-replicate 4_096 plusZero)
 
 some-node : (kind : Kind) (pack : List ℕ) → 1 ≤ nodesOf kind pack
@@ -102,6 +107,19 @@ some-node kind pack = nodes-some (stringsOf pack) (rowsOf kind pack)
 module _ (pack edgeAt edgeN id : List ℕ) (scores : List Float) (byte to : List ℕ) (good : Bytes pack) where
   abbrev after : List ℕ → Memory
   after work = withScores (memory edgeAt edgeN id byte to work) (map units scores)
+
+  -- the lent columns have room for so many nodes
+  cuttable : {answer : PackAnswer} {n : ℕ} → Judged pack answer edgeAt edgeN id scores byte to → (1 ≤ n) × (n ≤ 4_096) → Cuttable n edgeAt edgeN id scores byte to
+  cuttable j m =
+      record {
+        root = m .0;
+        starts = omega (arith, m .1, j .starts);
+        counts = omega (arith, m .1, j .counts);
+        ids = omega (arith, m .1, j .ids);
+        scores = omega (arith, m .1, j .places);
+        bytes = omega (arith, m .1, j .bytes);
+        targets = omega (arith, m .1, j .targets);
+      }
 
   pub judged-refused :
       {r : Reason} (input : List ℕ) → Judged pack (answer-is.Refused r) edgeAt edgeN id scores byte to
@@ -126,19 +144,8 @@ module _ (pack edgeAt edgeN id : List ℕ) (scores : List Float) (byte to : List
         let k = ap (λ (x : Kind). nodesOf x pack) is-unigram in
         (omega (arith, c, some-node Unigram pack), omega (arith, c, k, lent-nodes pack accepted))
 
-    pub unigram-cuttable : Cuttable n edgeAt edgeN id byte to × (n ≤ length scores)
-    unigram-cuttable =
-        let m = unigram-nodes in (
-          record {
-            root = m .0;
-            starts = omega (arith, m .1, j .starts);
-            counts = omega (arith, m .1, j .counts);
-            ids = omega (arith, m .1, j .ids);
-            bytes = omega (arith, m .1, j .bytes);
-            targets = omega (arith, m .1, j .targets);
-          },
-          omega (arith, m .1, j .places),
-        )
+    pub unigram-cuttable : Cuttable n edgeAt edgeN id scores byte to
+    unigram-cuttable = cuttable j unigram-nodes
 
     abbrev cut : Model
     cut = work.modelOf (take n edgeAt) (take n edgeN) (take n id) (take n scores) (take (n - 1) byte) (take (n - 1) to) (work.pieceWith unknown lowest)
@@ -154,11 +161,12 @@ module _ (pack edgeAt edgeN id : List ℕ) (scores : List Float) (byte to : List
         (take-map n scores)
         ∙ packs.unigram-model pack lentMemory left n unknown lowest good (j .built)
 
-    pub judged-unigram : (input : List ℕ) → linesPrinted (segmentedLine cut) input ≡ outputOf pack input
-    unfolding printedLine
-    judged-unigram input =
-        ap (λ (m : Model). linesPrinted (segmentedLine m) input) cut-is
-        ∙ sym (ap (λ (k : Kind). linesPrinted (printedLine k pack) input) is-unigram)
+    pub judged-unigram :
+        (prefix input : List ℕ) → linesPrinted (codedLine (cutTo (coder-is.Unigram unknown lowest) n edgeAt edgeN id scores byte to prefix)) input ≡ outputOf pack input
+    unfolding vocabularyIn vocabularyOf
+    judged-unigram prefix input =
+        ap (λ (m : Model). linesPrinted (codedLine (unigramOf m)) input) cut-is
+        ∙ sym (ap (λ (k : Kind). linesPrinted (codedLine (vocabularyIn k pack)) input) is-unigram)
         ∙ fault-none pack input accepted
 
   -- ---- WordPiece
@@ -179,17 +187,8 @@ module _ (pack edgeAt edgeN id : List ℕ) (scores : List Float) (byte to : List
         let k = ap (λ (x : Kind). nodesOf x pack) is-wordpiece in
         (omega (arith, c, some-node WordPiece pack), omega (arith, c, k, lent-nodes pack accepted′))
 
-    pub wordpiece-cuttable : Cuttable n edgeAt edgeN id byte to
-    wordpiece-cuttable =
-        let m = wordpiece-nodes in
-        record {
-          root = m .0;
-          starts = omega (arith, m .1, j .starts);
-          counts = omega (arith, m .1, j .counts);
-          ids = omega (arith, m .1, j .ids);
-          bytes = omega (arith, m .1, j .bytes);
-          targets = omega (arith, m .1, j .targets);
-        }
+    pub wordpiece-cuttable : Cuttable n edgeAt edgeN id scores byte to
+    wordpiece-cuttable = cuttable j wordpiece-nodes
 
     -- the strings lie in the file, behind the header
     pub strings-inside : (36 ≤ length pack) × (headerOf pack .stringsOff ≤ length pack)
@@ -208,16 +207,16 @@ module _ (pack edgeAt edgeN id : List ℕ) (scores : List Float) (byte to : List
 
     -- the prefix that is given back is the pack's
     prefix-fine : spanFault (stringsOf pack) off len ≡ none
-    unfolding spanFault stringsOf
+    unfolding stringsOf
     prefix-fine =
         let strings = stringsOf pack in
         let inside = packs.wordpiece-prefix-inside pack lentMemory left′ n unknown most off len good (j .built) in
         let text =
         ap wellFormed (packs.wordpiece-prefix pack lentMemory left′ n unknown most off len good (j .built))
         ∙ packs.wordpiece-prefix-text pack lentMemory left′ n unknown most off len good (j .built) in
-        not-found (ltb maxTable (length strings)) fault.Size _ (le-ltb maxTable (length strings) (omega (arith, j .small, length-drop (headerOf pack .stringsOff) pack)))
-        ∙ not-found (ltb (length strings) (off + len)) fault.Span _ (le-ltb (length strings) (off + len) inside)
-        ∙ not-found (not (wellFormed (spanOf strings off len))) fault.Text none (ap not text)
+        fault-part strings off len (omega (arith, j .small, length-drop (headerOf pack .stringsOff) pack))
+        ∙ part-inside strings off len inside
+        ∙ text-fine (spanOf strings off len) text
 
     prefix-is : {prefix : List ℕ} → PrefixGiven pack off len prefix → prefix ≡ prefixOf pack
     unfolding givenFor
@@ -227,13 +226,12 @@ module _ (pack edgeAt edgeN id : List ℕ) (scores : List Float) (byte to : List
 
     pub judged-wordpiece :
         {prefix : List ℕ} (input : List ℕ) → PrefixGiven pack off len prefix
-        → linesPrinted (encodedLine (partsOf (take n edgeAt) (take n edgeN) (take n id) (take (n - 1) byte) (take (n - 1) to)) unknown most prefix) input
-        ≡ outputOf pack input
-    unfolding printedLine
+        → linesPrinted (codedLine (cutTo (coder-is.WordPiece unknown most) n edgeAt edgeN id scores byte to prefix)) input ≡ outputOf pack input
+    unfolding vocabularyIn vocabularyOf
     judged-wordpiece {prefix = prefix} input g =
         let parts = packs.wordpiece-parts pack lentMemory left′ n unknown most off len good (j .built) in
         let u = packs.wordpiece-unknown pack lentMemory left′ n unknown most off len good (j .built) in
         let c = packs.wordpiece-most pack lentMemory left′ n unknown most off len good (j .built) in
-        (λ i. linesPrinted (encodedLine (parts i) (u i) (c i) (prefix-is g i)) input)
-        ∙ sym (ap (λ (k : Kind). linesPrinted (printedLine k pack) input) is-wordpiece)
+        (λ i. linesPrinted (codedLine (wordpieceOf (parts i) (u i) (c i) (prefix-is g i))) input)
+        ∙ sym (ap (λ (k : Kind). linesPrinted (codedLine (vocabularyIn k pack)) input) is-wordpiece)
         ∙ fault-none pack input accepted′

@@ -2,5 +2,4 @@
 pub mod Lines
 pub mod Output
 pub mod Put
-pub mod Lent
 pub mod Cut

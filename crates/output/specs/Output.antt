@@ -7,19 +7,16 @@ use lib.ListN.{length, replicate}
 use Rattle.doubles.specs.Double.{Double, plusZero}
 use Rattle.refusal.specs.declared.Fault.{Fault}
 use Rattle.refusal.specs.declared.Fault.the-variants as fault
-use Rattle.refusal.specs.declared.Reason.{Reason}
-use Rattle.refusal.specs.declared.Reason.the-variants.{Call, Row}
+use Rattle.refusal.specs.Refusal.{faultOf}
 use Rattle.refusal.specs.Sizes.{above}
 use Rattle.text.specs.Ascii.{ascii}
-use Rattle.trie.specs.Trie.{Trie, idOf}
 use Rattle.rows.specs.declared.Kind.{Kind}
 use Rattle.rows.specs.declared.Kind.the-variants.{Unigram, WordPiece}
 use Rattle.build.specs.Memory.{Memory, memory, withScores}
 use Rattle.build.specs.Promise.{trieIn}
-use Rattle.unigram.specs.Pieces as unigram
-use Rattle.unigram.specs.Segment.{Scratch, segmentFault}
-use Rattle.wordpiece.specs.Pieces as wordpiece
-use Rattle.wordpiece.specs.Encode.{encodeFault}
+use Rattle.unigram.specs.Segment.{Lengths}
+use Rattle.unigram.specs.Core.{lengths}
+use Rattle.coder.specs.Vocabulary.{Vocabulary, unigramOf, wordpieceOf, faultIn, idsIn}
 use Rattle.pack.specs.Pack.{headerOf, rowsOf, stringsOf, prefixOf}
 use Rattle.pack.specs.Build.{packFault, theKind, modelOf}
 use Rattle.output.specs.Lines.{lines, printedIds, printedRefusal}
@@ -46,32 +43,24 @@ scorePlaces = replicate 4_096 plusZero
 unfoldable pub lentMemory : Memory
 lentMemory = withScores (memory places places places places places (replicate 8_192 0)) scorePlaces
 
-unfoldable pub lentScratch : Scratch
-lentScratch = record { start = places; id = places; score = scorePlaces; path = places; ids = places }
+abbrev pub lentPlaces : Lengths
+lentPlaces = lengths 4_096 4_096 4_096 4_096 4_096
 
 -- what a line prints, given its first fault and its ids
 unfoldable pub printed : Option Fault → List ℕ → List ℕ
 printed none ids = printedIds ids
 printed (some f) ids = printedRefusal [] f
 
--- what one line prints, in a Unigram model
-unfoldable pub segmentedLine : unigram.Model → List ℕ → List ℕ
-segmentedLine m line = printed (segmentFault m line lentScratch) (unigram.idsOf m line)
+-- what one line prints in a vocabulary
+unfoldable pub codedLine : Vocabulary → List ℕ → List ℕ
+codedLine v line = printed (faultIn v line lentPlaces) (idsIn v line)
 
--- and in a WordPiece trie, with this unknown id, max_chars and prefix
-unfoldable pub encodedLine : Trie → ℕ → ℕ → List ℕ → List ℕ → List ℕ
-encodedLine t unknown maxChars prefix line = printed (encodeFault t prefix line places) (wordpiece.idsOf (idOf t) unknown maxChars prefix line)
-
--- what one line prints, for a pack of this kind that is not refused
-unfoldable pub printedLine : Kind → List ℕ → List ℕ → List ℕ
-printedLine Unigram bytes line = segmentedLine (modelOf bytes) line
-printedLine WordPiece bytes line =
+-- the vocabulary of a pack of this kind that is not refused
+unfoldable pub vocabularyIn : Kind → List ℕ → Vocabulary
+vocabularyIn Unigram bytes = unigramOf (modelOf bytes)
+vocabularyIn WordPiece bytes =
     let h = headerOf bytes in
-    encodedLine (trieIn WordPiece (stringsOf bytes) (rowsOf WordPiece bytes)) (h .unknown) (h .maxChars) (prefixOf bytes) line
-
-unfoldable pub faultOf : Reason → Fault
-faultOf (Call f) = f
-faultOf (Row f i) = f
+    wordpieceOf (trieIn WordPiece (stringsOf bytes) (rowsOf WordPiece bytes)) (h .unknown) (h .maxChars) (prefixOf bytes)
 
 -- "too much input prints only `input refused 1`"; else each line prints as f says
 unfoldable pub linesPrinted : (List ℕ → List ℕ) → List ℕ → List ℕ
@@ -86,7 +75,7 @@ unfoldable pub outputOf : List ℕ → List ℕ → List ℕ
 outputOf bytes input =
     elim (packFault bytes lentMemory) [
       | some r ↦ printedRefusal (ascii "pack ") (faultOf r)
-      | none ↦ linesPrinted (printedLine (theKind bytes) bytes) input
+      | none ↦ linesPrinted (codedLine (vocabularyIn (theKind bytes) bytes)) input
     ]
 
 -- "(1 if too large)". "The pack is judged first."

@@ -1,22 +1,18 @@
 // What the program prints, as bytes in a lent buffer.
+use coder::Coder;
 use pack::PackAnswer;
 use refusal::Fault;
-use refusal::Reason;
 
-mod encoded;
+mod coded;
 mod lines;
 mod put;
-mod segmented;
 
-ghost use mathlib.Core.Path.{_≡_};
-ghost use Prim.Native.Nat.{_-_, _≤_};
-ghost use lib.ListN.{length, take};
-ghost use Rattle.trie.specs.Trie.{partsOf};
-ghost use Rattle.unigram.specs.Work.{modelOf, pieceWith};
+ghost use Prim.Native.Nat.{_≤_};
+ghost use lib.ListN.{length};
 ghost use Rattle.pack.specs.Pack.{headerOf};
-ghost use Rattle.output.specs.Output.{segmentedLine, encodedLine, linesPrinted, faultOf, outputOf, output, maxOutput};
+ghost use Rattle.output.specs.Output.{codedLine, linesPrinted, outputOf, output, maxOutput};
 ghost use Rattle.output.specs.Put.{Put};
-ghost use Rattle.output.specs.Cut.{PrefixGiven, Cuttable, Judged};
+ghost use Rattle.output.specs.Cut.{PrefixGiven, Cuttable, cutTo, Judged};
 ghost use Rattle.refusal.specs.Lent.{is, was};
 
 // The largest pack and the most input, in bytes.
@@ -26,16 +22,6 @@ const MAX_INPUT: usize = 32_768;
 
 // As many bytes as any output takes at most: 11 for each byte of input, and 11.
 pub const MAX_OUTPUT: usize = 360_459;
-
-// What a reason says is wrong.
-fn fault_of(r: Reason) -> Fault
-    ensures { λ f. ⌜ f ≡ faultOf r ⌝ }
-{
-    match r {
-        Reason::Call(f) => f,
-        Reason::Row(f, _) => f,
-    }
-}
 
 // A pack's prefix: the part of its strings.
 fn prefix_of<'a>(pack: &'a [u8], off: u32, len: u32) -> &'a [u8]
@@ -47,80 +33,39 @@ fn prefix_of<'a>(pack: &'a [u8], off: u32, len: u32) -> &'a [u8]
     text::text(strings, off, len)
 }
 
-// What is printed for all lines in a Unigram trie that stands in the first places of the columns.
-fn print_segmented(
+// What is printed for all lines in a vocabulary whose trie stands in the first places of the columns.
+fn print_lines(
+    coder: Coder,
     nodes: u32,
-    unknown: u32,
-    unknown_score: f64,
     edge_at: &[u32],
     edge_n: &[u16],
     id: &[u32],
     score: &[f64],
     byte: &[u8],
     to: &[u32],
+    prefix: &[u8],
     input: &[u8],
     out: &mut [u8],
 ) -> usize
-    requires { ⌜ Cuttable nodes (now «edge_at») (now «edge_n») (now id) (now byte) (now to)
-        × (nodes ≤ length (now score)) × (maxOutput ≤ length (now out)) ⌝ }
+    requires { ⌜ Cuttable nodes (now «edge_at») (now «edge_n») (now id) (now score) (now byte) (now to) ×
+        (maxOutput ≤ length (now out)) ⌝ }
     ensures { λ r.
-        ⌜ Put (was out) 0 (linesPrinted (segmentedLine (modelOf (take nodes (was «edge_at»)) (take nodes (was «edge_n»))
-        (take nodes (was id)) (take nodes (was score)) (take (nodes - 1) (was byte)) (take (nodes - 1) (was to))
-        (pieceWith unknown «unknown_score»))) (was input)) r (is out) ⌝ }
+        ⌜ Put (was out) 0 (linesPrinted (codedLine (cutTo coder nodes (was «edge_at») (was «edge_n») (was id)
+        (was score) (was byte) (was to) (was prefix))) (was input)) r (is out) ⌝ }
 {
     if MAX_INPUT < input.len() {
         return put::put_refusal(out, 0, b"input ", Fault::Size);
     }
     let n = nodes as usize;
     let edges = n - 1;
-    segmented::put_segmented_lines(
+    coded::put_lines(
+        coder,
         &edge_at[..n],
         &edge_n[..n],
         &id[..n],
         &score[..n],
         &byte[..edges],
         &to[..edges],
-        unknown,
-        unknown_score,
-        input,
-        out,
-    )
-}
-
-// The same in a WordPiece trie.
-fn print_encoded(
-    nodes: u32,
-    unknown: u32,
-    max_chars: u32,
-    prefix: &[u8],
-    edge_at: &[u32],
-    edge_n: &[u16],
-    id: &[u32],
-    byte: &[u8],
-    to: &[u32],
-    input: &[u8],
-    out: &mut [u8],
-) -> usize
-    requires { ⌜ Cuttable nodes (now «edge_at») (now «edge_n») (now id) (now byte) (now to) ×
-        (maxOutput ≤ length (now out)) ⌝ }
-    ensures { λ r.
-        ⌜ Put (was out) 0 (linesPrinted (encodedLine (partsOf (take nodes (was «edge_at»)) (take nodes (was «edge_n»))
-        (take nodes (was id)) (take (nodes - 1) (was byte)) (take (nodes - 1) (was to))) unknown «max_chars» (was prefix))
-        (was input)) r (is out) ⌝ }
-{
-    if MAX_INPUT < input.len() {
-        return put::put_refusal(out, 0, b"input ", Fault::Size);
-    }
-    let n = nodes as usize;
-    let edges = n - 1;
-    encoded::put_encoded_lines(
-        &edge_at[..n],
-        &edge_n[..n],
-        &id[..n],
-        &byte[..edges],
-        &to[..edges],
-        unknown,
-        max_chars,
         prefix,
         input,
         out,
@@ -145,24 +90,30 @@ fn print_built(
     ensures { λ r. ⌜ Put (was out) 0 (outputOf (was pack) (was input)) r (is out) ⌝ }
 {
     match answer {
-        PackAnswer::Refused(r) => put::put_refusal(out, 0, b"pack ", fault_of(r)),
+        PackAnswer::Refused(r) => put::put_refusal(out, 0, b"pack ", refusal::fault_of(r)),
         PackAnswer::Unigram {
             nodes,
             unknown,
             unknown_score,
-        } => print_segmented(
-            nodes,
-            unknown,
-            unknown_score,
-            edge_at,
-            edge_n,
-            id,
-            score,
-            byte,
-            to,
-            input,
-            out,
-        ),
+        } => {
+            let coder = Coder::Unigram {
+                unknown,
+                unknown_score,
+            };
+            print_lines(
+                coder,
+                nodes,
+                edge_at,
+                edge_n,
+                id,
+                score,
+                byte,
+                to,
+                b"",
+                input,
+                out,
+            )
+        }
         PackAnswer::WordPiece {
             nodes,
             unknown,
@@ -171,16 +122,17 @@ fn print_built(
             prefix_len,
         } => {
             let prefix = prefix_of(pack, prefix_off, prefix_len);
-            print_encoded(
+            let coder = Coder::WordPiece { unknown, max_chars };
+            print_lines(
+                coder,
                 nodes,
-                unknown,
-                max_chars,
-                prefix,
                 edge_at,
                 edge_n,
                 id,
+                score,
                 byte,
                 to,
+                prefix,
                 input,
                 out,
             )

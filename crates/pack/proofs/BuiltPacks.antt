@@ -35,7 +35,7 @@ use Rattle.build.proofs.Promises.{none-exactly, built-fine, built-roomy, built-
 use Rattle.build.proofs.BuiltTries.{partsIn, Doubles, rows-sound, rows-scored, built-parts, built-scores}
 use Rattle.unigram.specs.Work.{pieceWith}
 use Rattle.unigram.specs.Pieces.{Model}
-use Rattle.unigram.specs.Segment.{Scratch, segmentFault}
+use Rattle.unigram.specs.Segment.{Lengths, segmentFault, soundModel}
 use Rattle.unigram.proofs.BuiltTries as tries
 use Rattle.wordpiece.specs.Encode.{encodeFault}
 use Rattle.wordpiece.proofs.BuiltTries as words
@@ -236,7 +236,7 @@ module _ (bytes : List ℕ) (m after : Memory) (n unknown : ℕ) (lowest : Float
       (λ i. soundScored (unigram-parts i) (unigram-scores i) (unigram-score i)) ∙ of-scored _ _ _ (pack-sound-scored bytes good unigram-kind fine refl)
 
   -- so `segment` does not find 8 in it, whatever the text and the scratch
-  pub unigram-not-refused : (text : List ℕ) (scratch : Scratch) → segmentFault given text scratch ≡ some fault.Trie → ⊥
+  pub unigram-not-refused : (text : List ℕ) (lent : Lengths) → segmentFault (soundModel given) text lent ≡ some fault.Trie → ⊥
   unigram-not-refused = tries.sound-not-refused given unigram-sound
 
 -- of a WordPiece pack
@@ -298,5 +298,5 @@ module _ (bytes : List ℕ) (m after : Memory) (n unknown most off len : ℕ) (g
   wordpiece-sound = ap sound wordpiece-parts ∙ pack-sound bytes good wordpiece-kind nothing-wrong
 
   -- so `encode` does not find 8 in them, whatever the prefix, the word and the places
-  pub wordpiece-not-refused : (prefix word ids : List ℕ) → encodeFault (partsIn n after) prefix word ids ≡ some fault.Trie → ⊥
-  wordpiece-not-refused prefix word ids = words.sound-not-refused (partsIn n after) prefix word ids wordpiece-sound
+  pub wordpiece-not-refused : (prefix word : List ℕ) (places : ℕ) → encodeFault (sound (partsIn n after)) prefix word places ≡ some fault.Trie → ⊥
+  wordpiece-not-refused prefix word places = words.sound-not-refused (partsIn n after) prefix word places wordpiece-sound

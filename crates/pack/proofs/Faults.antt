@@ -15,17 +15,18 @@ use Rattle.refusal.specs.declared.Fault.the-variants as fault
 use Rattle.refusal.specs.declared.Reason.{Reason}
 use Rattle.refusal.specs.declared.Reason.the-variants as reason
 use Rattle.refusal.specs.Sizes.{maxTable}
-use Rattle.refusal.specs.Refusal.{numberOf, refuse, first}
-use Rattle.refusal.proofs.Tests.{found, not-found, passed, both-passed}
+use Rattle.refusal.specs.Refusal.{first, called}
+use Rattle.refusal.proofs.Tests.{found, not-found, found-first, none-first, passed, both-passed, called-none, Not, NotOf, refused-so, first-so, called-so}
 use Rattle.text.specs.Text.{wellFormed}
 use Rattle.text.specs.Span.{spanFault}
+use Rattle.text.proofs.Spans.{fault-part, part-lies, part-text, part-not}
 use Rattle.rows.specs.declared.Kind.{Kind}
 use Rattle.rows.specs.Rows.{firstBad}
 use Rattle.rows.proofs.NeverRoom.{bad-not-room}
 use Rattle.pack.specs.Pack.{headerOf, kindOf, laidOut, rowsOf, stringsOf, prefixOf}
-use Rattle.pack.specs.Build.{contentFault, packJudged}
+use Rattle.pack.specs.Build.{largeHeader, prefixFault, contentFault, packJudged}
 use Rattle.pack.specs.Reading.{PackBad}
-use Rattle.pack.proofs.Headers.{large, strings-end, kind-laid}
+use Rattle.pack.proofs.Headers.{strings-end, kind-laid}
 
 -- ---- the strings
 
@@ -47,113 +48,58 @@ unfolding stringsOf
 strings-are bytes start e =
     take-all (length bytes - start) (drop start bytes) (omega (arith, length-drop start bytes)) ∙ ap (λ (k : ℕ). drop k bytes) e
 
--- ---- the prefix
-
-called : Option Fault → Option Reason
-called none = none
-called (some f) = some (reason.Call f)
-
-called-refused : (t : Bool) (f : Fault) (later : Option Fault) → called (refuse t f later) ≡ refuse t (reason.Call f) (called later)
-unfolding refuse called
-called-refused true f later = refl
-called-refused false f later = refl
-
 -- ---- the faults before the room
 
 module _ (kind : Kind) (bytes : List ℕ) where
-  abbrev outside : Bool
-  outside = ltb (length (stringsOf bytes)) (headerOf bytes .prefixOff + headerOf bytes .prefixLen)
-
-  abbrev prefix-fault : Option Reason
-  prefix-fault = refuse outside (reason.Call fault.Span) (refuse (not (wellFormed (prefixOf bytes))) (reason.Call fault.Text) none)
-
   abbrev bad : Option Reason
   bad = firstBad kind (stringsOf bytes) 0 (rowsOf kind bytes)
 
-  pub before-large : large (headerOf bytes) ≡ true → contentFault kind bytes ≡ some (reason.Call fault.Size)
+  pub before-large : largeHeader (headerOf bytes) ≡ true → contentFault kind bytes ≡ some (reason.Call fault.Size)
   unfolding contentFault
   before-large e = found _ _ _ e
 
-  module _ (fits : large (headerOf bytes) ≡ false) where
+  module _ (fits : largeHeader (headerOf bytes) ≡ false) where
     pub before-rows : {r : Reason} → bad ≡ some r → contentFault kind bytes ≡ some r
-    unfolding contentFault first
-    before-rows e = not-found _ _ _ fits ∙ ap (λ (o : Option Reason). first o prefix-fault) e
+    unfolding contentFault
+    before-rows e = not-found _ _ _ fits ∙ found-first _ e
 
-    module _ (fine : bad ≡ none) where
-      before-prefix : contentFault kind bytes ≡ prefix-fault
-      unfolding contentFault first
-      before-prefix = not-found _ _ _ fits ∙ ap (λ (o : Option Reason). first o prefix-fault) fine
-
-      -- the prefix's span decides, in a table that is not too large
-      before-span :
-          length (stringsOf bytes) ≤ maxTable
-          → contentFault kind bytes ≡ called (spanFault (stringsOf bytes) (headerOf bytes .prefixOff) (headerOf bytes .prefixLen))
-      unfolding spanFault called prefixOf
-      before-span l =
-          before-prefix
-          ∙ sym
-          (ap called (not-found _ _ _ (le-ltb maxTable (length (stringsOf bytes)) l))
-          ∙ called-refused outside fault.Span (refuse (not (wellFormed (prefixOf bytes))) fault.Text none)
-          ∙ ap (refuse outside (reason.Call fault.Span)) (called-refused (not (wellFormed (prefixOf bytes))) fault.Text none))
-
-      pub before-bad-prefix :
-          {f : Fault} → length (stringsOf bytes) ≤ maxTable
-          → spanFault (stringsOf bytes) (headerOf bytes .prefixOff) (headerOf bytes .prefixLen) ≡ some f → contentFault kind bytes ≡ some (reason.Call f)
-      unfolding called
-      before-bad-prefix l e = before-span l ∙ ap called e
-
-      pub before-none :
-          length (stringsOf bytes) ≤ maxTable
-          → spanFault (stringsOf bytes) (headerOf bytes .prefixOff) (headerOf bytes .prefixLen) ≡ none → contentFault kind bytes ≡ none
-      unfolding called
-      before-none l e = before-span l ∙ ap called e
+    -- the prefix decides where no row is bad, by its span in a table that is not too large
+    pub before-prefix :
+        bad ≡ none → length (stringsOf bytes) ≤ maxTable
+        → contentFault kind bytes ≡ called (spanFault (stringsOf bytes) (headerOf bytes .prefixOff) (headerOf bytes .prefixLen))
+    unfolding contentFault
+    before-prefix fine l = not-found _ _ _ fits ∙ none-first _ fine ∙ sym (ap called (fault-part (stringsOf bytes) _ _ l))
 
   -- what is known where none is found
   module _ (none-found : contentFault kind bytes ≡ none) where
-    sizes : (large (headerOf bytes) ≡ false) × (first bad prefix-fault ≡ none)
+    sizes : (largeHeader (headerOf bytes) ≡ false) × (first bad (called (prefixFault bytes)) ≡ none)
     unfolding contentFault
     sizes = passed _ _ _ none-found
 
-    pub not-large : large (headerOf bytes) ≡ false
+    pub not-large : largeHeader (headerOf bytes) ≡ false
     not-large = sizes .0
 
     pub rows-fine : bad ≡ none
-    rows-fine = both-passed bad prefix-fault (sizes .1) .0
+    rows-fine = both-passed bad (called (prefixFault bytes)) (sizes .1) .0
 
-    prefixes : (outside ≡ false) × (refuse (not (wellFormed (prefixOf bytes))) (reason.Call fault.Text) none ≡ none)
-    prefixes = passed _ _ _ (both-passed bad prefix-fault (sizes .1) .1)
+    prefixes : prefixFault bytes ≡ none
+    prefixes = called-none (prefixFault bytes) (both-passed bad (called (prefixFault bytes)) (sizes .1) .1)
 
     pub prefix-inside : headerOf bytes .prefixOff + headerOf bytes .prefixLen ≤ length (stringsOf bytes)
-    prefix-inside = ltb-false (length (stringsOf bytes)) (headerOf bytes .prefixOff + headerOf bytes .prefixLen) (prefixes .0)
+    prefix-inside = part-lies (stringsOf bytes) (headerOf bytes .prefixOff) (headerOf bytes .prefixLen) prefixes
 
     pub prefix-text : wellFormed (prefixOf bytes) ≡ true
-    prefix-text = not-false (wellFormed (prefixOf bytes)) (passed _ _ _ (prefixes .1) .0)
+    unfolding prefixOf
+    prefix-text = part-text (stringsOf bytes) (headerOf bytes .prefixOff) (headerOf bytes .prefixLen) prefixes
 
--- ---- no fault before the room has the number 7
-
-abbrev Early : Reason → Type 0
-Early r = eqb (numberOf r) 7 ≡ false
-
-reason-by : {r : Reason} (test : Bool) (s : Reason) (later : Option Reason) → Early s → (later ≡ some r → Early r) → refuse test s later ≡ some r → Early r
-unfolding refuse
-reason-by {r = r} true s later p q e = let k : s ≡ r = cc in subst Early k p
-reason-by false s later p q e = q e
-
-reason-first : {r : Reason} (o later : Option Reason) → (o ≡ some r → Early r) → (later ≡ some r → Early r) → first o later ≡ some r → Early r
-unfolding first
-reason-first none later p q e = q e
-reason-first (some s) later p q e = p e
-
-no-reason : {r : Reason} → none ≡ some r → Early r
-no-reason e = let z : _≡_ {A = ℕ} 0 1 = cc in absurd (omega arith)
-
-pub content-early : (kind : Kind) (bytes : List ℕ) {r : Reason} → contentFault kind bytes ≡ some r → eqb (numberOf r) 7 ≡ false
+-- no fault before the room has the number 7
+pub content-early : (kind : Kind) (bytes : List ℕ) {r : Reason} → contentFault kind bytes ≡ some r → NotOf 7 r
 unfolding contentFault
 content-early kind bytes e =
-    reason-by (large (headerOf bytes)) (reason.Call fault.Size) _ refl
-    (reason-first (bad kind bytes) (prefix-fault kind bytes) (bad-not-room kind (stringsOf bytes) 0 (rowsOf kind bytes))
-    (reason-by (outside kind bytes) (reason.Call fault.Span) _ refl
-    (reason-by (not (wellFormed (prefixOf bytes))) (reason.Call fault.Text) none refl no-reason)))
+    let h = headerOf bytes in
+    refused-so (NotOf 7) (largeHeader h) (reason.Call fault.Size) _ refl
+    (first-so (NotOf 7) (bad kind bytes) _ (bad-not-room kind (stringsOf bytes) 0 (rowsOf kind bytes))
+    (called-so (Not 7) (prefixFault bytes) (λ f. part-not (stringsOf bytes) (h .prefixOff) (h .prefixLen) 7 refl refl)))
     e
 
 -- ---- what `judge` finds

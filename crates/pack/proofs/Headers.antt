@@ -5,16 +5,19 @@ use mathlib.Core.List.{List}
 use mathlib.Core.Option.{none, some}
 use Prim.Native.Nat.{ℕ, _+_, _*_, _≤_, _<_}
 use native.Mathlib.Omega.{arith}
-use borrow.Author.Tests.{le-leb, eq-eqb, ne-eqb, eqb-true, lt-leb, lt-ltb, le-ltb, ltb-false}
+use borrow.Author.Tests.{le-leb, eq-eqb, ne-eqb, eqb-true, lt-leb, ltb-false}
 use lib.Dec.{leb, eqb, ltb}
 use lib.ListN.{length}
 use Rattle.refusal.specs.Sizes.{maxRows, maxTable, maxPrefix, above}
+use Rattle.refusal.proofs.Tests.{or-left, neither-says}
 use Rattle.trie.specs.Sound.{every}
 use Rattle.trie.proofs.Every as tests
 use Rattle.rows.specs.declared.Kind.{Kind}
 use Rattle.rows.specs.declared.Kind.the-variants.{Unigram, WordPiece}
-use Rattle.build.proofs.Rooms.{or-false}
+use Rattle.rows.specs.Columns.{tooLarge}
+use Rattle.rows.proofs.ListFaults.{within-limits}
 use Rattle.pack.specs.Pack.{Header, word, headerOf, laidOut, kindLaidOut, kindOf}
+use Rattle.pack.specs.Build.{largeHeader}
 use Rattle.pack.specs.Reading.{rowStart}
 
 -- ---- where the parts stand
@@ -106,29 +109,25 @@ module _ (bytes : List ℕ) where
 -- ---- the sizes
 
 module _ (h : Header) where
-  abbrev pub large : Bool
-  large = above maxRows (h .rows) || above maxTable (h .stringsLen) || above maxPrefix (h .prefixLen)
+  abbrev sizes : Bool
+  sizes = tooLarge (h .rows) (h .stringsLen)
 
-  pub many-rows : maxRows < h .rows → true ≡ large
-  many-rows l = rw (lt-ltb maxRows (h .rows) l)
+  pub by-sizes : sizes ≡ true → true ≡ largeHeader h
+  by-sizes e = sym (or-left sizes (above maxPrefix (h .prefixLen)) e)
 
-  module _ (few : h .rows ≤ maxRows) where
-    pub large-table : maxTable < h .stringsLen → true ≡ large
-    large-table l = rw (le-ltb maxRows (h .rows) few, lt-ltb maxTable (h .stringsLen) l)
-
-    pub by-prefix : h .stringsLen ≤ maxTable → ltb maxPrefix (h .prefixLen) ≡ large
-    by-prefix l = rw (le-ltb maxRows (h .rows) few, le-ltb maxTable (h .stringsLen) l)
+  pub by-prefix : sizes ≡ false → above maxPrefix (h .prefixLen) ≡ largeHeader h
+  by-prefix e = sym (ap (λ (b : Bool). b || above maxPrefix (h .prefixLen)) e)
 
   -- what is known where none is
-  module _ (fits : large ≡ false) where
-    tested : (above maxRows (h .rows) || above maxTable (h .stringsLen) ≡ false) × (above maxPrefix (h .prefixLen) ≡ false)
-    tested = or-false (above maxRows (h .rows) || above maxTable (h .stringsLen)) (above maxPrefix (h .prefixLen)) fits
+  module _ (fits : largeHeader h ≡ false) where
+    tested : (sizes ≡ false) × (above maxPrefix (h .prefixLen) ≡ false)
+    tested = neither-says sizes (above maxPrefix (h .prefixLen)) fits
 
     pub few-rows : h .rows ≤ maxRows
-    few-rows = ltb-false maxRows (h .rows) (or-false (above maxRows (h .rows)) (above maxTable (h .stringsLen)) (tested .0) .0)
+    few-rows = within-limits (h .rows) (h .stringsLen) (tested .0) .0
 
     pub small-table : h .stringsLen ≤ maxTable
-    small-table = ltb-false maxTable (h .stringsLen) (or-false (above maxRows (h .rows)) (above maxTable (h .stringsLen)) (tested .0) .1)
+    small-table = within-limits (h .rows) (h .stringsLen) (tested .0) .1
 
     pub short-prefix : h .prefixLen ≤ maxPrefix
     short-prefix = ltb-false maxPrefix (h .prefixLen) (tested .1)

@@ -7,7 +7,7 @@ use lib.ListN.{length, getD, length-map, List·getD-eq-default}
 use Rattle.doubles.specs.Double.{Double, plusZero, minusTen, sum, isFinite, lowerOf}
 use Rattle.rows.specs.declared.Kind.the-variants.{Unigram}
 use Rattle.rows.specs.Rows.{Row, score}
-use Rattle.rows.specs.Scores.{lowest, unknownScore}
+use Rattle.rows.specs.Scores.{lowest, lowestOf}
 use Rattle.rows.proofs.RowFaults.{fine-score, fine-worth}
 use Rattle.rows.proofs.RowLists.{getD-map-inside}
 use Rattle.build.specs.Rules.{scoreOf, scoresOf}
@@ -67,16 +67,15 @@ module _ (bytes : List ℕ) (rows : ℕ) where
   unfolding lowest scoresOf
   low-stop low i h = ap (λ (l : List Row). lowest low (map (λ (r : Row). scoreOf (r .worth)) l)) (rest-none Unigram bytes rows i h)
 
-  -- ---- the unknown score
+  -- ---- the lowest of all
 
-  pub unknown-none : rows ≡ 0 → unknownScore scores ≡ sum plusZero minusTen
-  unfolding unknownScore sum scoresOf rowsFrom
-  unknown-none e = ap (λ (n : ℕ). unknownScore (map (λ (r : Row). scoreOf (r .worth)) (rowsFrom Unigram bytes 36 n))) e
+  pub lowest-none : rows ≡ 0 → lowestOf scores ≡ plusZero
+  unfolding lowestOf scoresOf rowsFrom
+  lowest-none e = ap (λ (n : ℕ). lowestOf (map (λ (r : Row). scoreOf (r .worth)) (rowsFrom Unigram bytes 36 n))) e
 
-  pub unknown-some :
-      0 < rows → unknownScore scores ≡ sum (lowest (doubleAt bytes 44) (scoresOf (rowsFrom Unigram bytes 52 (rows - 1)))) minusTen
-  unfolding unknownScore scoresOf rowsFrom
-  unknown-some h =
+  pub lowest-some : 0 < rows → lowestOf scores ≡ lowest (doubleAt bytes 44) (scoresOf (rowsFrom Unigram bytes 52 (rows - 1)))
+  unfolding lowestOf scoresOf rowsFrom
+  lowest-some h =
       let e : rows ≡ suc (rows - 1) = omega arith in
-      ap (λ (n : ℕ). unknownScore (map (λ (r : Row). scoreOf (r .worth)) (rowsFrom Unigram bytes 36 n))) e
-      ∙ ap (λ (d : Double). sum (lowest d (scoresOf (rowsFrom Unigram bytes 52 (rows - 1)))) minusTen) (score-is bytes 36)
+      ap (λ (n : ℕ). lowestOf (map (λ (r : Row). scoreOf (r .worth)) (rowsFrom Unigram bytes 36 n))) e
+      ∙ ap (λ (d : Double). lowest d (scoresOf (rowsFrom Unigram bytes 52 (rows - 1)))) (score-is bytes 36)

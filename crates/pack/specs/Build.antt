@@ -1,21 +1,21 @@
 -- What `pack::build` promises: the promise of every build, of the pack's rows. Definitions only; assumes nothing.
-use Prim.Native.Nat.{ℕ, _+_}
-use mathlib.Core.Bool.{not, _||_}
+use Prim.Native.Nat.{ℕ}
+use mathlib.Core.Bool.{Bool, _||_}
 use mathlib.Core.List.{List}
 use mathlib.Core.Option.{Option, none, some}
-use lib.Dec.{ltb}
-use lib.ListN.{length}
 use Rattle.doubles.specs.Double.{Double}
 use Rattle.doubles.specs.Units.{units}
+use Rattle.refusal.specs.declared.Fault.{Fault}
 use Rattle.refusal.specs.declared.Fault.the-variants as fault
 use Rattle.refusal.specs.declared.Reason.{Reason}
 use Rattle.refusal.specs.declared.Reason.the-variants as reason
-use Rattle.refusal.specs.Sizes.{maxRows, maxTable, maxPrefix, above}
-use Rattle.refusal.specs.Refusal.{refuse, first}
-use Rattle.text.specs.Text.{wellFormed}
+use Rattle.refusal.specs.Sizes.{maxPrefix, above}
+use Rattle.refusal.specs.Refusal.{refuse, first, called}
+use Rattle.text.specs.Span.{partFault}
 use Rattle.rows.specs.declared.Kind.{Kind}
 use Rattle.rows.specs.declared.Kind.the-variants.{Unigram, WordPiece}
 use Rattle.rows.specs.Rows.{firstBad}
+use Rattle.rows.specs.Columns.{tooLarge}
 use Rattle.rows.specs.Scores.{unknownScore}
 use Rattle.build.specs.Rules.{scoresOf}
 use Rattle.build.specs.Core as builds
@@ -24,22 +24,26 @@ use Rattle.build.specs.Promise.{trieIn, scoresIn, buildFault, Told, built, refu
 use Rattle.unigram.specs.Pieces.{Model}
 use Rattle.pack.specs.declared.PackAnswer.{PackAnswer}
 use Rattle.pack.specs.declared.PackAnswer.the-variants as answer-is
-use Rattle.pack.specs.Pack.{headerOf, kindOf, rowsOf, stringsOf, prefixOf}
+use Rattle.pack.specs.Pack.{Header, headerOf, kindOf, rowsOf, stringsOf}
 
 -- how many nodes the pack's trie has
 abbrev pub nodesOf : Kind → List ℕ → ℕ
 nodesOf kind bytes = builds.nodesOf (stringsOf bytes) (rowsOf kind bytes)
 
--- "1 (prefix length too), rows, 2 for a prefix outside the strings, 4 for the prefix"
+-- "1 (prefix length too)"
+abbrev pub largeHeader : Header → Bool
+largeHeader h = tooLarge (h .rows) (h .stringsLen) || above maxPrefix (h .prefixLen)
+
+-- "2 for a prefix outside the strings, 4 for the prefix"
+abbrev pub prefixFault : List ℕ → Option Fault
+prefixFault bytes = partFault (stringsOf bytes) (headerOf bytes .prefixOff) (headerOf bytes .prefixLen)
+
+-- "1, rows," and then the prefix
 unfoldable pub contentFault : Kind → List ℕ → Option Reason
 contentFault kind bytes =
-    let h = headerOf bytes in
-    let strings = stringsOf bytes in
-    let outside = ltb (length strings) (h .prefixOff + h .prefixLen) in
-    refuse (above maxRows (h .rows) || above maxTable (h .stringsLen) || above maxPrefix (h .prefixLen)) (reason.Call fault.Size)
-    (first (firstBad kind strings 0 (rowsOf kind bytes))
-    (refuse outside (reason.Call fault.Span)
-    (refuse (not (wellFormed (prefixOf bytes))) (reason.Call fault.Text) none)))
+    refuse (largeHeader (headerOf bytes)) (reason.Call fault.Size)
+    (first (firstBad kind (stringsOf bytes) 0 (rowsOf kind bytes))
+    (called (prefixFault bytes)))
 
 -- "Order for a pack: 11," and then the rest but 7
 unfoldable pub packJudged : List ℕ → Option Reason

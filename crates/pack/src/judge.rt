@@ -2,22 +2,18 @@
 use crate::header::Header;
 use crate::header::Layout;
 use refusal::Fault;
+use refusal::Judged;
+use refusal::MAX_PREFIX;
 use refusal::Reason;
 use rows::Kind;
 use rows::columns::RowsAnswer;
-use text::SpanAnswer;
 ghost use mathlib.Core.Path.{_≡_};
-ghost use mathlib.Core.Bool.{_||_};
 ghost use mathlib.Core.Option.{some};
-ghost use Rattle.refusal.specs.Sizes.{maxRows, maxTable, maxPrefix, above};
 ghost use Rattle.rows.specs.Answers.{reasonIn};
 ghost use Rattle.pack.specs.Pack.{headerOf, kindOf};
-ghost use Rattle.pack.specs.Build.{contentFault};
+ghost use Rattle.pack.specs.Build.{largeHeader, contentFault};
 ghost use Rattle.pack.specs.Reading.{headerIs, FoundIs};
 ghost use Rattle.refusal.specs.Lent.{was};
-
-// The longest prefix, in bytes.
-const MAX_PREFIX: u32 = 64;
 
 // What is found of a pack: why it is refused, or its kind and header.
 pub enum Found {
@@ -27,17 +23,12 @@ pub enum Found {
 
 // Whether a number of the header is above its limit.
 fn is_large(h: Header) -> bool
-    ensures { λ r.
-        ⌜ r ≡ (above maxRows (headerIs h .rows) || above maxTable (headerIs h .stringsLen) || above maxPrefix
-        (headerIs h .prefixLen)) ⌝ }
+    ensures { λ r. ⌜ r ≡ largeHeader (headerIs h) ⌝ }
 {
-    if rows::columns::MAX_ROWS < h.rows as usize {
+    if rows::columns::is_large(h.rows as usize, h.strings_len as usize) {
         return true;
     }
-    if text::MAX_TABLE < h.strings_len as usize {
-        return true;
-    }
-    MAX_PREFIX < h.prefix_len
+    MAX_PREFIX < h.prefix_len as usize
 }
 
 // The sizes, the rows, and then the prefix's span and text.
@@ -55,8 +46,8 @@ fn judge_rows(kind: Kind, bytes: &[u8], h: Header) -> RowsAnswer
     }
     let spelled = text::text_answer(&bytes[start..], h.prefix_off, h.prefix_len);
     match spelled {
-        SpanAnswer::Refused(f) => RowsAnswer::Refused(Reason::Call(f)),
-        SpanAnswer::Accepted => RowsAnswer::Fine,
+        Judged::Bad(f) => RowsAnswer::Refused(Reason::Call(f)),
+        Judged::Fine => RowsAnswer::Fine,
     }
 }
 

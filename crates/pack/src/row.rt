@@ -3,10 +3,10 @@ use crate::header::HEADER;
 use crate::header::ROW;
 use crate::header::word;
 use doubles::Pattern;
+use refusal::Judged;
 use refusal::Reason;
 use rows::Kind;
 use rows::Row;
-use rows::RowAnswer;
 use rows::Worth;
 use rows::columns::RowsAnswer;
 ghost use mathlib.Core.Path.{_≡_};
@@ -78,7 +78,7 @@ pub fn first_bad(kind: Kind, bytes: &[u8], strings: &[u8], rows: usize) -> RowsA
     let mut i: usize = 0;
     while i < rows {
         let row = row_at(kind, bytes, HEADER + ROW * i);
-        if let RowAnswer::Bad(f) = rows::row_fault(kind, strings, row) {
+        if let Judged::Bad(f) = rows::row_fault(kind, strings, row) {
             return RowsAnswer::Refused(Reason::Row(f, i as u32));
         }
         i += 1;

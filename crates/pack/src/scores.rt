@@ -8,7 +8,7 @@ ghost use lib.ListN.{length, getD, take};
 ghost use Rattle.doubles.specs.Double.{plusZero};
 ghost use Rattle.doubles.specs.Units.{units, scoresIs, scoresWas};
 ghost use Rattle.rows.specs.declared.Kind.the-variants.{Unigram};
-ghost use Rattle.rows.specs.Scores.{lowest, unknownScore};
+ghost use Rattle.rows.specs.Scores.{lowest, lowestOf, unknownScore};
 ghost use Rattle.build.specs.Rules.{scoresOf};
 ghost use Rattle.scored.specs.NodeScores.{filledScores};
 ghost use Rattle.pack.specs.Pack.{rowsFrom};
@@ -38,15 +38,23 @@ fn lowest(bytes: &[u8], rows: usize) -> f64
     low
 }
 
+// The lowest score of all rows; 0 where there are none.
+fn lowest_of(bytes: &[u8], rows: usize) -> f64
+    requires { ⌜ FiniteRows (now bytes) rows ⌝ }
+    ensures { λ r. ⌜ units r ≡ lowestOf (scoresOf (rowsFrom Unigram (was bytes) 36 rows)) ⌝ }
+{
+    if rows == 0 {
+        return 0.0;
+    }
+    lowest(bytes, rows)
+}
+
 // The lowest score of all rows minus 10, rounded once; -10 where there are none.
 pub fn unknown_score(bytes: &[u8], rows: usize) -> f64
     requires { ⌜ FiniteRows (now bytes) rows ⌝ }
     ensures { λ r. ⌜ units r ≡ unknownScore (scoresOf (rowsFrom Unigram (was bytes) 36 rows)) ⌝ }
 {
-    if rows == 0 {
-        return doubles::minus_ten(0.0);
-    }
-    doubles::minus_ten(lowest(bytes, rows))
+    doubles::minus_ten(lowest_of(bytes, rows))
 }
 
 // The score of a row. The mark for no row is above every row, and has the score 0.

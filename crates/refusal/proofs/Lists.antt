@@ -9,6 +9,10 @@ use borrow.Author.Tests.{leb-true, leb-false}
 use lib.Dec.{leb}
 use lib.ListN.{length, getD, set}
 
+-- what would make 0 and 1 equal can't be
+pub zero-one : _≡_ {A = ℕ} 0 1 → ⊥
+zero-one e = omega (arith, e)
+
 -- one number below the other, or not
 pub below-or : (i j : ℕ) → (i < j) ⊎ (j ≤ i)
 below-or i j = go (leb (suc i) j) refl

@@ -1,4 +1,5 @@
--- The paper's number of each fault, and which row a reason names. Definitions only; assumes nothing.
+-- The paper's number of each fault, which row a reason names, and what an answer says was found. Definitions only; assumes
+-- nothing.
 use Prim.Native.Nat.{ℕ}
 use mathlib.Core.Bool.{Bool, true, false}
 use mathlib.Core.Option.{Option, none, some}
@@ -6,6 +7,8 @@ use Rattle.refusal.specs.declared.Fault.{Fault}
 use Rattle.refusal.specs.declared.Fault.the-variants.{Size, Span, Token, Text, Score, Id, Room, Trie, Scratch, Ids, Pack}
 use Rattle.refusal.specs.declared.Reason.{Reason}
 use Rattle.refusal.specs.declared.Reason.the-variants.{Call, Row}
+use Rattle.refusal.specs.declared.Judged.{Judged}
+use Rattle.refusal.specs.declared.Judged.the-variants.{Fine, Bad}
 
 -- the paper's table of refusal numbers
 abbrev pub number : Fault → ℕ
@@ -22,9 +25,17 @@ number Ids = 10
 number Pack = 11
 
 -- "A refusal of a build says why,"
+abbrev pub faultOf : Reason → Fault
+faultOf (Call f) = f
+faultOf (Row f i) = f
+
 abbrev pub numberOf : Reason → ℕ
-numberOf (Call f) = number f
-numberOf (Row f i) = number f
+numberOf r = number (faultOf r)
+
+-- a fault of the call, not of a row
+unfoldable pub called : Option Fault → Option Reason
+called none = none
+called (some f) = some (Call f)
 
 -- "and for 2 to 6 which row (none for a prefix)"
 abbrev pub rowOf : Reason → Option ℕ
@@ -40,3 +51,8 @@ refuse false f later = later
 unfoldable pub first {ℓ} : {A : Type ℓ} → Option A → Option A → Option A
 first none later = later
 first (some f) later = some f
+
+-- the fault that was found
+abbrev pub faultIn : Judged → Option Fault
+faultIn Fine = none
+faultIn (Bad f) = some f

@@ -1,6 +1,20 @@
-// Why a call refuses, and the paper's number of each fault.
+// The paper's sizes, why a call refuses, and the paper's number of each fault.
 ghost use mathlib.Core.Path.{_≡_};
-ghost use Rattle.refusal.specs.Refusal.{number, numberOf};
+ghost use Rattle.refusal.specs.Refusal.{number, faultOf};
+
+// The most rows; the most bytes of a string table, a token, a text or word, and a prefix.
+pub const MAX_ROWS: usize = 1_048_576;
+
+pub const MAX_TABLE: usize = 16_777_216;
+
+pub const MAX_TOKEN: u32 = 1_024;
+
+pub const MAX_TEXT: usize = 65_536;
+
+pub const MAX_PREFIX: usize = 64;
+
+// The mark for no id, no start and no node: the largest u32, which no row's id may be.
+pub const NO_ID: u32 = 4_294_967_295;
 
 // What is wrong, in the order of the paper's numbers, 1 to 11.
 pub enum Fault {
@@ -42,12 +56,24 @@ pub enum Reason {
     Row(Fault, u32),
 }
 
-// The number of a reason: that of its fault.
-pub fn number_of(r: Reason) -> u32
-    ensures { λ n. ⌜ n ≡ numberOf r ⌝ }
+// What a reason says is wrong.
+pub fn fault_of(r: Reason) -> Fault
+    ensures { λ f. ⌜ f ≡ faultOf r ⌝ }
 {
     match r {
-        Reason::Call(f) => number(f),
-        Reason::Row(f, _) => number(f),
+        Reason::Call(f) => f,
+        Reason::Row(f, _) => f,
     }
+}
+
+// What is found of an input: nothing that is wrong, or what is.
+pub enum Judged {
+    Fine,
+    Bad(Fault),
+}
+
+// What the coding of a text or word answers: how many ids it wrote, or why it wrote nothing.
+pub enum CodeAnswer {
+    Ids(usize),
+    Refused(Fault),
 }

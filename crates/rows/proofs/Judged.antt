@@ -7,23 +7,23 @@ use mathlib.Core.Logic.{_↔_, _⊎_, inl, inr, ⊎-elim}
 use mathlib.Core.Option.{none, some}
 use Prim.Native.Nat.{ℕ, _+_, _<_}
 use native.Mathlib.Omega.{arith}
-use borrow.Author.Tests.{ltb-true, ltb-false}
+use borrow.Author.Tests.{ltb-true, ltb-false, lt-ltb}
 use lib.ListN.{length}
 use Rattle.refusal.specs.declared.Fault.{Fault}
 use Rattle.refusal.specs.declared.Fault.the-variants as fault
 use Rattle.refusal.specs.declared.Reason.{Reason}
 use Rattle.refusal.specs.declared.Reason.the-variants as reason
-use Rattle.refusal.specs.Sizes.{maxRows, maxTable}
+use Rattle.refusal.specs.Sizes.{maxRows, maxTable, above}
 use Rattle.rows.specs.declared.Kind.{Kind}
 use Rattle.rows.specs.declared.columns.RowsAnswer.{RowsAnswer}
 use Rattle.rows.specs.declared.columns.RowsAnswer.the-variants as rows-are
 use Rattle.rows.specs.Rows.{rowFault}
-use Rattle.rows.specs.Columns.{Columns, rowAt, rowsOf, level, columnsFault}
+use Rattle.rows.specs.Columns.{Columns, rowAt, rowsOf, tooLarge, level, columnsFault}
 use Rattle.rows.specs.Answers.{reasonIn}
-use Rattle.refusal.proofs.Tests.{found}
+use Rattle.refusal.proofs.Tests.{or-right, found}
 use Rattle.rows.proofs.RowLists.{rows-length, rows-at}
 use Rattle.rows.proofs.FirstBad.{IsFirstBad, first-bad-says, first-bad-exactly}
-use Rattle.rows.proofs.ListFaults.{many, large, size, rows-left, sizes-first, too-many, too-large, uneven, Sized, unsized, within}
+use Rattle.rows.proofs.ListFaults.{size, rows-left, sizes-first, many-rows, too-large, uneven, Sized, unsized, within}
 
 -- ---- which reason
 
@@ -76,9 +76,9 @@ Oversized tab c = (maxRows < length (c .off)) ⊎ ((maxTable < length tab) ⊎ (
 module _ (kind : Kind) (tab : List ℕ) (c : Columns) where
   -- 1 is given exactly where a size is wrong
   pub size-says : columnsFault kind tab c ≡ some (reason.Call fault.Size) → Oversized tab c
-  size-says e = go (many kind tab c) (large kind tab c) (level c) refl refl refl
+  size-says e = go (above maxRows (length (c .off))) (above maxTable (length tab)) (level c) refl refl refl
     where
-      go : (s t u : Bool) → many kind tab c ≡ s → large kind tab c ≡ t → level c ≡ u → Oversized tab c
+      go : (s t u : Bool) → above maxRows (length (c .off)) ≡ s → above maxTable (length tab) ≡ t → level c ≡ u → Oversized tab c
       go true t u p q r = inl (ltb-true maxRows (length (c .off)) p)
       go false true u p q r = inr (inl (ltb-true maxTable (length tab) q))
       go false false false p q r = inr (inr r)
@@ -91,7 +91,12 @@ module _ (kind : Kind) (tab : List ℕ) (c : Columns) where
           absurd (omega arith)
 
   pub size-found : Oversized tab c → columnsFault kind tab c ≡ some (reason.Call fault.Size)
-  size-found o = ⊎-elim (too-many kind tab c) (λ p. ⊎-elim (too-large kind tab c) (uneven kind tab c) p) o
+  size-found o =
+      ⊎-elim (λ h. too-large kind tab c (sym (many-rows (length (c .off)) (length tab) h)))
+      (λ p. ⊎-elim (λ h. too-large kind tab c (table-large h)) (uneven kind tab c) p) o
+    where
+      table-large : maxTable < length tab → tooLarge (length (c .off)) (length tab) ≡ true
+      table-large h = or-right (above maxRows (length (c .off))) (above maxTable (length tab)) (lt-ltb maxTable (length tab) h)
 
   pub size-exactly : (columnsFault kind tab c ≡ some (reason.Call fault.Size)) ↔ Oversized tab c
   size-exactly = (size-says, size-found)

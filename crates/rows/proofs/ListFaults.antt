@@ -8,7 +8,7 @@ use mathlib.Core.Option.{Option, none, some}
 use Prim.Native.Nat.{ℕ, _+_, _≤_, _<_}
 use native.Mathlib.Omega.{arith}
 use borrow.Author.Tests.{lt-ltb, le-ltb, ltb-false, not-false}
-use lib.Dec.{T, ltb}
+use lib.Dec.{T}
 use lib.Ieee.{Float, nan, binary64, fits}
 use lib.ListN.{length, getD, replicate, length-map, length-replicate, getD-replicate}
 use lib.Seq.{ext-getD}
@@ -18,17 +18,17 @@ use Rattle.doubles.proofs.Floats.{units-is-double}
 use Rattle.refusal.specs.declared.Fault.the-variants as fault
 use Rattle.refusal.specs.declared.Reason.{Reason}
 use Rattle.refusal.specs.declared.Reason.the-variants as reason
-use Rattle.refusal.specs.Sizes.{maxRows, maxTable, maxToken, noId}
+use Rattle.refusal.specs.Sizes.{maxRows, maxTable, maxToken, noId, above}
 use Rattle.refusal.specs.Refusal.{refuse}
 use Rattle.text.specs.Text.{wellFormed}
 use Rattle.text.specs.Span.{spanOf}
 use Rattle.rows.specs.declared.Kind.{Kind}
 use Rattle.rows.specs.declared.Kind.the-variants.{Unigram, WordPiece}
 use Rattle.rows.specs.Rows.{score, id, rowFault, firstBad}
-use Rattle.rows.specs.Columns.{Columns, rowAt, rowsOf, level, columnsFault}
+use Rattle.rows.specs.Columns.{Columns, rowAt, rowsOf, tooLarge, level, columnsFault}
 use Rattle.rows.specs.Scores.{unknownScore}
 use Rattle.rows.specs.Answers.{columns, Level}
-use Rattle.refusal.proofs.Tests.{passed, found, not-found}
+use Rattle.refusal.proofs.Tests.{or-left, or-right, neither, neither-says, passed, found, not-found}
 use Rattle.rows.proofs.RowFaults.{fine-inside, fine-short, fine-token-length, fine-text, fine-worth, fine-score, fine-id}
 use Rattle.rows.proofs.RowLists.{rows-length, rows-at, level-scored, level-score, lists-level, getD-map-inside}
 use Rattle.rows.proofs.FirstBad.{none-bad-says, none-bad-found}
@@ -36,30 +36,27 @@ use Rattle.rows.proofs.LowestScores.{Scored, unknown-finite}
 
 -- ---- which fault
 
-either-left : (a b : Bool) → a ≡ true → (a || b) ≡ true
-either-left a b e = rw e
+-- too many rows decide, and else the table
+module _ (rows table : ℕ) where
+  pub many-rows : maxRows < rows → true ≡ tooLarge rows table
+  many-rows h = sym (or-left (above maxRows rows) (above maxTable table) (lt-ltb maxRows rows h))
 
-either-right : (a b : Bool) → b ≡ true → (a || b) ≡ true
-either-right true b e = refl
-either-right false b e = e
+  pub by-table : rows ≤ maxRows → above maxTable table ≡ tooLarge rows table
+  by-table h = sym (ap (λ (b : Bool). b || above maxTable table) (le-ltb maxRows rows h))
 
-neither : (a b : Bool) → a ≡ false → b ≡ false → (a || b) ≡ false
-neither a b e f = rw (e, f)
-
-neither-says : (a b : Bool) → (a || b) ≡ false → (a ≡ false) × (b ≡ false)
-neither-says true b e = (cc, cc)
-neither-says false b e = (refl, e)
+-- as many rows and as large a table as there may be
+pub within-limits : (rows table : ℕ) → tooLarge rows table ≡ false → (rows ≤ maxRows) × (table ≤ maxTable)
+within-limits rows table e =
+    let two = neither-says (above maxRows rows) (above maxTable table) e in
+    (ltb-false maxRows rows (two .0), ltb-false maxTable table (two .1))
 
 module _ (kind : Kind) (tab : List ℕ) (c : Columns) where
   -- the tests of the sizes, and what is left once they find nothing
-  abbrev pub many : Bool
-  many = ltb maxRows (length (c .off))
-
   abbrev pub large : Bool
-  large = ltb maxTable (length tab)
+  large = tooLarge (length (c .off)) (length tab)
 
   abbrev pub size : Bool
-  size = many || large || not (level c)
+  size = large || not (level c)
 
   abbrev pub rows-left : Option Reason
   rows-left = firstBad kind tab 0 (rowsOf c)
@@ -68,23 +65,14 @@ module _ (kind : Kind) (tab : List ℕ) (c : Columns) where
   unfolding columnsFault
   sizes-first = refl
 
-  pub too-many : maxRows < length (c .off) → columnsFault kind tab c ≡ some (reason.Call fault.Size)
-  too-many h =
-      sizes-first
-      ∙ found size _ _ (either-left (many || large) (not (level c)) (either-left many large (lt-ltb maxRows (length (c .off)) h)))
-
-  pub too-large : maxTable < length tab → columnsFault kind tab c ≡ some (reason.Call fault.Size)
-  too-large h =
-      sizes-first ∙ found size _ _ (either-left (many || large) (not (level c)) (either-right many large (lt-ltb maxTable (length tab) h)))
+  pub too-large : large ≡ true → columnsFault kind tab c ≡ some (reason.Call fault.Size)
+  too-large e = sizes-first ∙ found size _ _ (or-left large (not (level c)) e)
 
   pub uneven : level c ≡ false → columnsFault kind tab c ≡ some (reason.Call fault.Size)
-  uneven e = sizes-first ∙ found size _ _ (either-right (many || large) (not (level c)) (ap not e))
+  uneven e = sizes-first ∙ found size _ _ (or-right large (not (level c)) (ap not e))
 
-  pub within-sizes : length (c .off) ≤ maxRows → length tab ≤ maxTable → level c ≡ true → columnsFault kind tab c ≡ firstBad kind tab 0 (rowsOf c)
-  within-sizes m n e =
-      sizes-first
-      ∙ not-found size _ _
-      (neither (many || large) (not (level c)) (neither many large (le-ltb maxRows (length (c .off)) m) (le-ltb maxTable (length tab) n)) (ap not e))
+  pub within-sizes : large ≡ false → level c ≡ true → columnsFault kind tab c ≡ firstBad kind tab 0 (rowsOf c)
+  within-sizes l e = sizes-first ∙ not-found size _ _ (neither large (not (level c)) l (ap not e))
 
 -- ---- what a list without a fault says
 
@@ -103,16 +91,15 @@ module _ (kind : Kind) (tab : List ℕ) (c : Columns) where
   -- past the tests of the sizes
   pub unsized : size kind tab c ≡ false → Sized tab c
   unsized e =
-      let both = neither-says (many kind tab c || large kind tab c) (not (level c)) e in
-      let two = neither-says (many kind tab c) (large kind tab c) (both .0) in
-      record {
-        few = ltb-false maxRows (length (c .off)) (two .0);
-        small = ltb-false maxTable (length tab) (two .1);
-        flat = not-false (level c) (both .1);
-      }
+      let both = neither-says (large kind tab c) (not (level c)) e in
+      let two = within-limits (length (c .off)) (length tab) (both .0) in
+      record { few = two .0; small = two .1; flat = not-false (level c) (both .1) }
 
   pub within : Sized tab c → columnsFault kind tab c ≡ firstBad kind tab 0 (rowsOf c)
-  within s = within-sizes kind tab c (s .few) (s .small) (s .flat)
+  within s =
+      let r = le-ltb maxRows (length (c .off)) (s .few) in
+      let t = le-ltb maxTable (length tab) (s .small) in
+      within-sizes kind tab c (neither (above maxRows (length (c .off))) (above maxTable (length tab)) r t) (s .flat)
 
   row-fine : firstBad kind tab 0 (rowsOf c) ≡ none → (i : ℕ) → i < length (c .off) → rowFault kind tab (rowAt c i) ≡ none
   row-fine e i h =

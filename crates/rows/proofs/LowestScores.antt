@@ -14,7 +14,7 @@ use Rattle.doubles.specs.Units.{units}
 use Rattle.doubles.proofs.Order.{lower-is-one, lower-at-most, at-most-refl, at-most-trans}
 use Rattle.doubles.proofs.Largest.{minus-ten-finite}
 use Rattle.doubles.proofs.Floats.{units-is-double}
-use Rattle.rows.specs.Scores.{lowest, unknownScore}
+use Rattle.rows.specs.Scores.{lowest, lowestOf, unknownScore}
 use Rattle.rows.proofs.RowLists.{getD-map-inside}
 
 -- ---- a loop over the scores: the lowest of the first and the rest is that of what was found and what is left
@@ -30,19 +30,24 @@ module _ (score : List Float) where
   unfolding lowest
   low-stop low i h = ap (λ (l : List Float). lowest low (map units l)) (drop-of-length-le score h)
 
--- ---- the unknown score, as the code makes it
+-- ---- the lowest of all, as the code finds it
 
-pub unknown-none : (score : List Float) → length score ≡ 0 → unknownScore (map units score) ≡ sum plusZero minusTen
-unfolding unknownScore sum
-unknown-none [] e = refl
-unknown-none (x ∷ score) e = absurd (omega arith)
+pub lowest-none : (score : List Float) → length score ≡ 0 → lowestOf (map units score) ≡ plusZero
+unfolding lowestOf
+lowest-none [] e = refl
+lowest-none (x ∷ score) e = absurd (omega arith)
 
-pub unknown-some :
+pub lowest-some :
     (score : List Float) → (length score ≡ 0 → ⊥)
-    → unknownScore (map units score) ≡ sum (lowest (units (getD score 0 nan)) (map units (take (length score - 1) (drop 1 score)))) minusTen
-unfolding unknownScore
-unknown-some [] f = absurd (f refl)
-unknown-some (x ∷ score) f = rw (take-all (length (x ∷ score) - 1) score (omega arith))
+    → lowestOf (map units score) ≡ lowest (units (getD score 0 nan)) (map units (take (length score - 1) (drop 1 score)))
+unfolding lowestOf
+lowest-some [] f = absurd (f refl)
+lowest-some (x ∷ score) f = rw (take-all (length (x ∷ score) - 1) score (omega arith))
+
+-- "with no rows, -10": 0 and -10, added, are -10
+pub unknown-empty : unknownScore [] ≡ minusTen
+unfolding unknownScore lowestOf sum
+unknown-empty = refl
 
 -- ---- the lowest is one of the scores, and at most each
 
@@ -91,7 +96,7 @@ Scored x = T (isDouble x) × T (isFinite x)
 
 -- the unknown score of finite doubles is finite
 pub unknown-finite : (xs : List Double) → ((k : ℕ) → k < length xs → Scored (getD xs k plusZero)) → T (isFinite (unknownScore xs))
-unfolding unknownScore isFinite
+unfolding unknownScore lowestOf isFinite sum
 unknown-finite [] h = tt
 unknown-finite (x ∷ xs) h =
     let s : Scored (lowest x xs) = lowest-in Scored x xs (h 0 (omega arith)) (λ k l. h (suc k) (omega arith)) in

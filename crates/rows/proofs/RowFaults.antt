@@ -12,12 +12,13 @@ use lib.Ieee.{Float}
 use lib.ListN.{length, length-take, length-drop}
 use Rattle.doubles.specs.Double.{Double, isFinite}
 use Rattle.doubles.specs.Units.{units}
+use Rattle.refusal.specs.declared.Fault.{Fault}
 use Rattle.refusal.specs.declared.Fault.the-variants as fault
 use Rattle.refusal.specs.Sizes.{maxToken, noId}
-use Rattle.refusal.specs.Refusal.{refuse}
-use Rattle.refusal.proofs.Tests.{passed, found, not-found}
-use Rattle.text.specs.Text.{validUpTo, wellFormed}
-use Rattle.text.proofs.Valid.{valid-le, well-by-valid}
+use Rattle.refusal.specs.Refusal.{refuse, first}
+use Rattle.refusal.proofs.Tests.{passed, found, not-found, found-first, none-first, both-passed}
+use Rattle.text.specs.Text.{wellFormed, textFault}
+use Rattle.text.proofs.Spans as text
 use Rattle.rows.specs.declared.Kind.{Kind}
 use Rattle.rows.specs.declared.Kind.the-variants.{Unigram, WordPiece}
 use Rattle.rows.specs.declared.Worth as code-worth
@@ -81,38 +82,30 @@ module _ (kind : Kind) (tab : List ℕ) (r : Row) where
     token-length = simp (length-take, length-drop) (omega arith)
 
     module _ (short : r .len ≤ maxToken) where
-      past-token : rowFault kind tab r ≡ refuse (not (wellFormed (tokenOf tab r))) fault.Text (worthFault kind (r .worth))
+      past-token : rowFault kind tab r ≡ first (textFault (tokenOf tab r)) (worthFault kind (r .worth))
       unfolding rowFault
       past-token =
           not-found _ _ _ (le-ltb (length tab) (r .off + r .len) inside) ∙ not-found _ _ _ (le-ltb maxToken (r .len) short)
 
-      pub fault-text : validUpTo (tokenOf tab r) < r .len → rowFault kind tab r ≡ some fault.Text
-      fault-text h =
-          past-token
-          ∙ found _ _ _
-          (ap not
-          (well-by-valid (tokenOf tab r)
-          ∙ ne-eqb (validUpTo (tokenOf tab r)) (length (tokenOf tab r)) (λ e. omega (arith, token-length))))
+      pub fault-text : {f : Fault} → textFault (tokenOf tab r) ≡ some f → rowFault kind tab r ≡ some f
+      fault-text e = past-token ∙ found-first _ e
 
-      pub fault-worth : r .len ≤ validUpTo (tokenOf tab r) → rowFault kind tab r ≡ worthFault kind (r .worth)
-      fault-worth h =
-          let e : validUpTo (tokenOf tab r) ≡ length (tokenOf tab r) = omega (arith, token-length, valid-le (tokenOf tab r)) in
-          past-token
-          ∙ not-found _ _ _ (ap not (well-by-valid (tokenOf tab r) ∙ eq-eqb (validUpTo (tokenOf tab r)) (length (tokenOf tab r)) e))
+      pub fault-worth : textFault (tokenOf tab r) ≡ none → rowFault kind tab r ≡ worthFault kind (r .worth)
+      fault-worth e = past-token ∙ none-first _ e
 
   -- a row without a fault: its token lies inside the table, is short enough, is text, and its worth has no fault
   module _ (fine : rowFault kind tab r ≡ none) where
     spanned :
         (ltb (length tab) (r .off + r .len) ≡ false)
-        × (refuse (ltb maxToken (r .len)) fault.Token (refuse (not (wellFormed (tokenOf tab r))) fault.Text (worthFault kind (r .worth))) ≡ none)
+        × (refuse (ltb maxToken (r .len)) fault.Token (first (textFault (tokenOf tab r)) (worthFault kind (r .worth))) ≡ none)
     unfolding rowFault
     spanned = passed _ _ _ fine
 
-    sized : (ltb maxToken (r .len) ≡ false) × (refuse (not (wellFormed (tokenOf tab r))) fault.Text (worthFault kind (r .worth)) ≡ none)
+    sized : (ltb maxToken (r .len) ≡ false) × (first (textFault (tokenOf tab r)) (worthFault kind (r .worth)) ≡ none)
     sized = passed _ _ _ (spanned .1)
 
-    read : (not (wellFormed (tokenOf tab r)) ≡ false) × (worthFault kind (r .worth) ≡ none)
-    read = passed _ _ _ (sized .1)
+    read : (textFault (tokenOf tab r) ≡ none) × (worthFault kind (r .worth) ≡ none)
+    read = both-passed _ _ (sized .1)
 
     pub fine-inside : r .off + r .len ≤ length tab
     fine-inside = ltb-false (length tab) (r .off + r .len) (spanned .0)
@@ -124,7 +117,7 @@ module _ (kind : Kind) (tab : List ℕ) (r : Row) where
     fine-token-length = token-length fine-inside
 
     pub fine-text : wellFormed (tokenOf tab r) ≡ true
-    fine-text = not-false (wellFormed (tokenOf tab r)) (read .0)
+    fine-text = text.fine-text (tokenOf tab r) (read .0)
 
     pub fine-worth : worthFault kind (r .worth) ≡ none
     fine-worth = read .1

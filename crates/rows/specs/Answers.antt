@@ -7,19 +7,11 @@ use mathlib.Core.Option.{Option, none, some}
 use lib.Ieee.{Float}
 use lib.ListN.{length, replicate}
 use Rattle.doubles.specs.Units.{units}
-use Rattle.refusal.specs.declared.Fault.{Fault}
 use Rattle.refusal.specs.Lent.{Lent, was}
 use Rattle.refusal.specs.declared.Reason.{Reason}
-use Rattle.rows.specs.declared.RowAnswer.{RowAnswer}
-use Rattle.rows.specs.declared.RowAnswer.the-variants as row-is
 use Rattle.rows.specs.declared.columns.RowsAnswer.{RowsAnswer}
 use Rattle.rows.specs.declared.columns.RowsAnswer.the-variants as rows-are
 use Rattle.rows.specs.Columns.{Columns}
-
--- the fault that an answer about a row names
-abbrev pub faultIn : RowAnswer → Option Fault
-faultIn row-is.Fine = none
-faultIn (row-is.Bad f) = some f
 
 -- the reason that an answer about a row list names
 abbrev pub reasonIn : RowsAnswer → Option Reason

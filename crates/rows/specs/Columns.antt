@@ -44,8 +44,11 @@ level c =
     let n = length (c .off) in
     eqb (length (c .len)) n && eqb (length (c .scored)) n && eqb (length (c .score)) n && eqb (length (c .id)) n
 
--- "Order for a build: 1, rows, 7": the first two. 1 is "rows, table above its limit; or the lent lists of one row set differ in length".
+-- 1: "rows, table above its limit"
+abbrev pub tooLarge : ℕ → ℕ → Bool
+tooLarge rows table = above maxRows rows || above maxTable table
+
+-- "Order for a build: 1, rows, 7": the first two. 1 is also "the lent lists of one row set differ in length".
 unfoldable pub columnsFault : Kind → List ℕ → Columns → Option Reason
 columnsFault kind tab c =
-    refuse (above maxRows (length (c .off)) || above maxTable (length tab) || not (level c)) (reason.Call fault.Size)
-    (firstBad kind tab 0 (rowsOf c))
+    refuse (tooLarge (length (c .off)) (length tab) || not (level c)) (reason.Call fault.Size) (firstBad kind tab 0 (rowsOf c))

@@ -11,8 +11,8 @@ use Rattle.refusal.specs.declared.Fault.the-variants as fault
 use Rattle.refusal.specs.declared.Reason.{Reason}
 use Rattle.refusal.specs.declared.Reason.the-variants as reason
 use Rattle.refusal.specs.Sizes.{maxToken, noId, above}
-use Rattle.refusal.specs.Refusal.{refuse}
-use Rattle.text.specs.Text.{wellFormed}
+use Rattle.refusal.specs.Refusal.{refuse, first}
+use Rattle.text.specs.Text.{textFault}
 use Rattle.text.specs.Span.{spanOf, outside}
 use Rattle.rows.specs.declared.Kind.{Kind}
 use Rattle.rows.specs.declared.Kind.the-variants.{Unigram, WordPiece}
@@ -55,8 +55,7 @@ unfoldable pub rowFault : Kind → List ℕ → Row → Option Fault
 rowFault kind tab r =
     refuse (outside tab (r .off) (r .len)) fault.Span
     (refuse (above maxToken (r .len)) fault.Token
-    (refuse (not (wellFormed (tokenOf tab r))) fault.Text
-    (worthFault kind (r .worth))))
+    (first (textFault (tokenOf tab r)) (worthFault kind (r .worth))))
 
 -- "the first bad row", the first of these rows being row i
 unfoldable pub firstBad : Kind → List ℕ → ℕ → List Row → Option Reason

@@ -1,9 +1,9 @@
 // For callers that have tested their lists: what stands here asks for lists of one length.
 use crate::Kind;
 use crate::Row;
-use crate::RowAnswer;
 use crate::Worth;
 use crate::columns::RowsAnswer;
+use refusal::Judged;
 use refusal::Reason;
 ghost use mathlib.Core.Path.{_≡_};
 ghost use Prim.Native.Nat.{_<_, _≤_};
@@ -51,7 +51,7 @@ pub fn first_bad(
     let mut i: usize = 0;
     while i < off.len() {
         let row = row_at(off, len, scored, score, id, i);
-        if let RowAnswer::Bad(f) = crate::row_fault(kind, tab, row) {
+        if let Judged::Bad(f) = crate::row_fault(kind, tab, row) {
             return RowsAnswer::Refused(Reason::Row(f, i as u32));
         }
         i += 1;

@@ -2,19 +2,28 @@
 use crate::Kind;
 use crate::checked;
 use refusal::Fault;
+use refusal::MAX_ROWS;
+use refusal::MAX_TABLE;
 use refusal::Reason;
 ghost use mathlib.Core.Path.{_≡_};
-ghost use Rattle.rows.specs.Columns.{level, columnsFault};
+ghost use Rattle.rows.specs.Columns.{tooLarge, level, columnsFault};
 ghost use Rattle.rows.specs.Answers.{reasonIn, columnsWas};
 ghost use Rattle.refusal.specs.Lent.{was};
-
-// The most rows.
-pub const MAX_ROWS: usize = 1_048_576;
 
 // What is found of a row list.
 pub enum RowsAnswer {
     Fine,
     Refused(Reason),
+}
+
+// Whether there are more rows, or more bytes of string table, than a list may have.
+pub fn is_large(rows: usize, table: usize) -> bool
+    ensures { λ r. ⌜ r ≡ tooLarge rows table ⌝ }
+{
+    if MAX_ROWS < rows {
+        return true;
+    }
+    MAX_TABLE < table
 }
 
 // Whether the lists have one length.
@@ -46,10 +55,7 @@ pub fn judge(
 ) -> RowsAnswer
     ensures { λ r. ⌜ reasonIn r ≡ columnsFault kind (was tab) (columnsWas off len scored score id) ⌝ }
 {
-    if MAX_ROWS < off.len() {
-        return RowsAnswer::Refused(Reason::Call(Fault::Size));
-    }
-    if text::MAX_TABLE < tab.len() {
+    if is_large(off.len(), tab.len()) {
         return RowsAnswer::Refused(Reason::Call(Fault::Size));
     }
     if !is_level(off, len, scored, score, id) {

@@ -1,5 +1,8 @@
 // The rows of a vocabulary: a token's span in the string table and its worth, and which row is the first bad one.
 use refusal::Fault;
+use refusal::Judged;
+use refusal::MAX_TOKEN;
+use refusal::NO_ID;
 
 mod checked;
 pub mod columns;
@@ -7,15 +10,9 @@ pub mod scores;
 
 ghost use mathlib.Core.Path.{_≡_};
 ghost use Rattle.rows.specs.Rows.{worthIs, rowIs, worthFault, rowFault};
-ghost use Rattle.rows.specs.Answers.{faultIn};
+ghost use Rattle.refusal.specs.Refusal.{faultIn};
 ghost use Rattle.rows.specs.declared.Kind.the-variants.{Unigram, WordPiece};
 ghost use Rattle.refusal.specs.Lent.{was};
-
-// The longest token, in bytes.
-pub const MAX_TOKEN: u32 = 1_024;
-
-// The mark for no id, which no row may give.
-pub const NO_ID: u32 = 4_294_967_295;
 
 // Which of the two a vocabulary is for.
 pub enum Kind {
@@ -36,53 +33,47 @@ pub struct Row {
     pub worth: Worth,
 }
 
-// What is found of one row.
-pub enum RowAnswer {
-    Fine,
-    Bad(Fault),
-}
-
 // A Unigram row's worth is a score, and finite.
-fn score_fault(worth: Worth) -> RowAnswer
+fn score_fault(worth: Worth) -> Judged
     ensures { λ r. ⌜ faultIn r ≡ worthFault Unigram (worthIs worth) ⌝ }
 {
     let Worth::Score(x) = worth else {
-        return RowAnswer::Bad(Fault::Score);
+        return Judged::Bad(Fault::Score);
     };
     if doubles::is_finite(x) {
-        return RowAnswer::Fine;
+        return Judged::Fine;
     }
-    RowAnswer::Bad(Fault::Score)
+    Judged::Bad(Fault::Score)
 }
 
 // A WordPiece row's worth is an id, and not the mark for none.
-fn id_fault(worth: Worth) -> RowAnswer
+fn id_fault(worth: Worth) -> Judged
     ensures { λ r. ⌜ faultIn r ≡ worthFault WordPiece (worthIs worth) ⌝ }
 {
     let Worth::Id(i) = worth else {
-        return RowAnswer::Bad(Fault::Id);
+        return Judged::Bad(Fault::Id);
     };
     if i == NO_ID {
-        return RowAnswer::Bad(Fault::Id);
+        return Judged::Bad(Fault::Id);
     }
-    RowAnswer::Fine
+    Judged::Fine
 }
 
 // One row's fault: its span, its length, its text, then its worth.
-pub fn row_fault(kind: Kind, tab: &[u8], row: Row) -> RowAnswer
+pub fn row_fault(kind: Kind, tab: &[u8], row: Row) -> Judged
     ensures { λ r. ⌜ faultIn r ≡ rowFault kind (was tab) (rowIs row) ⌝ }
 {
     let off = row.off;
     let len = row.len;
     if text::is_outside(tab, off, len) {
-        return RowAnswer::Bad(Fault::Span);
+        return Judged::Bad(Fault::Span);
     }
     if MAX_TOKEN < len {
-        return RowAnswer::Bad(Fault::Token);
+        return Judged::Bad(Fault::Token);
     }
     let token = text::checked::span(tab, off, len);
-    if text::utf8::valid_up_to(token) < token.len() {
-        return RowAnswer::Bad(Fault::Text);
+    if let Judged::Bad(f) = text::utf8::judge(token) {
+        return Judged::Bad(f);
     }
     let worth = row.worth;
     match kind {

@@ -1,7 +1,7 @@
 // The unknown score of a row list, from its column of scores.
 ghost use mathlib.Core.Path.{_≡_};
 ghost use Rattle.doubles.specs.Units.{units, scoresWas};
-ghost use Rattle.rows.specs.Scores.{lowest, unknownScore};
+ghost use Rattle.rows.specs.Scores.{lowest, lowestOf, unknownScore};
 
 // The lowest of x and the scores.
 fn lowest(x: f64, score: &[f64]) -> f64
@@ -16,12 +16,19 @@ fn lowest(x: f64, score: &[f64]) -> f64
     low
 }
 
+// The lowest of all scores; 0 where there are none.
+fn lowest_of(score: &[f64]) -> f64
+    ensures { λ r. ⌜ units r ≡ lowestOf (scoresWas score) ⌝ }
+{
+    if score.len() == 0 {
+        return 0.0;
+    }
+    lowest(score[0], &score[1..])
+}
+
 // The lowest score of all rows minus 10, rounded once; -10 where there are none.
 pub fn unknown_score(score: &[f64]) -> f64
     ensures { λ r. ⌜ units r ≡ unknownScore (scoresWas score) ⌝ }
 {
-    if score.len() == 0 {
-        return doubles::minus_ten(0.0);
-    }
-    doubles::minus_ten(lowest(score[0], &score[1..]))
+    doubles::minus_ten(lowest_of(score))
 }

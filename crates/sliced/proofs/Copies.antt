@@ -19,11 +19,12 @@ use Rattle.refusal.specs.declared.Reason.the-variants as reason
 use Rattle.refusal.specs.Sizes.{maxRows, maxTable, above}
 use Rattle.refusal.specs.Refusal.{numberOf, refuse}
 use Rattle.refusal.specs.Places.{zeroed}
-use Rattle.refusal.proofs.Tests.{passed}
+use Rattle.refusal.proofs.Tests.{neither-says, passed}
 use Rattle.rows.specs.declared.Kind.the-variants.{Unigram}
 use Rattle.rows.specs.Rows.{Row, Worth, score, id, worthFault, rowFault, firstBad}
-use Rattle.rows.specs.Columns.{Columns, rowAt, rowsOf, level, columnsFault}
+use Rattle.rows.specs.Columns.{Columns, rowAt, rowsOf, tooLarge, level, columnsFault}
 use Rattle.rows.proofs.FirstBad.{none-bad-says}
+use Rattle.rows.proofs.RowFaults.{fine-worth}
 use Rattle.rows.proofs.NeverRoom.{bad-not-room, sized-not-room}
 use Rattle.rows.proofs.RowLists.{rows-length, rows-at, getD-map-inside}
 use Rattle.rows.proofs.ListFaults.{within-sizes}
@@ -31,7 +32,6 @@ use Rattle.build.specs.Rules.{scoreOf}
 use Rattle.build.specs.Core.{nodesOf}
 use Rattle.build.specs.Memory.{Memory, anyBelow, noScoredRoom, cleared, zeroScores, leaves}
 use Rattle.build.specs.Promise.{buildFault, Promised}
-use Rattle.build.proofs.Rooms.{or-false}
 use Rattle.build.proofs.Promises.{fault-found, fault-left, built-bad, built-short, refused-moved}
 use Rattle.scored.specs.declared.BuildAnswer.{BuildAnswer}
 use Rattle.scored.specs.declared.BuildAnswer.the-variants as answer-is
@@ -44,9 +44,9 @@ use Rattle.sliced.specs.Copied.{putRow, putRows, Places, toCopy, firstPl
 three-hold : (n a b c : ℕ) → anyBelow n (a ∷ b ∷ c ∷ []) ≡ false → (n ≤ a) × (n ≤ b) × (n ≤ c)
 unfolding anyBelow
 three-hold n a b c e =
-    let p = or-false (ltb a n) (ltb b n || (ltb c n || false)) e in
-    let q = or-false (ltb b n) (ltb c n || false) (p .1) in
-    (ltb-false a n (p .0), ltb-false b n (q .0), ltb-false c n (or-false (ltb c n) false (q .1) .0))
+    let p = neither-says (ltb a n) (ltb b n || (ltb c n || false)) e in
+    let q = neither-says (ltb b n) (ltb c n || false) (p .1) in
+    (ltb-false a n (p .0), ltb-false b n (q .0), ltb-false c n (neither-says (ltb c n) false (q .1) .0))
 
 module _ (n : ℕ) (off len : List ℕ) (scores : List Float) where
   -- by the columns' lengths
@@ -170,17 +170,12 @@ noRow : Row
 noRow = record { off = 0; len = 0; worth = id 0 }
 
 module _ (tab : List ℕ) (rs : List Row) (fine : rowsJudged tab rs ≡ none) where
-  sizes : ((above maxRows (length rs) || above maxTable (length tab)) ≡ false) × (firstBad Unigram tab 0 rs ≡ none)
+  sizes : (tooLarge (length rs) (length tab) ≡ false) × (firstBad Unigram tab 0 rs ≡ none)
   unfolding rowsJudged
-  sizes = passed (above maxRows (length rs) || above maxTable (length tab)) (reason.Call fault.Size) (firstBad Unigram tab 0 rs) fine
+  sizes = passed (tooLarge (length rs) (length tab)) (reason.Call fault.Size) (firstBad Unigram tab 0 rs) fine
 
   scored : (i : ℕ) → i < length rs → score (scoreOf (getD rs i noRow .worth)) ≡ getD rs i noRow .worth
-  unfolding rowFault
-  scored i h =
-      let p = passed _ _ _ (none-bad-says Unigram tab noRow 0 rs (sizes .1) i h) in
-      let q = passed _ _ _ (p .1) in
-      let w = passed _ _ _ (q .1) in
-      worth-scored (getD rs i noRow .worth) (w .1)
+  scored i h = worth-scored (getD rs i noRow .worth) (fine-worth Unigram tab (getD rs i noRow) (none-bad-says Unigram tab noRow 0 rs (sizes .1) i h))
 
   row-is : (i : ℕ) → i < length rs → rowAt (columnsFor rs) i ≡ getD rs i noRow
   unfolding columnsFor rowAt
@@ -214,9 +209,7 @@ module _ (tab : List ℕ) (rs : List Row) (fine : rowsJudged tab rs ≡ none) wh
   columns-fine : columnsFault Unigram tab (columnsFor rs) ≡ none
   unfolding columnsFor
   columns-fine =
-      let p = or-false (above maxRows (length rs)) (above maxTable (length tab)) (sizes .0) in
-      let few = ltb-false maxRows (length rs) (p .0) in
-      within-sizes Unigram tab (columnsFor rs) (omega (arith, few, length-map rs (λ (r : Row). r .off))) (ltb-false maxTable (length tab) (p .1)) flat
+      within-sizes Unigram tab (columnsFor rs) (ap (λ (k : ℕ). tooLarge k (length tab)) (length-map rs (λ (r : Row). r .off)) ∙ sizes .0) flat
       ∙ ap (firstBad Unigram tab 0) rows-are
       ∙ sizes .1
 

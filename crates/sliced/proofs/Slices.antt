@@ -6,7 +6,6 @@ use mathlib.Core.List.{List, [], _∷_, map}
 use mathlib.Core.Option.{Option, none, some}
 use Prim.Native.Nat.{ℕ, suc, _+_, _≤_, _<_}
 use native.Mathlib.Numerals.{add-one}
-use borrow.Author.Tests.{lt-ltb, le-ltb, ltb-false}
 use lib.Ieee.{Float}
 use lib.ListN.{length, getD, set, take, drop, length-map, List·getD-map}
 use native.Mathlib.Omega.{arith}
@@ -17,20 +16,21 @@ use Rattle.refusal.specs.declared.Fault.{Fault}
 use Rattle.refusal.specs.declared.Fault.the-variants as fault
 use Rattle.refusal.specs.declared.Reason.{Reason}
 use Rattle.refusal.specs.declared.Reason.the-variants as reason
-use Rattle.refusal.specs.Sizes.{maxRows, maxTable, above}
-use Rattle.refusal.specs.Refusal.{refuse, first}
+use Rattle.refusal.specs.Sizes.{maxRows}
+use Rattle.refusal.specs.Refusal.{refuse, first, faultIn}
 use Rattle.refusal.proofs.Tests.{passed}
-use Rattle.rows.specs.declared.RowAnswer.{RowAnswer}
-use Rattle.rows.specs.declared.RowAnswer.the-variants as row-is
+use Rattle.refusal.specs.declared.Judged.{Judged}
+use Rattle.refusal.specs.declared.Judged.the-variants as row-is
 use Rattle.rows.specs.declared.columns.RowsAnswer.{RowsAnswer}
 use Rattle.rows.specs.declared.columns.RowsAnswer.the-variants as rows-are
 use Rattle.rows.specs.declared.Kind.the-variants.{Unigram}
 use Rattle.rows.specs.declared.Row as code-row
 use Rattle.rows.specs.declared.Worth.the-variants as code-worth-is
 use Rattle.rows.specs.Rows.{Row, rowIs, worthIs, rowFault, firstBad}
-use Rattle.rows.specs.Answers.{faultIn, reasonIn}
+use Rattle.rows.specs.Columns.{tooLarge}
+use Rattle.rows.specs.Answers.{reasonIn}
+use Rattle.rows.proofs.ListFaults.{within-limits}
 use Rattle.build.specs.Rules.{scoreOf}
-use Rattle.build.proofs.Rooms.{or-false}
 use Rattle.refusal.proofs.Lists.{map-set}
 use Rattle.sliced.specs.BuildRows.{RowPlaces, rowPlaces, rowsJudged}
 use Rattle.sliced.specs.Copied.{foundAfter, putRow, putRows, toCopy}
@@ -42,19 +42,7 @@ at-last false = refl
 -- ---- the sizes
 
 abbrev pub sizeFault : ℕ → ℕ → Option Reason
-sizeFault n t = refuse (above maxRows n || above maxTable t) (reason.Call fault.Size) none
-
-pub many : (n t : ℕ) → maxRows < n → some (reason.Call fault.Size) ≡ sizeFault n t
-unfolding refuse
-many n t h = simp (lt-ltb maxRows n h)
-
-pub large : (n t : ℕ) → n ≤ maxRows → maxTable < t → some (reason.Call fault.Size) ≡ sizeFault n t
-unfolding refuse
-large n t g h = simp (le-ltb maxRows n g, lt-ltb maxTable t h)
-
-pub within : (n t : ℕ) → n ≤ maxRows → t ≤ maxTable → none ≡ sizeFault n t
-unfolding refuse
-within n t g h = simp (le-ltb maxRows n g, le-ltb maxTable t h)
+sizeFault n t = refuse (tooLarge n t) (reason.Call fault.Size) none
 
 -- ---- one row
 
@@ -67,11 +55,11 @@ module _ (tab : List ℕ) (r : Row) (i : ℕ) where
   unfolding first firstBad
   only e = ap (λ (x : Option Fault). elim x [ some f ↦ some (reason.Row f i) | none ↦ none ]) e
 
-  pub bad-now : {found : RowsAnswer} {answer : RowAnswer} {f : Fault} → found ≡ rows-are.Fine → faultIn answer ≡ rowFault Unigram tab r → answer ≡ row-is.Bad f
+  pub bad-now : {found : RowsAnswer} {answer : Judged} {f : Fault} → found ≡ rows-are.Fine → faultIn answer ≡ rowFault Unigram tab r → answer ≡ row-is.Bad f
       → some (reason.Row f i) ≡ foundAfter (reasonIn found) tab r i
   bad-now p e q = only (sym (ap faultIn q) ∙ e) ∙ sym (ap (λ (x : RowsAnswer). foundAfter (reasonIn x) tab r i) p)
 
-  pub fine-now : {found : RowsAnswer} {answer : RowAnswer} → found ≡ rows-are.Fine → faultIn answer ≡ rowFault Unigram tab r → answer ≡ row-is.Fine
+  pub fine-now : {found : RowsAnswer} {answer : Judged} → found ≡ rows-are.Fine → faultIn answer ≡ rowFault Unigram tab r → answer ≡ row-is.Fine
       → none ≡ foundAfter (reasonIn found) tab r i
   fine-now p e q = only (sym (ap faultIn q) ∙ e) ∙ sym (ap (λ (x : RowsAnswer). foundAfter (reasonIn x) tab r i) p)
 
@@ -99,10 +87,10 @@ module _ (tab : List ℕ) (rows : List code-row.Row) where
       record {
         said =
             ap (λ (o : Option Reason). first o (firstBad Unigram tab 0 (map rowIs rows))) e
-            ∙ first-refused (above maxRows n || above maxTable (length tab)) (reason.Call fault.Size) (firstBad Unigram tab 0 (map rowIs rows))
-            ∙ ap (λ (k : ℕ). refuse (above maxRows k || above maxTable (length tab)) (reason.Call fault.Size) (firstBad Unigram tab 0 (map rowIs rows)))
+            ∙ first-refused (tooLarge n (length tab)) (reason.Call fault.Size) (firstBad Unigram tab 0 (map rowIs rows))
+            ∙ ap (λ (k : ℕ). refuse (tooLarge k (length tab)) (reason.Call fault.Size) (firstBad Unigram tab 0 (map rowIs rows)))
             (sym (length-map rows rowIs));
-        few = λ o. ltb-false maxRows n (or-false (above maxRows n) (above maxTable (length tab)) (passed _ (reason.Call fault.Size) none (sym e ∙ o) .0) .0);
+        few = λ o. within-limits n (length tab) (passed _ (reason.Call fault.Size) none (sym e ∙ o) .0) .0;
       }
 
   one-more : (o : Option Reason) (i : ℕ) (r : Row) (rs : List Row) → first (foundAfter o tab r i) (firstBad Unigram tab (suc i) rs) ≡ first o (firstBad Unigram tab i (r ∷ rs))

@@ -12,11 +12,11 @@ use Rattle.refusal.specs.Lent.{Lent, was, is}
 use Rattle.refusal.specs.declared.Fault.the-variants as fault
 use Rattle.refusal.specs.declared.Reason.{Reason}
 use Rattle.refusal.specs.declared.Reason.the-variants as reason
-use Rattle.refusal.specs.Sizes.{maxRows, maxTable, above}
 use Rattle.refusal.specs.Refusal.{refuse}
 use Rattle.refusal.specs.Places.{zeroed}
 use Rattle.rows.specs.declared.Kind.the-variants as kind
 use Rattle.rows.specs.Rows.{Row, firstBad}
+use Rattle.rows.specs.Columns.{tooLarge}
 use Rattle.build.specs.Core.{nodesOf}
 use Rattle.build.specs.Memory.{Memory, anyBelow, noScoredRoom, zeroScores, leaves}
 use Rattle.build.specs.Promise.{buildFault, Promised}
@@ -50,7 +50,7 @@ shortOf n c = anyBelow n (length (c .off) ∷ length (c .len) ∷ length (c .sco
 -- "Order for a build: 1, rows, 7": the first two. The rows are one list, so that no lists can differ in length.
 unfoldable pub rowsJudged : List ℕ → List Row → Option Reason
 rowsJudged tab rows =
-    refuse (above maxRows (length rows) || above maxTable (length tab)) (reason.Call fault.Size) (firstBad kind.Unigram tab 0 rows)
+    refuse (tooLarge (length rows) (length tab)) (reason.Call fault.Size) (firstBad kind.Unigram tab 0 rows)
 
 -- A column that is lent for the rows is a lent column: too few places in it are 7 too, whatever N is.
 abbrev pub shortFor : ℕ → List ℕ → List Row → RowPlaces → Memory → Bool

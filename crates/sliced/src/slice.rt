@@ -1,16 +1,16 @@
 // A row list that is lent as a slice of rows: judged as a whole, copied into lent columns, and built there. What holds the slice has no branch of
 // its own, and each turn of its loops is a call on one row.
 use refusal::Fault;
+use refusal::Judged;
 use refusal::Reason;
 use rows::Kind;
 use rows::Row;
-use rows::RowAnswer;
 use rows::Worth;
 use rows::columns::RowsAnswer;
 use scored::BuildAnswer;
 use scored::fine;
 ghost use mathlib.Core.Path.{_≡_};
-ghost use mathlib.Core.Bool.{false, _||_};
+ghost use mathlib.Core.Bool.{false};
 ghost use mathlib.Core.List.{[], _∷_, map};
 ghost use mathlib.Core.Option.{none};
 ghost use Prim.Native.Nat.{_<_};
@@ -19,10 +19,9 @@ ghost use Rattle.doubles.specs.Units.{units, scoresIs, scoresWas};
 ghost use Rattle.refusal.specs.declared.Fault.the-variants as fault;
 ghost use Rattle.refusal.specs.declared.Reason.the-variants as reason;
 ghost use Rattle.refusal.specs.Refusal.{refuse};
-ghost use Rattle.refusal.specs.Sizes.{maxRows, maxTable, above};
 ghost use Rattle.rows.specs.Rows.{worthIs, rowIs};
 ghost use Rattle.rows.specs.declared.Kind.the-variants.{Unigram};
-ghost use Rattle.rows.specs.Columns.{rowsOf, columnsFault};
+ghost use Rattle.rows.specs.Columns.{rowsOf, tooLarge, columnsFault};
 ghost use Rattle.rows.specs.Answers.{reasonIn};
 ghost use Rattle.build.specs.Rules.{scoreOf};
 ghost use Rattle.build.specs.Memory.{anyBelow, cleared, zeroScores, memoryIs, memoryWas, scoredMemoryIs, scoredMemoryWas};
@@ -33,12 +32,9 @@ ghost use Rattle.refusal.specs.Lent.{was};
 
 // Too many rows or too large a table, before any row is looked at.
 fn sized(count: usize, table: usize) -> RowsAnswer
-    ensures { λ r. ⌜ reasonIn r ≡ refuse (above maxRows count || above maxTable table) (reason.Call fault.Size) none ⌝ }
+    ensures { λ r. ⌜ reasonIn r ≡ refuse (tooLarge count table) (reason.Call fault.Size) none ⌝ }
 {
-    if rows::columns::MAX_ROWS < count {
-        return RowsAnswer::Refused(Reason::Call(Fault::Size));
-    }
-    if text::MAX_TABLE < table {
+    if rows::columns::is_large(count, table) {
         return RowsAnswer::Refused(Reason::Call(Fault::Size));
     }
     RowsAnswer::Fine
@@ -52,8 +48,8 @@ fn judge_row(found: RowsAnswer, tab: &[u8], row: Row, i: usize) -> RowsAnswer
     match found {
         RowsAnswer::Refused(r) => RowsAnswer::Refused(r),
         RowsAnswer::Fine => match rows::row_fault(Kind::Unigram, tab, row) {
-            RowAnswer::Bad(f) => RowsAnswer::Refused(Reason::Row(f, i as u32)),
-            RowAnswer::Fine => RowsAnswer::Fine,
+            Judged::Bad(f) => RowsAnswer::Refused(Reason::Row(f, i as u32)),
+            Judged::Fine => RowsAnswer::Fine,
         },
     }
 }

@@ -9,18 +9,16 @@ use Prim.Native.Nat.{ℕ, _+_, _-_, _≤_, _<_}
 use native.Mathlib.Nat.{add-zero}
 use native.Mathlib.Omega.{arith}
 use borrow.Author.Tests.{lt-ltb, le-ltb, ltb-false, eq-eqb, ne-eqb, not-false}
-use lib.Dec.{ltb}
 use lib.ListN.{length, take, drop, length-take, length-drop}
 use denote.Ref.{RefT}
 use Rattle.refusal.specs.declared.Fault.{Fault}
 use Rattle.refusal.specs.declared.Fault.the-variants.{Size, Span, Text}
+use Rattle.refusal.specs.declared.Judged.{Judged}
+use Rattle.refusal.specs.declared.Judged.the-variants.{Fine, Bad}
 use Rattle.refusal.specs.Sizes.{maxTable}
-use Rattle.refusal.specs.Refusal.{refuse}
-use Rattle.refusal.proofs.Tests.{passed}
-use Rattle.text.specs.declared.SpanAnswer.{SpanAnswer}
-use Rattle.text.specs.declared.SpanAnswer.the-variants.{Accepted, Refused}
-use Rattle.text.specs.Text.{validUpTo, wellFormed}
-use Rattle.text.specs.Span.{spanOf, spanFault, answerOf, givenFor, startFor, TextAnswered, PartGiven, NothingGiven}
+use Rattle.refusal.proofs.Tests.{Not, found, not-found, passed, refused-so, nothing-so, bad-exactly, fine-exactly, judged-once}
+use Rattle.text.specs.Text.{validUpTo, wellFormed, textFault}
+use Rattle.text.specs.Span.{spanOf, outside, partFault, spanFault, givenFor, startFor, TextAnswered, PartGiven, NothingGiven}
 use Rattle.text.proofs.Valid.{valid-le}
 
 -- ---- which fault
@@ -29,93 +27,84 @@ use Rattle.text.proofs.Valid.{valid-le}
 pub part-is : (tab : List ℕ) (off len : ℕ) → take (off + len - off) (drop off tab) ≡ spanOf tab off len
 part-is tab off len = let e : off + len - off ≡ len = omega arith in rw e
 
+-- ---- text or not
+
+pub text-bad : (s : List ℕ) → validUpTo s < length s → textFault s ≡ some Text
+unfolding textFault wellFormed
+text-bad s h = found _ Text none (ap not (ne-eqb (validUpTo s) (length s) (λ e. omega arith)))
+
+pub text-fine : (s : List ℕ) → wellFormed s ≡ true → textFault s ≡ none
+unfolding textFault
+text-fine s e = not-found _ Text none (ap not e)
+
+pub fine-text : (s : List ℕ) → textFault s ≡ none → wellFormed s ≡ true
+unfolding textFault
+fine-text s e = not-false (wellFormed s) (passed _ Text none e .0)
+
+pub valid-text : (s : List ℕ) → length s ≤ validUpTo s → wellFormed s ≡ true
+unfolding wellFormed
+valid-text s h = eq-eqb (validUpTo s) (length s) (omega (arith, valid-le s))
+
+-- it is refused with 4 alone
+pub text-not : (k : ℕ) {f : Fault} → Not k Text → (s : List ℕ) → textFault s ≡ some f → Not k f
+unfolding textFault
+text-not k n s = refused-so (Not k) _ Text none n (nothing-so (Not k))
+
 module _ (tab : List ℕ) (off len : ℕ) where
+  pub span-length : off + len ≤ length tab → length (spanOf tab off len) ≡ len
+  span-length inside = simp (length-take, length-drop) (omega arith)
+
   pub fault-size : maxTable < length tab → spanFault tab off len ≡ some Size
   unfolding spanFault
-  fault-size h = rw (lt-ltb maxTable (length tab) h)
+  fault-size h = found _ Size _ (lt-ltb maxTable (length tab) h)
 
-  module _ (size : length tab ≤ maxTable) where
-    pub fault-span : length tab < off + len → spanFault tab off len ≡ some Span
-    unfolding spanFault
-    fault-span h = rw (le-ltb maxTable (length tab) size, lt-ltb (length tab) (off + len) h)
+  -- of a table within the limit what is found is what is found of the part
+  pub fault-part : length tab ≤ maxTable → spanFault tab off len ≡ partFault tab off len
+  unfolding spanFault
+  fault-part size = not-found _ Size _ (le-ltb maxTable (length tab) size)
 
-    module _ (inside : off + len ≤ length tab) where
-      pub span-length : length (spanOf tab off len) ≡ len
-      span-length = simp (length-take, length-drop) (omega arith)
+  pub part-outside : length tab < off + len → partFault tab off len ≡ some Span
+  unfolding partFault
+  part-outside h = found _ Span _ (lt-ltb (length tab) (off + len) h)
 
-      pub fault-text : validUpTo (spanOf tab off len) < len → spanFault tab off len ≡ some Text
-      unfolding spanFault
-      fault-text h =
-          rw (
-            le-ltb maxTable (length tab) size,
-            le-ltb (length tab) (off + len) inside,
-            ne-eqb (validUpTo (spanOf tab off len)) (length (spanOf tab off len)) (λ e. omega (arith, span-length)),
-          )
+  pub part-inside : off + len ≤ length tab → partFault tab off len ≡ textFault (spanOf tab off len)
+  unfolding partFault
+  part-inside inside = not-found _ Span _ (le-ltb (length tab) (off + len) inside)
 
-      pub fault-none : len ≤ validUpTo (spanOf tab off len) → spanFault tab off len ≡ none
-      unfolding spanFault
-      fault-none h =
-          rw (
-            le-ltb maxTable (length tab) size,
-            le-ltb (length tab) (off + len) inside,
-            eq-eqb (validUpTo (spanOf tab off len)) (length (spanOf tab off len)) (omega (arith, span-length, valid-le (spanOf tab off len))),
-          )
+  pub part-not : (k : ℕ) {f : Fault} → Not k Span → Not k Text → partFault tab off len ≡ some f → Not k f
+  unfolding partFault
+  part-not k p q = refused-so (Not k) _ Span _ p (text-not k q (spanOf tab off len))
 
-  -- an accepted span lies inside a table within the limit, and is text
-  module _ (accepted : spanFault tab off len ≡ none) where
-    tests :
-        (ltb maxTable (length tab) ≡ false)
-        × (refuse (ltb (length tab) (off + len)) Span (refuse (not (wellFormed (spanOf tab off len))) Text none) ≡ none)
-    unfolding spanFault
-    tests = passed _ _ _ accepted
+  -- an accepted part lies inside the table and is text
+  module _ (accepted : partFault tab off len ≡ none) where
+    tests : (outside tab off len ≡ false) × (textFault (spanOf tab off len) ≡ none)
+    unfolding partFault
+    tests = passed _ Span _ accepted
 
-    pub accepted-size : length tab ≤ maxTable
-    accepted-size = ltb-false maxTable (length tab) (tests .0)
+    pub part-lies : off + len ≤ length tab
+    part-lies = ltb-false (length tab) (off + len) (tests .0)
 
-    pub accepted-inside : off + len ≤ length tab
-    accepted-inside = ltb-false (length tab) (off + len) (passed _ _ _ (tests .1) .0)
+    pub part-text : wellFormed (spanOf tab off len) ≡ true
+    part-text = fine-text (spanOf tab off len) (tests .1)
 
-    pub accepted-text : wellFormed (spanOf tab off len) ≡ true
-    accepted-text = not-false (wellFormed (spanOf tab off len)) (passed _ _ _ (passed _ _ _ (tests .1) .1) .0)
+  -- and of an accepted span the table is within the limit
+  pub accepted-span : spanFault tab off len ≡ none → (length tab ≤ maxTable) × (partFault tab off len ≡ none)
+  unfolding spanFault
+  accepted-span accepted = let t = passed _ Size _ accepted in (ltb-false maxTable (length tab) (t .0), t .1)
 
 -- ---- the answers
 
-module _ {tab : List ℕ} {off len : ℕ} {answer : SpanAnswer} (a : TextAnswered tab off len answer) where
-  -- refused exactly where there is a fault, and with that fault
-  pub refused-fault : (f : Fault) → answer ≡ Refused f → spanFault tab off len ≡ some f
-  unfolding answerOf
-  refused-fault f e = go (spanFault tab off len) (sym (a .answered) ∙ e)
-    where
-      go : (o : Option Fault) → answerOf o ≡ Refused f → o ≡ some f
-      go none p = cc
-      go (some g) p = cc
+-- refused exactly where there is a fault, and with that fault; accepted exactly where there is none
+module _ {tab : List ℕ} {off len : ℕ} {answer : Judged} (a : TextAnswered tab off len answer) where
+  pub refused-exactly : (f : Fault) → (answer ≡ Bad f) ↔ (spanFault tab off len ≡ some f)
+  refused-exactly f = bad-exactly _ (a .answered) f
 
-  pub fault-refused : (f : Fault) → spanFault tab off len ≡ some f → answer ≡ Refused f
-  unfolding answerOf
-  fault-refused f e = a .answered ∙ ap answerOf e
-
-  -- accepted exactly where there is none
-  pub accepted-none : answer ≡ Accepted → spanFault tab off len ≡ none
-  unfolding answerOf
-  accepted-none e = go (spanFault tab off len) (sym (a .answered) ∙ e)
-    where
-      go : (o : Option Fault) → answerOf o ≡ Accepted → o ≡ none
-      go none p = refl
-      go (some g) p = cc
-
-  pub none-accepted : spanFault tab off len ≡ none → answer ≡ Accepted
-  unfolding answerOf
-  none-accepted e = a .answered ∙ ap answerOf e
-
-  pub refused-exactly : (f : Fault) → (answer ≡ Refused f) ↔ (spanFault tab off len ≡ some f)
-  refused-exactly f = (refused-fault f, fault-refused f)
-
-  pub accepted-exactly : (answer ≡ Accepted) ↔ (spanFault tab off len ≡ none)
-  accepted-exactly = (accepted-none, none-accepted)
+  pub accepted-exactly : (answer ≡ Fine) ↔ (spanFault tab off len ≡ none)
+  accepted-exactly = fine-exactly _ (a .answered)
 
 -- the promise met twice gives the same answer, and the same part: the same bytes at the same place
-pub answer-determined : {tab : List ℕ} {off len : ℕ} {a b : SpanAnswer} → TextAnswered tab off len a → TextAnswered tab off len b → a ≡ b
-answer-determined p q = p .answered ∙ sym (q .answered)
+pub answer-determined : {tab : List ℕ} {off len : ℕ} {a b : Judged} → TextAnswered tab off len a → TextAnswered tab off len b → a ≡ b
+answer-determined p q = judged-once _ _ (p .answered) (q .answered)
 
 module _ {fault : Option Fault} {table : RefT (List ℕ)} {off len : ℕ} {a b : RefT (List ℕ)}
     (p : PartGiven fault table off len a) (q : PartGiven fault table off len b) where

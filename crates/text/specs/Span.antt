@@ -1,19 +1,18 @@
 -- The span check over a lent string table, and what its calls promise. Definitions only; assumes nothing.
 use mathlib.Core.Path.{_≡_}
 use Prim.Native.Nat.{ℕ, _+_}
-use mathlib.Core.Bool.{Bool, not}
+use mathlib.Core.Bool.{Bool}
 use mathlib.Core.List.{List, []}
 use mathlib.Core.Option.{Option, none, some}
 use lib.Dec.{ltb}
 use lib.ListN.{length, take, drop}
 use denote.Ref.{RefT}
 use Rattle.refusal.specs.declared.Fault.{Fault}
-use Rattle.refusal.specs.declared.Fault.the-variants.{Size, Span, Text}
+use Rattle.refusal.specs.declared.Fault.the-variants.{Size, Span}
+use Rattle.refusal.specs.declared.Judged.{Judged}
 use Rattle.refusal.specs.Sizes.{maxTable, above}
-use Rattle.refusal.specs.Refusal.{refuse}
-use Rattle.text.specs.declared.SpanAnswer.{SpanAnswer}
-use Rattle.text.specs.declared.SpanAnswer.the-variants.{Accepted, Refused}
-use Rattle.text.specs.Text.{wellFormed}
+use Rattle.refusal.specs.Refusal.{refuse, faultIn}
+use Rattle.text.specs.Text.{textFault}
 
 -- the len bytes of the table from off on
 abbrev pub spanOf : List ℕ → ℕ → ℕ → List ℕ
@@ -23,18 +22,13 @@ spanOf tab off len = take len (drop off tab)
 abbrev pub outside : List ℕ → ℕ → ℕ → Bool
 outside tab off len = ltb (length tab) (off + len)
 
+-- of a table within its limit: 2, 4
+unfoldable pub partFault : List ℕ → ℕ → ℕ → Option Fault
+partFault tab off len = refuse (outside tab off len) Span (textFault (spanOf tab off len))
+
 -- "A span is tested in the order 1 (the table), 2, 4."
 unfoldable pub spanFault : List ℕ → ℕ → ℕ → Option Fault
-unfolding refuse wellFormed
-spanFault tab off len =
-    refuse (above maxTable (length tab)) Size
-    (refuse (outside tab off len) Span
-    (refuse (not (wellFormed (spanOf tab off len))) Text none))
-
--- "a call beside it answers accepted or the number"
-unfoldable pub answerOf : Option Fault → SpanAnswer
-answerOf none = Accepted
-answerOf (some f) = Refused f
+spanFault tab off len = refuse (above maxTable (length tab)) Size (partFault tab off len)
 
 -- The part that a span is, where no fault is found of it; else the empty part. And how far from the table's start it stands.
 -- "An accepted span gives back that part of the lent string table itself. A refused one gives back the empty part at the table's start"
@@ -46,9 +40,9 @@ unfoldable pub startFor : Option Fault → ℕ → ℕ
 startFor none off = off
 startFor (some f) off = 0
 
--- what `text_answer(tab, off, len)` promises of its answer
-pub record TextAnswered (tab : List ℕ) (off len : ℕ) (answer : SpanAnswer) : Type 0 where
-  pub answered : answer ≡ answerOf (spanFault tab off len)
+-- What `text_answer(tab, off, len)` promises: "a call beside it answers accepted or the number".
+pub record TextAnswered (tab : List ℕ) (off len : ℕ) (answer : Judged) : Type 0 where
+  pub answered : faultIn answer ≡ spanFault tab off len
 
 -- What is promised of the part given back of a span with this fault: its bytes, and that it is a part of the lent table itself, in the same
 -- block of memory.

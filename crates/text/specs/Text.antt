@@ -2,8 +2,12 @@
 use Prim.Native.Nat.{ℕ, zero, suc, _+_, _-_}
 use mathlib.Core.Bool.{Bool, true, false, not, _&&_, cond}
 use mathlib.Core.List.{List, [], _∷_}
+use mathlib.Core.Option.{Option, none}
 use lib.Dec.{leb, ltb, eqb}
 use lib.ListN.{length, getD, take, drop}
+use Rattle.refusal.specs.declared.Fault.{Fault}
+use Rattle.refusal.specs.declared.Fault.the-variants as fault
+use Rattle.refusal.specs.Refusal.{refuse}
 
 -- lo ≤ x ≤ hi
 abbrev pub within : ℕ → ℕ → ℕ → Bool
@@ -66,6 +70,10 @@ validUpTo s = validIn (length s) s
 unfoldable pub wellFormed : List ℕ → Bool
 unfolding validUpTo
 wellFormed s = eqb (validUpTo s) (length s)
+
+-- 4: "a token, text, word or prefix is not well-formed UTF-8"
+unfoldable pub textFault : List ℕ → Option Fault
+textFault s = refuse (not (wellFormed s)) fault.Text none
 
 -- ---- positions in a text
 

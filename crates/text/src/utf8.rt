@@ -1,15 +1,18 @@
 // Which bytes are text by RFC 3629, and where its characters begin.
 use crate::lead;
-use crate::runs::is_tail;
-use crate::runs::past_all_blocks;
-use crate::runs::past_runs;
+use crate::strides::is_tail;
+use crate::strides::past_all_blocks;
+use crate::strides::past_runs;
+use refusal::Fault;
+use refusal::Judged;
 ghost use mathlib.Core.Path.{_≡_};
 ghost use mathlib.Core.Bool.{true};
 ghost use Prim.Native.Nat.{_+_, _/_, _%_, _≤_, _<_};
 ghost use lib.ListN.{length, drop};
 ghost use Rattle.text.specs.Lead.{IsLead};
 ghost use Rattle.text.specs.Passing.{Stepped};
-ghost use Rattle.text.specs.Text.{within, tails, character, validUpTo, boundary};
+ghost use Rattle.text.specs.Text.{within, tails, character, validUpTo, boundary, textFault};
+ghost use Rattle.refusal.specs.Refusal.{faultIn};
 ghost use Rattle.refusal.specs.Lent.{was};
 
 // The byte is in the range of the second byte that this entry of the lead table has.
@@ -120,6 +123,16 @@ pub fn valid_up_to(s: &[u8]) -> usize
         return ascii;
     }
     valid_after(s, ascii)
+}
+
+// Whether the bytes are text.
+pub fn judge(s: &[u8]) -> Judged
+    ensures { λ r. ⌜ faultIn r ≡ textFault (was s) ⌝ }
+{
+    if valid_up_to(s) < s.len() {
+        return Judged::Bad(Fault::Text);
+    }
+    Judged::Fine
 }
 
 // A character begins at i, or the text ends there.

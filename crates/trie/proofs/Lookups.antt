@@ -1,19 +1,19 @@
 -- The look-up: which test gives which fault, and what each answer says, both ways. The first test that finds a fault decides; with none the
 -- answer is the string's id or that it has none. Assumes nothing.
 use mathlib.Core.Path.{_≡_, refl, sym, ap, _∙_}
-use mathlib.Core.Bool.{Bool, true, false}
+use mathlib.Core.Bool.{Bool, true, false, not}
 use mathlib.Core.List.{List}
 use mathlib.Core.Option.{Option, none, some}
 use Prim.Native.Nat.{ℕ, _≤_, _<_}
-use native.Mathlib.Omega.{arith}
-use borrow.Author.Tests.{lt-ltb, le-ltb, eq-eqb, ne-eqb}
+use borrow.Author.Tests.{lt-ltb, le-ltb, ltb-false, not-false}
 use lib.ListN.{length}
 use Rattle.refusal.specs.declared.Fault.{Fault}
 use Rattle.refusal.specs.declared.Fault.the-variants as fault
 use Rattle.refusal.specs.Refusal.{refuse}
 use Rattle.refusal.specs.Sizes.{maxText}
-use Rattle.text.specs.Text.{validUpTo, wellFormed}
-use Rattle.text.proofs.Valid.{valid-le}
+use Rattle.refusal.proofs.Tests.{Not, refused-so, not-found, passed}
+use Rattle.text.specs.Text.{wellFormed, textFault}
+use Rattle.text.proofs.Spans.{fine-text, text-not}
 use Rattle.trie.specs.declared.LookupAnswer.{LookupAnswer}
 use Rattle.trie.specs.declared.LookupAnswer.the-variants.{Found, Absent, Refused}
 use Rattle.trie.specs.Trie.{Trie, idOf}
@@ -31,13 +31,23 @@ module _ (s : List ℕ) where
     unfolding lookupFault refuse
     fault-trie = rw (le-ltb maxText (length s) size)
 
-    pub fault-text : validUpTo s < length s → lookupFault true s ≡ some fault.Text
-    unfolding lookupFault refuse wellFormed
-    fault-text h = rw (le-ltb maxText (length s) size, ne-eqb (validUpTo s) (length s) (λ e. omega arith))
+    pub fault-text : lookupFault true s ≡ textFault s
+    unfolding lookupFault refuse
+    fault-text = rw (le-ltb maxText (length s) size)
 
-    pub fault-none : length s ≤ validUpTo s → lookupFault true s ≡ none
-    unfolding lookupFault refuse wellFormed
-    fault-none h = rw (le-ltb maxText (length s) size, eq-eqb (validUpTo s) (length s) (omega (arith, valid-le s)))
+  -- no fault where the parts are sound is 8
+  pub sound-lookup : {sound : Bool} → sound ≡ true → {f : Fault} → lookupFault sound s ≡ some f → Not 8 f
+  unfolding lookupFault
+  sound-lookup e =
+      refused-so (Not 8) _ fault.Size _ refl (λ q. text-not 8 refl s (sym (not-found _ fault.Trie (textFault s) (ap not e)) ∙ q))
+
+-- what is known where there is none
+pub lookup-fine : (sound : Bool) (s : List ℕ) → lookupFault sound s ≡ none → (length s ≤ maxText) × (sound ≡ true) × (wellFormed s ≡ true)
+unfolding lookupFault
+lookup-fine sound s e =
+    let a = passed _ fault.Size _ e in
+    let b = passed _ fault.Trie _ (a .1) in
+    (ltb-false maxText (length s) (a .0), not-false sound (b .0), fine-text s (b .1))
 
 -- ---- the promise from the fault, or from the id
 

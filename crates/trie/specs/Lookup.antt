@@ -9,7 +9,7 @@ use Rattle.refusal.specs.declared.Fault.{Fault}
 use Rattle.refusal.specs.declared.Fault.the-variants as fault
 use Rattle.refusal.specs.Sizes.{maxText, above}
 use Rattle.refusal.specs.Refusal.{refuse}
-use Rattle.text.specs.Text.{wellFormed}
+use Rattle.text.specs.Text.{textFault}
 use Rattle.trie.specs.declared.LookupAnswer.{LookupAnswer}
 use Rattle.trie.specs.declared.LookupAnswer.the-variants.{Found, Absent, Refused}
 use Rattle.trie.specs.Trie.{Trie, idOf}
@@ -18,8 +18,7 @@ use Rattle.trie.specs.Trie.{Trie, idOf}
 unfoldable pub lookupFault : Bool → List ℕ → Option Fault
 lookupFault soundParts s =
     refuse (above maxText (length s)) fault.Size
-    (refuse (not soundParts) fault.Trie
-    (refuse (not (wellFormed s)) fault.Text none))
+    (refuse (not soundParts) fault.Trie (textFault s))
 
 -- the id, none, or the number
 unfoldable pub found : Option ℕ → LookupAnswer

@@ -1,4 +1,5 @@
 // Steps and walks in sound parts, for layers above that have tested soundness once: each function asks for sound parts and refuses nothing.
+use refusal::NO_ID;
 ghost use mathlib.Core.Path.{_≡_};
 ghost use mathlib.Core.Bool.{cond};
 ghost use mathlib.Core.List.{List};
@@ -27,9 +28,6 @@ pub enum NodeId {
     Is(u32),
     Missing,
 }
-
-// "A node that ends no token has id 4,294,967,295."
-const NO_ID: u32 = 4_294_967_295;
 
 // `part` where x is at most b, else 0. By a number and not a branch: the next byte of a text can't be foretold, and a wrong guess costs
 // more than the rest of a turn.

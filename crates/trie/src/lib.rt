@@ -1,7 +1,8 @@
 // Trie parts in lent columns: soundness, steps and walks, and looking a string up.
 use checked::NodeId;
 use refusal::Fault;
-use text::MAX_TEXT;
+use refusal::Judged;
+use refusal::MAX_TEXT;
 
 pub mod checked;
 pub mod soundness;
@@ -34,8 +35,8 @@ fn look_up(
     requires { ⌜ Sound (partsNow «edge_at» «edge_n» id byte to) × (length (now s) ≤ 65536) ⌝ }
     ensures { λ r. ⌜ LookedUp true (parts «edge_at» «edge_n» id byte to) (was s) r ⌝ }
 {
-    if text::utf8::valid_up_to(s) < s.len() {
-        return LookupAnswer::Refused(Fault::Text);
+    if let Judged::Bad(f) = text::utf8::judge(s) {
+        return LookupAnswer::Refused(f);
     }
     match checked::exact(edge_at, edge_n, id, byte, to, s) {
         NodeId::Is(i) => LookupAnswer::Found(i),

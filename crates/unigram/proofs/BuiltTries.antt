@@ -17,7 +17,8 @@ use Rattle.doubles.specs.Units.{units}
 use Rattle.doubles.proofs.Floats.{units-is-double}
 use Rattle.refusal.specs.declared.Fault.{Fault}
 use Rattle.refusal.specs.declared.Fault.the-variants as fault
-use Rattle.refusal.proofs.Tests.{not-found, Not, refused-not, nothing-not}
+use Rattle.refusal.specs.declared.CodeAnswer.the-variants.{Refused}
+use Rattle.refusal.proofs.Codings.{refused-exactly}
 use Rattle.trie.specs.Trie.{Trie, walk, idAt, idFrom, idOf}
 use Rattle.trie.specs.Sound.{soundScored}
 use Rattle.trie.proofs.SoundParts.{of-scored}
@@ -47,12 +48,11 @@ use Rattle.scored.specs.declared.BuildAnswer.the-variants as answer-is
 use Rattle.scored.specs.Build.{Report, reportOf, told, Built}
 use Rattle.scored.proofs.Builds.{scores-are}
 use Rattle.cutting.specs.Cuttings.{Piece}
-use Rattle.refusal.proofs.Lists.{below-or}
-use Rattle.unigram.specs.declared.SegmentAnswer.the-variants as segment-is
+use Rattle.refusal.proofs.Lists.{zero-one, below-or}
 use Rattle.unigram.specs.Work.{pieceWith}
 use Rattle.unigram.specs.Pieces.{Model, pieceAt, known}
-use Rattle.unigram.specs.Segment.{Scratch, segmentFault, Segmented}
-use Rattle.unigram.proofs.Determinacy.{refused-exactly}
+use Rattle.unigram.specs.Segment.{Scratch, Lengths, lengthsOf, segmentFault, soundModel, Segmented}
+use Rattle.unigram.proofs.Refusing.{sound-fault}
 
 -- what `segment` is given of a memory with n nodes: the parts, their scores, and the unknown piece
 abbrev pub modelIn : ℕ → Memory → Piece → Model
@@ -174,21 +174,10 @@ module _ (tab : List ℕ) (rows : List Row) (bytes : Bytes tab) (few : length ro
 
 -- ---- sound parts are not refused with 8
 
-module _ (m : Model) (sound : soundScored (m .trie) (m .score) (m .unknown .score) ≡ true) (s : List ℕ) (b : Scratch) where
-  sound-fault : {f : Fault} → segmentFault m s b ≡ some f → Not 8 f
-  unfolding segmentFault
-  sound-fault e =
-      refused-not 8 _ fault.Size _ refl
-      (λ e.
-      refused-not 8 _ fault.Text _ refl (refused-not 8 _ fault.Scratch _ refl (refused-not 8 _ fault.Ids none refl (nothing-not 8)))
-      (sym (not-found _ fault.Trie _ (ap not sound)) ∙ e))
-      e
-
-  pub sound-not-refused : segmentFault m s b ≡ some fault.Trie → ⊥
-  sound-not-refused e =
-      let z : true ≡ false = sound-fault e in
-      let y : _≡_ {A = ℕ} 0 1 = cc in
-      omega arith
+pub sound-not-refused : (m : Model) → soundModel m ≡ true → (s : List ℕ) (n : Lengths) → segmentFault (soundModel m) s n ≡ some fault.Trie → ⊥
+sound-not-refused m sound s n e =
+    let z : true ≡ false = sound-fault (soundModel m) s n sound e in
+    zero-one cc
 
 -- ---- after a build
 
@@ -245,9 +234,9 @@ module _ (tab : List ℕ) (c : Columns) (m after : Memory) (s : Summary) (bytes 
       abbrev pub parts : Model
       parts = modelIn (s .nodes) after (pieceWith unknown (s .«unknown_score»))
 
-      pub built-not-refused : (t : List ℕ) (scratch : Scratch) → segmentFault parts t scratch ≡ some fault.Trie → ⊥
+      pub built-not-refused : (t : List ℕ) (n : Lengths) → segmentFault (soundModel parts) t n ≡ some fault.Trie → ⊥
       built-not-refused = sound-not-refused parts built-sound
 
       -- and never answers so
-      pub built-not-answered : (t : List ℕ) (scratch left : Scratch) → Segmented parts t scratch (segment-is.Refused fault.Trie) left → ⊥
-      built-not-answered t scratch left p = built-not-refused t scratch (refused-exactly p fault.Trie .0 refl)
+      pub built-not-answered : (t : List ℕ) (scratch left : Scratch) → Segmented parts t scratch (Refused fault.Trie) left → ⊥
+      built-not-answered t scratch left p = built-not-refused t (lengthsOf scratch) (refused-exactly (p .coded) fault.Trie .0 refl)

@@ -1,26 +1,29 @@
 -- The promise of `segment` fixes what it answers and what it leaves: each field is an equation with a value of the inputs. The
 -- score column is promised by its units, and the format has one value for each, so the columns themselves are fixed. Assumes
 -- nothing.
-use mathlib.Core.Path.{_≡_, refl, sym, ap, _∙_}
+use mathlib.Core.Path.{_≡_, sym, ap, _∙_}
 use mathlib.Core.Logic.{_↔_}
 use Prim.Native.Nat.{ℕ}
-use native.Mathlib.Omega.{arith}
 use mathlib.Core.List.{List}
-use mathlib.Core.Option.{Option, none, some}
+use mathlib.Core.Option.{none, some}
 use lib.Dec.{T}
 use lib.Ieee.{Float}
 use lib.ListN.{length}
 use Rattle.doubles.specs.Units.{allHeld}
 use Rattle.doubles.proofs.Determinacy.{column-once}
 use Rattle.refusal.specs.declared.Fault.{Fault}
-use Rattle.unigram.specs.declared.SegmentAnswer.{SegmentAnswer}
-use Rattle.unigram.specs.declared.SegmentAnswer.the-variants.{Ids, Refused}
+use Rattle.refusal.specs.declared.CodeAnswer.{CodeAnswer}
+use Rattle.refusal.specs.declared.CodeAnswer.the-variants.{Ids, Refused}
+use Rattle.refusal.proofs.Codings as codings
+use Rattle.refusal.proofs.Codings.{coded-once}
 use Rattle.unigram.specs.Pieces.{Model, idsOf}
-use Rattle.unigram.specs.Segment.{Scratch, segmentFault, segmentAnswer, Segmented}
+use Rattle.unigram.specs.Segment.{Scratch, lengthsOf, segmentFault, soundModel, Segmented}
 use Rattle.unigram.specs.Core.{scratchOf, Cut}
 
-pub segmented-once : {m : Model} {s : List ℕ} {b : Scratch} {a₁ a₂ : SegmentAnswer} {b₁ b₂ : Scratch} → Segmented m s b a₁ b₁ → Segmented m s b a₂ b₂ → (a₁ ≡ a₂) × (b₁ ≡ b₂)
-segmented-once p q = (p .answered ∙ sym (q .answered), p .left ∙ sym (q .left))
+pub segmented-once :
+    {m : Model} {s : List ℕ} {b : Scratch} {a₁ a₂ : CodeAnswer} {b₁ b₂ : Scratch} → Segmented m s b a₁ b₁ → Segmented m s b a₂ b₂
+    → (a₁ ≡ a₂) × (b₁ ≡ b₂)
+segmented-once p q = coded-once (p .coded) (q .coded)
 
 -- the same of `checked::segment`
 pub cut-once :
@@ -41,7 +44,7 @@ module _ {a b c d a′ b′ c′ d′ : List ℕ} (x x′ : List Float) (held : 
 
   -- so `segment`, met twice on the same columns, has one answer and leaves the same in each
   pub segment-once :
-      {m : Model} {s : List ℕ} {before : Scratch} {r r′ : SegmentAnswer} → Segmented m s before r (scratchOf a b x c d)
+      {m : Model} {s : List ℕ} {before : Scratch} {r r′ : CodeAnswer} → Segmented m s before r (scratchOf a b x c d)
       → Segmented m s before r′ (scratchOf a′ b′ x′ c′ d′)
       → (r ≡ r′) × (a ≡ a′) × (b ≡ b′) × (x ≡ x′) × (c ≡ c′) × (d ≡ d′)
   segment-once p q =
@@ -49,34 +52,11 @@ module _ {a b c d a′ b′ c′ d′ : List ℕ} (x x′ : List Float) (held : 
       let left = scratch-once (once .1) in
       (once .0, left .0, left .1, left .2, left .3, left .4)
 
--- "exactly when", both ways: a call of `segment` is refused with f exactly when f is the first fault, and answers with ids exactly when there is
--- none
-module _ {m : Model} {s : List ℕ} {before after : Scratch} {answer : SegmentAnswer} (p : Segmented m s before answer after) where
-  abbrev fault : Option Fault
-  fault = segmentFault m s before
+-- "exactly when", both ways: a call of `segment` is refused with f exactly when f is the first fault, and answers with ids exactly
+-- when there is none
+module _ {m : Model} {s : List ℕ} {before after : Scratch} {answer : CodeAnswer} (p : Segmented m s before answer after) where
+  pub refused-exactly : (f : Fault) → (answer ≡ Refused f) ↔ (segmentFault (soundModel m) s (lengthsOf before) ≡ some f)
+  refused-exactly = codings.refused-exactly (p .coded)
 
-  abbrev count : ℕ
-  count = length (idsOf m s)
-
-  pub refused-exactly : (f : Fault) → (answer ≡ Refused f) ↔ (segmentFault m s before ≡ some f)
-  unfolding segmentAnswer
-  refused-exactly f = (λ q. says q fault refl, λ e. p .answered ∙ ap (λ (o : Option Fault). segmentAnswer o count) e)
-    where
-      says : answer ≡ Refused f → (o : Option Fault) → fault ≡ o → fault ≡ some f
-      says q none e =
-          let told : Ids count ≡ Refused f = sym (p .answered ∙ ap (λ (o : Option Fault). segmentAnswer o count) e) ∙ q in
-          absurd (let z : _≡_ {A = ℕ} 0 1 = cc in omega arith)
-      says q (some g) e =
-          let told : Refused g ≡ Refused f = sym (p .answered ∙ ap (λ (o : Option Fault). segmentAnswer o count) e) ∙ q in
-          let same : g ≡ f = cc in
-          e ∙ ap (λ (x : Fault). some x) same
-
-  pub accepted-exactly : (answer ≡ Ids (length (idsOf m s))) ↔ (segmentFault m s before ≡ none)
-  unfolding segmentAnswer
-  accepted-exactly = (λ q. says q fault refl, λ e. p .answered ∙ ap (λ (o : Option Fault). segmentAnswer o count) e)
-    where
-      says : answer ≡ Ids count → (o : Option Fault) → fault ≡ o → fault ≡ none
-      says q none e = e
-      says q (some g) e =
-          let told : Refused g ≡ Ids count = sym (p .answered ∙ ap (λ (o : Option Fault). segmentAnswer o count) e) ∙ q in
-          absurd (let z : _≡_ {A = ℕ} 0 1 = cc in omega arith)
+  pub accepted-exactly : (answer ≡ Ids (length (idsOf m s))) ↔ (segmentFault (soundModel m) s (lengthsOf before) ≡ none)
+  accepted-exactly = codings.accepted-exactly (p .coded)

@@ -1,110 +1,96 @@
 -- `segment`: which test gives which fault, what is tested where there is none, and the promise from the fault, from an empty
 -- text, or from the cutting. Assumes nothing.
 use mathlib.Core.Path.{_≡_, refl, sym, ap, _∙_}
-use mathlib.Core.Bool.{Bool, true, false, not, _&&_, _||_, cond}
+use mathlib.Core.Bool.{Bool, true, false, _&&_, _||_, cond}
 use mathlib.Core.List.{List, [], _∷_}
 use mathlib.Core.Logic.{⊎-elim}
-use mathlib.Core.Option.{Option, none, some}
+use mathlib.Core.Option.{none, some}
 use Prim.Native.Nat.{ℕ, _+_, _≤_, _<_}
 use native.Mathlib.Omega.{arith}
-use borrow.Author.Tests.{lt-ltb, le-ltb, eq-eqb, ne-eqb, ltb-false}
+use borrow.Author.Tests.{lt-ltb, le-ltb, eq-eqb, ltb-false}
 use lib.Dec.{ltb}
 use lib.Ieee.{Float}
 use lib.ListN.{length, length-map}
 use Rattle.doubles.specs.Units.{units}
 use Rattle.refusal.specs.declared.Fault.{Fault}
 use Rattle.refusal.specs.declared.Fault.the-variants as fault
-use Rattle.refusal.specs.Sizes.{maxText}
+use Rattle.refusal.specs.declared.CodeAnswer.the-variants.{Ids, Refused}
 use Rattle.refusal.specs.Refusal.{refuse}
-use Rattle.text.specs.Text.{validUpTo, wellFormed, characters, part}
-use Rattle.text.proofs.Valid.{valid-le}
+use Rattle.refusal.proofs.Tests.{found, not-found, found-first, none-first, passed, both-passed, Not, refused-so, first-so, nothing-so}
+use Rattle.refusal.proofs.Codings.{coded-refused, coded-ids}
+use Rattle.refusal.proofs.Lists.{zero-one, below-or}
+use Rattle.text.specs.Text.{characters, part}
 use Rattle.text.proofs.Boundaries.{characters-le}
 use Rattle.trie.specs.Trie.{idOf}
-use Rattle.trie.specs.Sound.{soundScored}
-use Rattle.trie.proofs.SoundParts.{scored-of, of-scored}
+use Rattle.trie.specs.Lookup.{lookupFault}
+use Rattle.trie.proofs.SoundParts.{scored-of}
+use Rattle.trie.proofs.Lookups.{lookup-fine, sound-lookup}
 use Rattle.build.specs.Memory.{anyBelow}
-use Rattle.refusal.proofs.Lists.{below-or}
-use Rattle.unigram.specs.declared.SegmentAnswer.the-variants.{Ids, Refused}
 use Rattle.unigram.specs.Pieces.{Model, piecesOf, idsOf}
-use Rattle.unigram.specs.Segment.{Scratch, slotsIn, shortScratch, segmentFault, segmentAnswer, written, segmentLeaves, Segmented}
+use Rattle.unigram.specs.Segment.{Scratch, Lengths, lengthsOf, slotsIn, shortScratch, segmentFault, soundModel, written, writes, Segmented}
 use Rattle.unigram.specs.Work.{Ready}
-use Rattle.unigram.specs.Core.{scratchOf, Prepared, Cut}
+use Rattle.unigram.specs.Core.{scratchOf, lengths, Prepared, Cut}
 use Rattle.cutting.proofs.Working.{true-false}
 use Rattle.unigram.proofs.Merging.{merged-few}
 use Rattle.unigram.proofs.Segmenting.{pieces-few, law-held}
 
 -- ---- which fault
 
-refused-here : (t : Bool) (f : Fault) (later : Option Fault) → t ≡ true → refuse t f later ≡ some f
-unfolding refuse
-refused-here t f later e = ap (λ (b : Bool). refuse b f later) e
+module _ (parts : Bool) (s : List ℕ) (n : Lengths) where
+  pub fault-early : {f : Fault} → lookupFault parts s ≡ some f → segmentFault parts s n ≡ some f
+  unfolding segmentFault
+  fault-early e = found-first _ e
 
-passed-here : (t : Bool) (f : Fault) (later : Option Fault) → t ≡ false → refuse t f later ≡ later
-unfolding refuse
-passed-here t f later e = ap (λ (b : Bool). refuse b f later) e
+  module _ (fine : lookupFault parts s ≡ none) where
+    past-text : segmentFault parts s n ≡ refuse (shortScratch s n) fault.Scratch (refuse (ltb (n .ids) (characters s)) fault.Ids none)
+    unfolding segmentFault
+    past-text = none-first _ fine
+
+    pub fault-scratch : shortScratch s n ≡ true → segmentFault parts s n ≡ some fault.Scratch
+    fault-scratch e = past-text ∙ found _ fault.Scratch _ e
+
+    module _ (room : shortScratch s n ≡ false) where
+      pub fault-ids : n .ids < characters s → segmentFault parts s n ≡ some fault.Ids
+      fault-ids l = past-text ∙ not-found _ fault.Scratch _ room ∙ found _ fault.Ids none (lt-ltb (n .ids) (characters s) l)
+
+      pub fault-none : characters s ≤ n .ids → segmentFault parts s n ≡ none
+      fault-none l = past-text ∙ not-found _ fault.Scratch _ room ∙ not-found _ fault.Ids none (le-ltb (n .ids) (characters s) l)
+
+  -- what is known where there is none
+  module _ (none-found : segmentFault parts s n ≡ none) where
+    tests : (lookupFault parts s ≡ none) × (refuse (shortScratch s n) fault.Scratch (refuse (ltb (n .ids) (characters s)) fault.Ids none) ≡ none)
+    unfolding segmentFault
+    tests = both-passed _ _ none-found
+
+    pub enough-scratch : shortScratch s n ≡ false
+    enough-scratch = passed _ fault.Scratch _ (tests .1) .0
+
+    pub enough-ids : characters s ≤ n .ids
+    enough-ids = ltb-false (n .ids) (characters s) (passed _ fault.Ids none (passed _ fault.Scratch _ (tests .1) .1) .0)
+
+  -- no fault of a call with sound parts is 8
+  pub sound-fault : parts ≡ true → {f : Fault} → segmentFault parts s n ≡ some f → Not 8 f
+  unfolding segmentFault
+  sound-fault e =
+      first-so (Not 8) _ _ (sound-lookup s e)
+      (refused-so (Not 8) _ fault.Scratch _ refl (refused-so (Not 8) _ fault.Ids none refl (nothing-so (Not 8))))
+
+pub ready-for : (m : Model) (s : List ℕ) (n : Lengths) → segmentFault (soundModel m) s n ≡ none → Ready m s
+ready-for m s n e =
+    let fine = lookup-fine (soundModel m) s (tests (soundModel m) s n e .0) in
+    record { sound = scored-of (m .trie) (m .score) (m .unknown .score) (fine .1); well = fine .2; size = fine .0 }
+
+-- ---- the promise
 
 module _ (m : Model) (s : List ℕ) (b : Scratch) where
-  pub fault-size : maxText < length s → segmentFault m s b ≡ some fault.Size
-  unfolding segmentFault
-  fault-size h = refused-here _ fault.Size _ (lt-ltb maxText (length s) h)
-
-  module _ (size : length s ≤ maxText) where
-    past-size : segmentFault m s b ≡ refuse (not (soundScored (m .trie) (m .score) (m .unknown .score))) fault.Trie (refuse (not (wellFormed s)) fault.Text (refuse (shortScratch s b) fault.Scratch (refuse (ltb (length (b .ids)) (characters s)) fault.Ids none)))
-    unfolding segmentFault
-    past-size = passed-here _ fault.Size _ (le-ltb maxText (length s) size)
-
-    pub fault-trie : soundScored (m .trie) (m .score) (m .unknown .score) ≡ false → segmentFault m s b ≡ some fault.Trie
-    fault-trie e = past-size ∙ refused-here _ fault.Trie _ (ap not e)
-
-    module _ (sound : soundScored (m .trie) (m .score) (m .unknown .score) ≡ true) where
-      past-trie : segmentFault m s b ≡ refuse (not (wellFormed s)) fault.Text (refuse (shortScratch s b) fault.Scratch (refuse (ltb (length (b .ids)) (characters s)) fault.Ids none))
-      past-trie = past-size ∙ passed-here _ fault.Trie _ (ap not sound)
-
-      pub fault-text : validUpTo s < length s → segmentFault m s b ≡ some fault.Text
-      unfolding wellFormed
-      fault-text h = past-trie ∙ refused-here _ fault.Text _ (ap not (ne-eqb (validUpTo s) (length s) (λ e. omega arith)))
-
-      pub ready-of : length s ≤ validUpTo s → Ready m s
-      unfolding wellFormed
-      ready-of h =
-          record {
-            sound = scored-of (m .trie) (m .score) (m .unknown .score) sound;
-            well = eq-eqb (validUpTo s) (length s) (omega (arith, valid-le s));
-            size = size;
-          }
-
-  module _ (ready : Ready m s) where
-    past-text : segmentFault m s b ≡ refuse (shortScratch s b) fault.Scratch (refuse (ltb (length (b .ids)) (characters s)) fault.Ids none)
-    past-text =
-        past-trie (ready .size) (of-scored (m .trie) (m .score) (m .unknown .score) (ready .sound))
-        ∙ passed-here _ fault.Text _ (ap not (ready .well))
-
-    pub fault-scratch : shortScratch s b ≡ true → segmentFault m s b ≡ some fault.Scratch
-    fault-scratch e = past-text ∙ refused-here _ fault.Scratch _ e
-
-    module _ (room : shortScratch s b ≡ false) where
-      pub fault-ids : length (b .ids) < characters s → segmentFault m s b ≡ some fault.Ids
-      fault-ids l = past-text ∙ passed-here _ fault.Scratch _ room ∙ refused-here _ fault.Ids _ (lt-ltb (length (b .ids)) (characters s) l)
-
-      pub fault-none : characters s ≤ length (b .ids) → segmentFault m s b ≡ none
-      fault-none l = past-text ∙ passed-here _ fault.Scratch _ room ∙ passed-here _ fault.Ids _ (le-ltb (length (b .ids)) (characters s) l)
-
-  -- ---- the promise
-
-  pub refused-for : {f : Fault} → segmentFault m s b ≡ some f → Segmented m s b (Refused f) b
-  unfolding segmentAnswer segmentLeaves
-  refused-for {f} e =
-      record {
-        answered = sym (ap (λ (o : Option Fault). segmentAnswer o (length (idsOf m s))) e);
-        left = sym (ap (λ (o : Option Fault). segmentLeaves o m s b) e);
-        law = λ h. absurd (let z : _≡_ {A = ℕ} 0 1 = cc in omega arith);
-      }
+  pub refused-for : {f : Fault} → segmentFault (soundModel m) s (lengthsOf b) ≡ some f → Segmented m s b (Refused f) b
+  refused-for e = record { coded = coded-refused e; law = λ h. absurd (zero-one cc) }
 
   -- an empty text has no ids, and nothing is written
   pub empty-for : Ready m s → length s ≡ 0 → Cut m s b b 0
-  unfolding segmentLeaves idsOf
+  unfolding writes idsOf
   empty-for ready e =
-      let stays : segmentLeaves none m s b ≡ b = ap (λ (t : Bool). cond t b (written m s b)) (eq-eqb (length s) 0 e) in
+      let stays : writes m s b ≡ b = ap (λ (t : Bool). cond t b (written m s b)) (eq-eqb (length s) 0 e) in
       let merging = merged-few (λ i j. idOf (m .trie) (part s i j)) (m .unknown .id) 0 (piecesOf m s) in
       record {
         left = sym stays;
@@ -113,14 +99,8 @@ module _ (m : Model) (s : List ℕ) (b : Scratch) where
       }
 
   -- what the cutting leaves is what is promised
-  pub cut-for : {after : Scratch} {n : ℕ} → segmentFault m s b ≡ none → Cut m s b after n → Segmented m s b (Ids n) after
-  unfolding segmentAnswer
-  cut-for {after} {n} free c =
-      record {
-        answered = ap Ids (c .count) ∙ sym (ap (λ (o : Option Fault). segmentAnswer o (length (idsOf m s))) free);
-        left = c .left ∙ sym (ap (λ (o : Option Fault). segmentLeaves o m s b) free);
-        law = λ h. c .law;
-      }
+  pub cut-for : {after : Scratch} {n : ℕ} → segmentFault (soundModel m) s (lengthsOf b) ≡ none → Cut m s b after n → Segmented m s b (Ids n) after
+  cut-for free c = record { coded = coded-ids free (c .count) (c .left); law = λ h. c .law }
 
 -- ---- too little scratch
 
@@ -171,26 +151,28 @@ module _ (n chars a b c p : ℕ) where
         let w = none-short (ltb a (n + 1)) (ltb b (n + 1)) (ltb c (n + 1)) (ltb p chars) (sym (with-tests (ltb 0 n) (ltb a (n + 1)) (ltb b (n + 1)) (ltb c (n + 1)) (ltb p chars) (lt-ltb 0 n some-bytes) refl refl refl refl) ∙ e) in
         (omega (arith, ltb-false a (n + 1) (w .0)), omega (arith, ltb-false b (n + 1) (w .1)), omega (arith, ltb-false c (n + 1) (w .2)), ltb-false p chars (w .3))
 
--- the test of the lent columns
-pub short-is : (s starts ids : List ℕ) (scores : List Float) (path places : List ℕ) → shortScratch s (scratchOf starts ids scores path places) ≡ (ltb 0 (length s) && (anyBelow (length s + 1) (length starts ∷ length ids ∷ length scores ∷ []) || ltb (length path) (characters s)))
-unfolding shortScratch
-short-is s starts ids scores path places =
-    ap (λ (n : ℕ). ltb 0 (length s) && (anyBelow (length s + 1) (length starts ∷ length ids ∷ n ∷ []) || ltb (length path) (characters s))) (length-map scores units)
+-- the lent columns are as long as their lists
+pub lengths-are :
+    (starts ids : List ℕ) (scores : List Float) (path places : List ℕ)
+    → lengthsOf (scratchOf starts ids scores path places) ≡ lengths (length starts) (length ids) (length scores) (length path) (length places)
+lengths-are starts ids scores path places =
+    ap (λ (n : ℕ). lengths (length starts) (length ids) n (length path) (length places)) (length-map scores units)
 
 -- what the cutting rests on: an empty text asks for no slots, and has no characters
 pub prepared-for :
-    {m : Model} {s : List ℕ} (starts ids : List ℕ) (scores : List Float) (path places : List ℕ) → Ready m s
-    → shortScratch s (scratchOf starts ids scores path places) ≡ false → characters s ≤ length places
+    (m : Model) (s starts ids : List ℕ) (scores : List Float) (path places : List ℕ)
+    → segmentFault (soundModel m) s (lengths (length starts) (length ids) (length scores) (length path) (length places)) ≡ none
     → Prepared m s starts ids scores path places
-prepared-for {m} {s} starts ids scores path places ready enough room =
+unfolding shortScratch
+prepared-for m s starts ids scores path places free =
     let n = length s in
-    let test = sym (short-is s starts ids scores path places) ∙ enough in
+    let lent = lengths (length starts) (length ids) (length scores) (length path) (length places) in
     let all : 0 < n → (n < length starts) × (n < length ids) × (n < length scores) × (characters s ≤ length path) =
-    λ h. enough-room n (characters s) (length starts) (length ids) (length scores) (length path) h test
+    λ h. enough-room n (characters s) (length starts) (length ids) (length scores) (length path) h (enough-scratch (soundModel m) s lent free)
     in
     record {
-      ready = ready;
+      ready = ready-for m s lent free;
       slots = λ h. record { start = all h .0; id = all h .1; score = all h .2 };
       path = ⊎-elim (λ (h : 0 < n). all h .3) (λ (h : n ≤ 0). omega (arith, characters-le s)) (below-or 0 n);
-      ids = room;
+      ids = enough-ids (soundModel m) s lent free;
     }

@@ -30,7 +30,7 @@ use Rattle.unigram.specs.Runs.{merged}
 use Rattle.unigram.specs.Pieces.{Model, rule, piecesOf, idsOf}
 use Rattle.unigram.specs.Work.{Ready, Recorded, BestCutting}
 use Rattle.unigram.specs.Merge.{partId, Mergeable, Merged}
-use Rattle.unigram.specs.Segment.{Scratch, written, segmentLeaves}
+use Rattle.unigram.specs.Segment.{Scratch, written, writes}
 use Rattle.unigram.specs.Core.{scratchOf, Cut}
 use Rattle.unigram.proofs.Given.{given, boundary-stands, piece-rises}
 
@@ -116,7 +116,7 @@ pub cut-of :
     → BestCutting m s (slotsOf starts ids scores) path (slotsOf starts′ ids′ scores′) path′ n
     → Merged (m .trie) (m .unknown .id) s ids′ (take n path′) places places′ count
     → Cut m s (scratchOf starts ids scores path places) (scratchOf starts′ ids′ scores′ path′ places′) count
-unfolding written segmentLeaves scratch
+unfolding written writes scratch
 cut-of {m} {s} ready {starts} {ids} {scores} {path} {places} starts′ ids′ scores′ {path′} {places′} {n} {count} some-text inside level-start level-id level-score w g =
     let before = scratchOf starts ids scores path places in
     let after = slotsOf starts′ ids′ scores′ in

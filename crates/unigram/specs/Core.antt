@@ -2,16 +2,16 @@
 use mathlib.Core.Path.{_≡_}
 use Prim.Native.Nat.{ℕ, _≤_, _<_}
 use mathlib.Core.List.{List, map}
-use mathlib.Core.Option.{none}
 use lib.Ieee.{Float}
 use lib.ListN.{length}
+use denote.Ref.{RefT, now}
 use Rattle.doubles.specs.Units.{units}
 use Rattle.refusal.specs.Lent.{Lent, was, is}
 use Rattle.text.specs.Text.{characters}
 use Rattle.unigram.specs.Pieces.{Model, idsOf}
 use Rattle.cutting.specs.Slots.{Inside}
 use Rattle.unigram.specs.Work.{Ready}
-use Rattle.unigram.specs.Segment.{Scratch, segmentLeaves, RecordLaw}
+use Rattle.unigram.specs.Segment.{Scratch, Lengths, writes, RecordLaw}
 
 -- the lent columns
 abbrev pub scratchOf : List ℕ → List ℕ → List Float → List ℕ → List ℕ → Scratch
@@ -24,6 +24,14 @@ scratchWas start id score path ids = scratchOf (was start) (was id) (was score) 
 abbrev pub scratchIs : Lent ℕ → Lent ℕ → Lent Float → Lent ℕ → Lent ℕ → Scratch
 scratchIs start id score path ids = scratchOf (is start) (is id) (is score) (is path) (is ids)
 
+-- and in a `requires`
+abbrev pub scratchNow : RefT (List ℕ) → RefT (List ℕ) → RefT (List Float) → RefT (List ℕ) → RefT (List ℕ) → Scratch
+scratchNow start id score path ids = scratchOf (now start) (now id) (now score) (now path) (now ids)
+
+-- so many places as a function is told that it is lent
+abbrev pub lengths : ℕ → ℕ → ℕ → ℕ → ℕ → Lengths
+lengths starts slotIds scores path ids = record { starts = starts; slotIds = slotIds; scores = scores; path = path; ids = ids }
+
 -- all that can be refused has been tested; an empty text asks for no slots
 pub record Prepared (m : Model) (s starts slotIds : List ℕ) (scores : List Float) (paths places : List ℕ) : Type 0 where
   pub ready : Ready m s
@@ -33,6 +41,6 @@ pub record Prepared (m : Model) (s starts slotIds : List ℕ) (scores : List Flo
 
 -- "After success", "Empty text writes nothing", and the record law of demand 3
 pub record Cut (m : Model) (s : List ℕ) (before after : Scratch) (r : ℕ) : Type 0 where
-  pub left : after ≡ segmentLeaves none m s before
+  pub left : after ≡ writes m s before
   pub count : r ≡ length (idsOf m s)
   pub law : RecordLaw m s after

@@ -1,22 +1,22 @@
 -- What `unigram::segment` promises. Definitions only; assumes nothing.
 use mathlib.Core.Path.{_≡_}
 use Prim.Native.Nat.{ℕ, _+_}
-use mathlib.Core.Bool.{Bool, not, _&&_, _||_, cond}
+use mathlib.Core.Bool.{Bool, _&&_, _||_, cond}
 use mathlib.Core.List.{List, [], _∷_}
-use mathlib.Core.Option.{Option, none, some}
+use mathlib.Core.Option.{Option, none}
 use lib.Dec.{T, ltb, eqb}
 use lib.ListN.{length}
 use Rattle.doubles.specs.Double.{Double}
 use Rattle.refusal.specs.declared.Fault.{Fault}
 use Rattle.refusal.specs.declared.Fault.the-variants as fault
-use Rattle.refusal.specs.Sizes.{maxText, above}
-use Rattle.refusal.specs.Refusal.{refuse}
+use Rattle.refusal.specs.declared.CodeAnswer.{CodeAnswer}
+use Rattle.refusal.specs.Refusal.{refuse, first}
+use Rattle.refusal.specs.Coding.{Coded}
 use Rattle.refusal.specs.Places.{overlay}
-use Rattle.text.specs.Text.{wellFormed, boundary, characters}
+use Rattle.text.specs.Text.{boundary, characters}
 use Rattle.trie.specs.Sound.{soundScored}
+use Rattle.trie.specs.Lookup.{lookupFault}
 use Rattle.build.specs.Memory.{anyBelow}
-use Rattle.unigram.specs.declared.SegmentAnswer.{SegmentAnswer}
-use Rattle.unigram.specs.declared.SegmentAnswer.the-variants.{Ids, Refused}
 use Rattle.cutting.specs.Cuttings.{Rule}
 use Rattle.cutting.specs.Slots.{Slots}
 use Rattle.cutting.specs.Law.{slotsLeft, pathLeft}
@@ -31,24 +31,30 @@ pub record Scratch : Type 0 where
   pub path : List ℕ
   pub ids : List ℕ
 
+-- how many places are lent: slots in each column, path places and id places
+pub record Lengths : Type 0 where
+  pub starts : ℕ
+  pub slotIds : ℕ
+  pub scores : ℕ
+  pub path : ℕ
+  pub ids : ℕ
+
+abbrev pub lengthsOf : Scratch → Lengths
+lengthsOf b =
+    record { starts = length (b .start); slotIds = length (b .id); scores = length (b .score); path = length (b .path); ids = length (b .ids) }
+
 -- 9: "non-empty Unigram text, fewer slots in any lent column than bytes + 1 or fewer path places than characters"
-unfoldable pub shortScratch : List ℕ → Scratch → Bool
-shortScratch s b =
-    ltb 0 (length s) && (anyBelow (length s + 1) (length (b .start) ∷ length (b .id) ∷ length (b .score) ∷ []) || ltb (length (b .path)) (characters s))
+unfoldable pub shortScratch : List ℕ → Lengths → Bool
+shortScratch s n =
+    ltb 0 (length s) && (anyBelow (length s + 1) (n .starts ∷ n .slotIds ∷ n .scores ∷ []) || ltb (n .path) (characters s))
 
--- "For a text or word: 1, 8, 4, 9, 10." 10 is "fewer id places than characters".
-unfoldable pub segmentFault : Model → List ℕ → Scratch → Option Fault
-segmentFault m s b =
-    refuse (above maxText (length s)) fault.Size
-    (refuse (not (soundScored (m .trie) (m .score) (m .unknown .score))) fault.Trie
-    (refuse (not (wellFormed s)) fault.Text
-    (refuse (shortScratch s b) fault.Scratch
-    (refuse (ltb (length (b .ids)) (characters s)) fault.Ids none))))
-
--- "An accepted empty comment has zero ids": the count is that of the ids.
-unfoldable pub segmentAnswer : Option Fault → ℕ → SegmentAnswer
-segmentAnswer none count = Ids count
-segmentAnswer (some f) count = Refused f
+-- "For a text or word: 1, 8, 4, 9, 10", by whether the parts are sound and how many places are lent. 10 is "fewer id places than
+-- characters".
+unfoldable pub segmentFault : Bool → List ℕ → Lengths → Option Fault
+segmentFault soundParts s n =
+    first (lookupFault soundParts s)
+    (refuse (shortScratch s n) fault.Scratch
+    (refuse (ltb (n .ids) (characters s)) fault.Ids none))
 
 -- the slot columns
 abbrev pub slotsIn : Scratch → Slots
@@ -75,17 +81,19 @@ withIds ids b = record { start = b .start; id = b .id; score = b .score; path = 
 unfoldable pub written : Model → List ℕ → Scratch → Scratch
 written m s b = withIds (idsOf m s) (withCutting (rule m s) (length s) b)
 
--- "Every other refusal writes nothing." "Empty text writes nothing."
-unfoldable pub segmentLeaves : Option Fault → Model → List ℕ → Scratch → Scratch
-segmentLeaves none m s b = cond (eqb (length s) 0) b (written m s b)
-segmentLeaves (some f) m s b = b
+-- "Empty text writes nothing."
+unfoldable pub writes : Model → List ℕ → Scratch → Scratch
+writes m s b = cond (eqb (length s) 0) b (written m s b)
 
 -- Demand 3, of the slots that stand when the call has ended, with at most one piece a character.
 abbrev pub RecordLaw : Model → List ℕ → Scratch → Type 0
 RecordLaw m s after = law.RecordLaw (rule m s) (λ j. T (boundary s j)) s (characters s) (slotsIn after)
 
+-- the parts and the unknown score are sound
+abbrev pub soundModel : Model → Bool
+soundModel m = soundScored (m .trie) (m .score) (m .unknown .score)
+
 -- What `segment` promises of its answer and of the lent columns, before and after.
-pub record Segmented (m : Model) (s : List ℕ) (before : Scratch) (answer : SegmentAnswer) (after : Scratch) : Type 0 where
-  pub answered : answer ≡ segmentAnswer (segmentFault m s before) (length (idsOf m s))
-  pub left : after ≡ segmentLeaves (segmentFault m s before) m s before
-  pub law : segmentFault m s before ≡ none → RecordLaw m s after
+pub record Segmented (m : Model) (s : List ℕ) (before : Scratch) (answer : CodeAnswer) (after : Scratch) : Type 0 where
+  pub coded : Coded (segmentFault (soundModel m) s (lengthsOf before)) (idsOf m s) (writes m s before) before answer after
+  pub law : segmentFault (soundModel m) s (lengthsOf before) ≡ none → RecordLaw m s after

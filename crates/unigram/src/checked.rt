@@ -1,15 +1,18 @@
 // The cutting of a text, for layers above that have tested the parts, or all.
-use crate::SegmentAnswer;
+use refusal::CodeAnswer;
 use refusal::Fault;
-use text::MAX_TEXT;
+use refusal::Judged;
+use refusal::MAX_TEXT;
 ghost use mathlib.Core.Path.{_≡_};
-ghost use mathlib.Core.List.{map};
-ghost use Rattle.doubles.specs.Units.{units};
-ghost use Rattle.trie.specs.Trie.{partsNow};
-ghost use Rattle.trie.specs.Sound.{soundScored};
-ghost use Rattle.unigram.specs.Segment.{Segmented};
+ghost use mathlib.Core.Bool.{_&&_, _||_};
+ghost use mathlib.Core.List.{[], _∷_};
+ghost use Prim.Native.Nat.{_+_};
+ghost use lib.Dec.{ltb};
+ghost use Rattle.refusal.specs.Refusal.{faultIn};
+ghost use Rattle.build.specs.Memory.{anyBelow};
+ghost use Rattle.unigram.specs.Segment.{segmentFault, soundModel, Segmented};
 ghost use Rattle.unigram.specs.Work.{model, modelNow};
-ghost use Rattle.unigram.specs.Core.{Prepared, Cut, scratchIs, scratchWas};
+ghost use Rattle.unigram.specs.Core.{Prepared, Cut, lengths, scratchIs, scratchWas};
 ghost use Rattle.refusal.specs.Lent.{was};
 
 // Nothing is refused here: the parts are sound, the text is well-formed and within the limit, and there are enough places. The
@@ -69,9 +72,70 @@ pub fn segment(
     )
 }
 
-// As `unigram::segment`, where the soundness of the parts has been tested: `tested` is what was found. So that one test serves many texts.
+// Non-empty text, and fewer slots in a column than bytes + 1, or fewer path places than characters.
+fn short_scratch(
+    bytes: usize,
+    characters: usize,
+    starts: usize,
+    slot_ids: usize,
+    slot_scores: usize,
+    places: usize,
+) -> bool
+    ensures { λ r.
+        ⌜ r ≡ (ltb 0 bytes && (anyBelow (bytes + 1) (starts ∷ «slot_ids» ∷ «slot_scores» ∷ []) || ltb places
+        characters)) ⌝ }
+{
+    if bytes == 0 {
+        return false;
+    }
+    if starts <= bytes {
+        return true;
+    }
+    if slot_ids <= bytes {
+        return true;
+    }
+    if slot_scores <= bytes {
+        return true;
+    }
+    places < characters
+}
+
+// The first fault of a call of `segment` in parts that are sound or not, lent so many places: the size, the parts, the text, the
+// scratch, the id places.
+fn judge(
+    sound: bool,
+    text: &[u8],
+    starts: usize,
+    slot_ids: usize,
+    slot_scores: usize,
+    path: usize,
+    ids: usize,
+) -> Judged
+    ensures { λ r.
+        ⌜ faultIn r ≡ segmentFault sound (was text) (lengths starts «slot_ids» «slot_scores» path ids) ⌝ }
+{
+    if MAX_TEXT < text.len() {
+        return Judged::Bad(Fault::Size);
+    }
+    if !sound {
+        return Judged::Bad(Fault::Trie);
+    }
+    if let Judged::Bad(f) = text::utf8::judge(text) {
+        return Judged::Bad(f);
+    }
+    let characters = text::checked::characters(text);
+    if short_scratch(text.len(), characters, starts, slot_ids, slot_scores, path) {
+        return Judged::Bad(Fault::Scratch);
+    }
+    if ids < characters {
+        return Judged::Bad(Fault::Ids);
+    }
+    Judged::Fine
+}
+
+// As `unigram::segment`, where the parts have been tested: `sound` is what was found. So that one test serves many texts.
 pub fn segment_tested(
-    tested: bool,
+    sound: bool,
     edge_at: &[u32],
     edge_n: &[u16],
     id: &[u32],
@@ -86,36 +150,38 @@ pub fn segment_tested(
     slot_score: &mut [f64],
     path: &mut [u32],
     ids: &mut [u32],
-) -> SegmentAnswer
-    requires { ⌜ tested ≡ soundScored (partsNow «edge_at» «edge_n» id byte to) (map units (now score))
-        (units «unknown_score») ⌝ }
+) -> CodeAnswer
+    requires { ⌜ sound ≡ soundModel (modelNow «edge_at» «edge_n» id score byte to unknown «unknown_score») ⌝ }
     ensures { λ r.
         ⌜ Segmented (model «edge_at» «edge_n» id score byte to unknown «unknown_score») (was text)
         (scratchWas start «slot_id» «slot_score» path ids) r (scratchIs start «slot_id» «slot_score» path ids) ⌝ }
 {
-    if MAX_TEXT < text.len() {
-        return SegmentAnswer::Refused(Fault::Size);
-    }
-    if !tested {
-        return SegmentAnswer::Refused(Fault::Trie);
-    }
-    if text::utf8::valid_up_to(text) < text.len() {
-        return SegmentAnswer::Refused(Fault::Text);
-    }
-    crate::cut(
-        edge_at,
-        edge_n,
-        id,
-        score,
-        byte,
-        to,
-        unknown,
-        unknown_score,
+    let judged = judge(
+        sound,
         text,
-        start,
-        slot_id,
-        slot_score,
-        path,
-        ids,
-    )
+        start.len(),
+        slot_id.len(),
+        slot_score.len(),
+        path.len(),
+        ids.len(),
+    );
+    match judged {
+        Judged::Bad(f) => CodeAnswer::Refused(f),
+        Judged::Fine => CodeAnswer::Ids(segment(
+            edge_at,
+            edge_n,
+            id,
+            score,
+            byte,
+            to,
+            unknown,
+            unknown_score,
+            text,
+            start,
+            slot_id,
+            slot_score,
+            path,
+            ids,
+        )),
+    }
 }

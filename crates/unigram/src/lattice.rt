@@ -1,5 +1,6 @@
 // The records, filled boundary by boundary: each piece that starts at a boundary is offered to the slot where it ends.
 use cutting::slots::Slot;
+use refusal::NO_ID;
 use trie::checked::NodeId;
 use trie::checked::Step;
 use trie::checked::Walk;
@@ -15,9 +16,6 @@ ghost use Rattle.unigram.specs.Work.{modelOf, Ended, Walkable, KnownOffe
 ghost use Rattle.unigram.specs.Work.{model, modelNow};
 ghost use Rattle.refusal.specs.Lent.{is, was};
 ghost use Rattle.text.specs.Text.{characters};
-
-// A byte that leads nowhere from the root.
-const NO_NODE: u32 = 4_294_967_295;
 
 // A walk from `at` has come to `node` at i. If i is a boundary and the node has an id, the piece is offered to the slot at i.
 // Answers `single`, or true where that piece ends at `one`.
@@ -197,7 +195,7 @@ fn fill(
         (slotsWas start «slot_id» «slot_score») (slotsIs start «slot_id» «slot_score») ⌝ }
 {
     cutting::slots::clear(start, slot_id, slot_score, text.len());
-    let mut first = [NO_NODE; 256];
+    let mut first = [NO_ID; 256];
     trie::checked::fill_first(edge_at, edge_n, byte, to, &mut first);
     let mut at: usize = 0;
     while at < text.len() {

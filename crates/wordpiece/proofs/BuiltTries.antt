@@ -10,7 +10,7 @@ use Prim.Native.Nat.{ℕ}
 use native.Mathlib.Omega.{arith}
 use Rattle.refusal.specs.declared.Fault.{Fault}
 use Rattle.refusal.specs.declared.Fault.the-variants as fault
-use Rattle.refusal.proofs.Tests.{not-found, Not, refused-not, nothing-not}
+use Rattle.refusal.proofs.Lists.{zero-one}
 use Rattle.trie.specs.Trie.{Trie, idOf}
 use Rattle.trie.specs.Sound.{sound}
 use Rattle.rows.specs.declared.Kind.the-variants.{WordPiece}
@@ -29,6 +29,7 @@ use Rattle.wordpiece.specs.declared.BuildAnswer.the-variants as answer-i
 use Rattle.wordpiece.specs.Build.{told, Built}
 use Rattle.wordpiece.specs.Pieces.{idsOf}
 use Rattle.wordpiece.specs.Encode.{encodeFault}
+use Rattle.wordpiece.proofs.Faults.{sound-fault}
 use Rattle.wordpiece.proofs.Turns.{ids-same}
 
 -- ---- the trie of fine rows
@@ -43,20 +44,10 @@ module _ (tab : List ℕ) (rows : List Row) (bytes : Bytes tab) (fine : firstBad
 
 -- ---- sound parts are not refused with 8
 
-sound-fault : {f : Fault} (t : Trie) (prefix w ids : List ℕ) → sound t ≡ true → encodeFault t prefix w ids ≡ some f → Not 8 f
-unfolding encodeFault
-sound-fault t prefix w ids s e =
-    refused-not 8 _ fault.Size _ refl
-    (λ e.
-    refused-not 8 _ fault.Text _ refl (refused-not 8 _ fault.Text _ refl (refused-not 8 _ fault.Ids none refl (nothing-not 8)))
-    (sym (not-found _ fault.Trie _ (ap not s)) ∙ e))
-    e
-
-pub sound-not-refused : (t : Trie) (prefix w ids : List ℕ) → sound t ≡ true → encodeFault t prefix w ids ≡ some fault.Trie → ⊥
-sound-not-refused t prefix w ids s e =
-    let z : true ≡ false = sound-fault t prefix w ids s e in
-    let y : _≡_ {A = ℕ} 0 1 = cc in
-    omega arith
+pub sound-not-refused : (t : Trie) (prefix w : List ℕ) (places : ℕ) → sound t ≡ true → encodeFault (sound t) prefix w places ≡ some fault.Trie → ⊥
+sound-not-refused t prefix w places s e =
+    let z : true ≡ false = sound-fault (sound t) prefix w places s e in
+    zero-one cc
 
 -- ---- after a build
 
@@ -77,8 +68,8 @@ module _ (tab : List ℕ) (c : Columns) (m after : Memory) (n : ℕ) (bytes : By
       ap sound built-parts ∙ rows-sound tab (rowsOf c) bytes WordPiece (few-rows WordPiece tab c built-fine) (rows-fine WordPiece tab c built-fine)
 
   -- `encode` does not refuse it with 8
-  pub built-not-refused : (prefix w ids : List ℕ) → encodeFault (partsIn n after) prefix w ids ≡ some fault.Trie → ⊥
-  built-not-refused prefix w ids = sound-not-refused (partsIn n after) prefix w ids built-sound
+  pub built-not-refused : (prefix w : List ℕ) (places : ℕ) → encodeFault (sound (partsIn n after)) prefix w places ≡ some fault.Trie → ⊥
+  built-not-refused prefix w places = sound-not-refused (partsIn n after) prefix w places built-sound
 
   -- a string has in it the id that the row list gives it
   pub built-lookup : (s : List ℕ) → idOf (partsIn n after) s ≡ lastId tab (rowsOf c) s

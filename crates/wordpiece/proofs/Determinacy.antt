@@ -1,14 +1,18 @@
 -- The promises of `from_rows` and `encode` fix what they answer and what they leave: each field is an equation with a value of the inputs.
-use mathlib.Core.Path.{_≡_, refl, sym, ap, _∙_}
+use mathlib.Core.Path.{_≡_, ap}
 use mathlib.Core.Logic.{_↔_}
 use Prim.Native.Nat.{ℕ}
-use native.Mathlib.Omega.{arith}
 use mathlib.Core.List.{List}
-use mathlib.Core.Option.{Option, none, some}
+use mathlib.Core.Option.{none, some}
 use lib.ListN.{length}
 use Rattle.refusal.specs.declared.Fault.{Fault}
 use Rattle.refusal.specs.declared.Reason.{Reason}
+use Rattle.refusal.specs.declared.CodeAnswer.{CodeAnswer}
+use Rattle.refusal.specs.declared.CodeAnswer.the-variants.{Ids, Refused}
+use Rattle.refusal.proofs.Codings as codings
+use Rattle.refusal.proofs.Codings.{coded-once}
 use Rattle.trie.specs.Trie.{Trie, idOf}
+use Rattle.trie.specs.Sound.{sound}
 use Rattle.rows.specs.declared.Kind.the-variants.{WordPiece}
 use Rattle.rows.specs.Columns.{Columns, rowsOf, columnsFault}
 use Rattle.build.specs.Memory.{Memory, noRoom}
@@ -18,11 +22,9 @@ use Rattle.build.proofs.Promises as builds
 use Rattle.build.proofs.Promises.{promised-once}
 use Rattle.wordpiece.specs.declared.BuildAnswer.{BuildAnswer}
 use Rattle.wordpiece.specs.declared.BuildAnswer.the-variants as build-is
-use Rattle.wordpiece.specs.declared.EncodeAnswer.{EncodeAnswer}
 use Rattle.wordpiece.specs.Build.{told, Built}
-use Rattle.wordpiece.specs.declared.EncodeAnswer.the-variants.{Ids, Refused}
 use Rattle.wordpiece.specs.Pieces.{idsOf}
-use Rattle.wordpiece.specs.Encode.{encodeFault, encodeAnswer, Encoded}
+use Rattle.wordpiece.specs.Encode.{encodeFault, Encoded}
 
 -- an answer is known by what it tells
 told-known : (a b : BuildAnswer) → told a ≡ told b → a ≡ b
@@ -35,39 +37,21 @@ told-known (build-is.Refused q) (build-is.Refused r) e = let same : q ≡ r = cc
 pub built-once : (tab : List ℕ) (c : Columns) (m : Memory) (a b : BuildAnswer) {m₁ m₂ : Memory} → Built tab c m a m₁ → Built tab c m b m₂ → (a ≡ b) × (m₁ ≡ m₂)
 built-once tab c m a b p q = let t = promised-once p q in (told-known a b (t .0), t .1)
 
-pub encoded-once : {t : Trie} {unknown maxChars : ℕ} {prefix w ids : List ℕ} {a b : EncodeAnswer} {i₁ i₂ : List ℕ} → Encoded t unknown maxChars prefix w ids a i₁ → Encoded t unknown maxChars prefix w ids b i₂ → (a ≡ b) × (i₁ ≡ i₂)
-encoded-once p q = (p .answered ∙ sym (q .answered), p .left ∙ sym (q .left))
+-- `encode`: its answer and what it leaves, and "exactly when", both ways: refused with f exactly when f is the first fault, and
+-- ids exactly when there is none
+module _ (t : Trie) (unknown maxChars : ℕ) (prefix w ids : List ℕ) where
+  pub encoded-once :
+      {a b : CodeAnswer} {i₁ i₂ : List ℕ} → Encoded t unknown maxChars prefix w ids a i₁ → Encoded t unknown maxChars prefix w ids b i₂
+      → (a ≡ b) × (i₁ ≡ i₂)
+  encoded-once p q = coded-once p q
 
--- "exactly when", both ways: a call is refused with f exactly when f is the first fault, and answers with ids exactly when there is none
-module _ {t : Trie} {unknown maxChars : ℕ} {prefix w ids after : List ℕ} {answer : EncodeAnswer} (p : Encoded t unknown maxChars prefix w ids answer after) where
-  abbrev fault : Option Fault
-  fault = encodeFault t prefix w ids
+  module _ {answer : CodeAnswer} {after : List ℕ} (p : Encoded t unknown maxChars prefix w ids answer after) where
+    pub refused-exactly : (f : Fault) → (answer ≡ Refused f) ↔ (encodeFault (sound t) prefix w (length ids) ≡ some f)
+    refused-exactly = codings.refused-exactly p
 
-  abbrev count : ℕ
-  count = length (idsOf (idOf t) unknown maxChars prefix w)
-
-  pub refused-exactly : (f : Fault) → (answer ≡ Refused f) ↔ (encodeFault t prefix w ids ≡ some f)
-  unfolding encodeAnswer
-  refused-exactly f = (λ q. says q fault refl, λ e. p .answered ∙ ap (λ (o : Option Fault). encodeAnswer o count) e)
-    where
-      says : answer ≡ Refused f → (o : Option Fault) → fault ≡ o → fault ≡ some f
-      says q none e =
-          let told : Ids count ≡ Refused f = sym (p .answered ∙ ap (λ (o : Option Fault). encodeAnswer o count) e) ∙ q in
-          absurd (let z : _≡_ {A = ℕ} 0 1 = cc in omega arith)
-      says q (some g) e =
-          let told : Refused g ≡ Refused f = sym (p .answered ∙ ap (λ (o : Option Fault). encodeAnswer o count) e) ∙ q in
-          let same : g ≡ f = cc in
-          e ∙ ap (λ (x : Fault). some x) same
-
-  pub accepted-exactly : (answer ≡ Ids (length (idsOf (idOf t) unknown maxChars prefix w))) ↔ (encodeFault t prefix w ids ≡ none)
-  unfolding encodeAnswer
-  accepted-exactly = (λ q. says q fault refl, λ e. p .answered ∙ ap (λ (o : Option Fault). encodeAnswer o count) e)
-    where
-      says : answer ≡ Ids count → (o : Option Fault) → fault ≡ o → fault ≡ none
-      says q none e = e
-      says q (some g) e =
-          let told : Refused g ≡ Ids count = sym (p .answered ∙ ap (λ (o : Option Fault). encodeAnswer o count) e) ∙ q in
-          absurd (let z : _≡_ {A = ℕ} 0 1 = cc in omega arith)
+    pub accepted-exactly :
+        (answer ≡ Ids (length (idsOf (idOf t) unknown maxChars prefix w))) ↔ (encodeFault (sound t) prefix w (length ids) ≡ none)
+    accepted-exactly = codings.accepted-exactly p
 
 -- the same of `from_rows`: a build is refused with r exactly when r is its fault, and says N exactly when there is none
 module _ (tab : List ℕ) (c : Columns) (m : Memory) (answer : BuildAnswer) (after : Memory) (p : Built tab c m answer after) where

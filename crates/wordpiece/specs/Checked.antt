@@ -7,12 +7,9 @@ use mathlib.Core.Option.{Option, none, some}
 use lib.Dec.{eqb}
 use lib.ListN.{length, take}
 use lib.Seq.{sets}
-use Rattle.refusal.specs.declared.Fault.{Fault}
 use Rattle.text.specs.Text.{wellFormed, characters}
 use Rattle.trie.specs.Trie.{Trie}
 use Rattle.trie.specs.Sound.{Sound}
-use Rattle.wordpiece.specs.declared.checked.Judged.{Judged}
-use Rattle.wordpiece.specs.declared.checked.Judged.the-variants as judged-is
 use Rattle.wordpiece.specs.declared.checked.Match.{Match}
 use Rattle.wordpiece.specs.declared.checked.Match.the-variants as match-is
 use Rattle.wordpiece.specs.declared.checked.Count.{Count}
@@ -93,8 +90,3 @@ pub record Ready (t : Trie) (w ids : List ℕ) : Type 0 where
   pub parts : Sound t
   pub well : wellFormed w ≡ true
   pub room : characters w ≤ length ids
-
--- the fault that was found
-abbrev pub faultIn : Judged → Option Fault
-faultIn judged-is.Fine = none
-faultIn (judged-is.Bad f) = some f

@@ -1,7 +1,9 @@
 // The ids of a word, for layers above that have tested the parts, or all. But for `encode_tested` nothing here refuses.
-use crate::EncodeAnswer;
+use refusal::CodeAnswer;
 use refusal::Fault;
-use text::MAX_TEXT;
+use refusal::Judged;
+use refusal::MAX_PREFIX;
+use refusal::MAX_TEXT;
 use trie::checked::NodeId;
 use trie::checked::Step;
 use trie::checked::Walk;
@@ -13,6 +15,7 @@ ghost use Prim.Native.Nat.{ℕ, _+_, _≤_, _<_};
 ghost use lib.Dec.{ltb};
 ghost use lib.ListN.{length, getD, take, set};
 ghost use lib.Seq.{sets};
+ghost use Rattle.refusal.specs.Refusal.{faultIn};
 ghost use Rattle.refusal.specs.Places.{overlay};
 ghost use Rattle.text.specs.Text.{wellFormed, boundary, characters};
 ghost use Rattle.trie.specs.Trie.{Trie, idAt, idFrom, idOf, parts, partsNow};
@@ -20,7 +23,7 @@ ghost use Rattle.trie.specs.Sound as soundness;
 ghost use Rattle.trie.specs.Sound.{Sound};
 ghost use Rattle.wordpiece.specs.Pieces.{longestTo, piecesOf, orUnknown, idsOf};
 ghost use Rattle.wordpiece.specs.Encode.{encodeFault, Encoded};
-ghost use Rattle.wordpiece.specs.Checked.{foundIn, foundIf, foundSince, endAt, restFrom, faultIn};
+ghost use Rattle.wordpiece.specs.Checked.{foundIn, foundIf, foundSince, endAt, restFrom};
 ghost use Rattle.wordpiece.specs.Checked.{Walked, Fitting, Held, First, Ready};
 ghost use Rattle.refusal.specs.Lent.{is, was};
 
@@ -41,15 +44,6 @@ pub enum Count {
     Pieces(usize),
     Miss,
 }
-
-// What is found of a call of `encode`.
-pub enum Judged {
-    Fine,
-    Bad(Fault),
-}
-
-// The longest prefix, in bytes.
-const MAX_PREFIX: usize = 64;
 
 // How many ids the first walk over a word's later pieces keeps. A word with more of them is walked again.
 const HELD: usize = 32;
@@ -336,9 +330,7 @@ pub fn encode(
 // The first fault of a call of `encode` in parts that are sound or not, lent this many id places: the sizes, the parts, the
 // word, the prefix, the places.
 fn judge(sound: bool, prefix: &[u8], word: &[u8], places: usize) -> Judged
-    ensures { λ r.
-        ⌜ ((t : Trie) (ids : List ℕ) → soundness.sound t ≡ sound → length ids ≡ places → faultIn r ≡ encodeFault t
-        (was prefix) (was word) ids) ⌝ }
+    ensures { λ r. ⌜ faultIn r ≡ encodeFault sound (was prefix) (was word) places ⌝ }
 {
     if MAX_TEXT < word.len() {
         return Judged::Bad(Fault::Size);
@@ -349,11 +341,11 @@ fn judge(sound: bool, prefix: &[u8], word: &[u8], places: usize) -> Judged
     if !sound {
         return Judged::Bad(Fault::Trie);
     }
-    if text::utf8::valid_up_to(word) < word.len() {
-        return Judged::Bad(Fault::Text);
+    if let Judged::Bad(f) = text::utf8::judge(word) {
+        return Judged::Bad(f);
     }
-    if text::utf8::valid_up_to(prefix) < prefix.len() {
-        return Judged::Bad(Fault::Text);
+    if let Judged::Bad(f) = text::utf8::judge(prefix) {
+        return Judged::Bad(f);
     }
     if places < text::checked::characters(word) {
         return Judged::Bad(Fault::Ids);
@@ -374,7 +366,7 @@ pub fn encode_tested(
     prefix: &[u8],
     word: &[u8],
     ids: &mut [u32],
-) -> EncodeAnswer
+) -> CodeAnswer
     requires { ⌜ sound ≡ soundness.sound (partsNow «edge_at» «edge_n» id byte to) ⌝ }
     ensures { λ r.
         ⌜ Encoded (parts «edge_at» «edge_n» id byte to) unknown «max_chars» (was prefix) (was word) (was ids) r (is ids)
@@ -382,8 +374,8 @@ pub fn encode_tested(
 {
     let judged = judge(sound, prefix, word, ids.len());
     match judged {
-        Judged::Bad(f) => EncodeAnswer::Refused(f),
-        Judged::Fine => EncodeAnswer::Ids(encode(
+        Judged::Bad(f) => CodeAnswer::Refused(f),
+        Judged::Fine => CodeAnswer::Ids(encode(
             edge_at,
             edge_n,
             id,

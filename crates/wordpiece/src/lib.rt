@@ -1,5 +1,6 @@
 // WordPiece: `from_rows`, a trie from rows; `encode`, the longest token first.
 use build::Built;
+use refusal::CodeAnswer;
 use refusal::Fault;
 use refusal::Reason;
 use rows::Kind;
@@ -67,12 +68,6 @@ pub fn from_rows(
     }
 }
 
-// What `encode` answers: how many ids it wrote, or why it wrote nothing.
-pub enum EncodeAnswer {
-    Ids(usize),
-    Refused(Fault),
-}
-
 // The ids of a word, in the first of the lent places. Refused are a word or prefix above its limit, parts that are not sound, an ill-formed word,
 // an ill-formed prefix, and fewer id places than characters. Places past the answer stay as they are, and a refused call writes nothing.
 pub fn encode(
@@ -86,7 +81,7 @@ pub fn encode(
     prefix: &[u8],
     word: &[u8],
     ids: &mut [u32],
-) -> EncodeAnswer
+) -> CodeAnswer
     ensures { λ r.
         ⌜ Encoded (parts «edge_at» «edge_n» id byte to) unknown «max_chars» (was prefix) (was word) (was ids) r (is ids)
         ⌝ }

@@ -9,6 +9,7 @@ use Rattle.text.specs.Span as span
 use Rattle.text.specs.Ascii as ascii
 use Rattle.trie.specs.Trie as trie
 use Rattle.trie.specs.Sound as sound
+use Rattle.trie.specs.Lookup as lookup
 use Rattle.rows.specs.Rows as rows
 use Rattle.rows.specs.Scores as scores
 use Rattle.build.specs.Names as names
@@ -22,6 +23,7 @@ use Rattle.unigram.specs.Pieces as unigram
 use Rattle.unigram.specs.Segment as segment
 use Rattle.wordpiece.specs.Pieces as wordpiece
 use Rattle.wordpiece.specs.Encode as encode
+use Rattle.coder.specs.Vocabulary as coder
 use Rattle.pack.specs.Pack as pack
 use Rattle.pack.specs.Build as build
 use Rattle.output.specs.Lines as lines
@@ -33,15 +35,15 @@ unfolding size doubles.gap doubles.nearer doubles.nearestMultiple doubles.rounde
 doubles-opened = tt
 
 unfoldable pub text-opened : Unit {0}
-unfolding flatMap flatten refusal.refuse refusal.first text.lengthOf text.secondLow text.secondHigh text.tails text.rest text.character text.validIn text.validUpTo text.wellFormed text.boundary text.characters span.spanFault ascii.ascii
+unfolding flatMap flatten refusal.refuse refusal.first refusal.called text.lengthOf text.secondLow text.secondHigh text.tails text.rest text.character text.validIn text.validUpTo text.wellFormed text.textFault text.boundary text.characters span.partFault span.spanFault ascii.ascii
 text-opened = tt
 
 unfoldable pub trie-opened : Unit {0}
-unfolding trie.seek trie.step trie.walk trie.idAt trie.idFrom trie.idOf sound.every sound.soundNode sound.sound sound.allFinite sound.soundScored
+unfolding trie.seek trie.step trie.walk trie.idAt trie.idFrom trie.idOf sound.every sound.soundNode sound.sound sound.allFinite sound.soundScored lookup.lookupFault
 trie-opened = tt
 
 unfoldable pub build-opened : Unit {0}
-unfolding rows.worthFault rows.rowFault rows.firstBad scores.lowest scores.unknownScore names.same names.later names.place names.prefixes names.add names.enter names.names parts.edge parts.edgesFrom parts.edgesOf parts.starts parts.lay parts.trieOf rules.firstRow rules.scoreOf rules.scoresOf rules.nodeScore rules.tokensOf rules.unigramTrie rules.unigramScores rules.idOfWorth rules.lastOf rules.lastId rules.wordpieceTrie memory.anyBelow memory.noRoom memory.noScoredRoom promise.trieIn promise.scoresIn promise.buildFault
+unfolding rows.worthFault rows.rowFault rows.firstBad scores.lowest scores.lowestOf scores.unknownScore names.same names.later names.place names.prefixes names.add names.enter names.names parts.edge parts.edgesFrom parts.edgesOf parts.starts parts.lay parts.trieOf rules.firstRow rules.scoreOf rules.scoresOf rules.nodeScore rules.tokensOf rules.unigramTrie rules.unigramScores rules.idOfWorth rules.lastOf rules.lastId rules.wordpieceTrie memory.anyBelow memory.noRoom memory.noScoredRoom promise.trieIn promise.scoresIn promise.buildFault
 build-opened = tt
 
 unfoldable pub unigram-opened : Unit {0}
@@ -53,11 +55,11 @@ unfolding wordpiece.pieceTo wordpiece.longestTo wordpiece.before wordpiece.piece
 wordpiece-opened = tt
 
 unfoldable pub pack-opened : Unit {0}
-unfolding pack.word pack.headerOf pack.laidOut pack.kindLaidOut pack.kindOf pack.worthAt pack.rowAt pack.rowsFrom pack.rowsOf pack.stringsOf pack.prefixOf build.contentFault build.packJudged build.theKind build.modelOf lines.linesAfter lines.lines lines.digits lines.decimal lines.spaced lines.printedIds lines.printedRefusal output.lentMemory output.lentScratch output.printed output.segmentedLine output.encodedLine output.printedLine output.faultOf output.linesPrinted output.outputOf output.output
+unfolding pack.word pack.headerOf pack.laidOut pack.kindLaidOut pack.kindOf pack.worthAt pack.rowAt pack.rowsFrom pack.rowsOf pack.stringsOf pack.prefixOf build.contentFault build.packJudged build.theKind build.modelOf lines.linesAfter lines.lines lines.digits lines.decimal lines.spaced lines.printedIds lines.printedRefusal coder.soundIn coder.faultIn coder.idsIn output.lentMemory output.printed output.codedLine output.vocabularyIn output.linesPrinted output.outputOf output.output
 pack-opened = tt
 
 unfoldable pub example-opened : Unit {0}
-unfolding example.tableOf example.rowsAt example.isNone example.scoreIs example.allOf example.lent example.modelOf example.unigramHolds example.wordpieceHolds example.kindHolds example.holds
+unfolding example.tableOf example.rowsAt example.isNone example.scoreIs example.allOf example.modelOf example.unigramHolds example.wordpieceHolds example.kindHolds example.holds
 example-opened = tt
 
 unfoldable pub opened : Unit {0}

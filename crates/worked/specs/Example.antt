@@ -3,9 +3,10 @@ use Prim.Native.Nat.{ℕ, _+_, _*_}
 use mathlib.Core.Bool.{Bool, true, false, _&&_}
 use mathlib.Core.List.{List, [], _∷_, map, flatten}
 use mathlib.Core.Option.{Option, none, some}
-use lib.ListN.{length, replicate}
-use Rattle.doubles.specs.Double.{Double, plusZero, same}
+use lib.ListN.{length}
+use Rattle.doubles.specs.Double.{Double, same}
 use Rattle.trie.specs.Trie.{idOf}
+use Rattle.trie.specs.Sound.{sound}
 use Rattle.rows.specs.declared.Kind.{Kind}
 use Rattle.rows.specs.declared.Kind.the-variants.{Unigram, WordPiece}
 use Rattle.rows.specs.Rows.{Row, Worth, firstBad}
@@ -14,7 +15,8 @@ use Rattle.build.specs.Names as names
 use Rattle.build.specs.Rules.{scoresOf, unigramTrie, unigramScores, wordpieceTrie}
 use Rattle.cutting.specs.Records.{scoreOf, best}
 use Rattle.unigram.specs.Pieces as unigram
-use Rattle.unigram.specs.Segment.{Scratch, segmentFault}
+use Rattle.unigram.specs.Segment.{segmentFault, soundModel}
+use Rattle.unigram.specs.Core.{lengths}
 use Rattle.wordpiece.specs.Pieces as wordpiece
 use Rattle.wordpiece.specs.Encode.{encodeFault}
 
@@ -60,11 +62,8 @@ allOf test [] = true
 allOf test (x ∷ xs) = test x && allOf test xs
 
 -- places enough for every text here
-abbrev pub places : List ℕ
-places = replicate 32 0
-
-unfoldable pub lent : Scratch
-lent = record { start = places; id = places; score = replicate 32 plusZero; path = places; ids = places }
+abbrev pub places : ℕ
+places = 32
 
 unfoldable pub modelOf : Example → unigram.Model
 modelOf x =
@@ -81,13 +80,13 @@ unfoldable pub unigramHolds : unigram.Model → Given → Bool
 unigramHolds m g =
     let s = g .text in
     let n = length s in
-    isNone (segmentFault m s lent) && names.same (unigram.idsOf m s) (g .ids) && scoreIs (g .score) (scoreOf (best (unigram.rule m s) n n))
+    isNone (segmentFault (soundModel m) s (lengths places places places places places)) && names.same (unigram.idsOf m s) (g .ids) && scoreIs (g .score) (scoreOf (best (unigram.rule m s) n n))
 
 -- the word is accepted and gives these ids
 unfoldable pub wordpieceHolds : Example → Given → Bool
 wordpieceHolds x g =
     let t = wordpieceTrie (tableOf (x .entries)) (rowsAt 0 (x .entries)) in
-    isNone (encodeFault t (x .prefix) (g .text) places) && names.same (wordpiece.idsOf (idOf t) (x .unknown) (g .maxChars) (x .prefix) (g .text)) (g .ids)
+    isNone (encodeFault (sound t) (x .prefix) (g .text) places) && names.same (wordpiece.idsOf (idOf t) (x .unknown) (g .maxChars) (x .prefix) (g .text)) (g .ids)
 
 unfoldable pub kindHolds : Kind → Example → Bool
 kindHolds Unigram x = let m = modelOf x in scoreIs (x .unknownScore) (m .unknown .score) && allOf (unigramHolds m) (x .given)

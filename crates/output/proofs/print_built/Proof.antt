@@ -37,13 +37,13 @@ judged c answer e =
     subst (λ (x : PackAnswer). Judged (a .pack .now) x (a .edge-at .now) (a .edge-n .now) (a .id .now) (a .score .now) (a .byte .now) (a .to .now)) e
     (entry c .pre .0)
 
-print-segmented-requires : tie.Need-print-segmented-requires
-print-segmented-requires c κs =
-    let t = c .before .before in
+print-lines-requires : tie.Need-print-lines-requires
+print-lines-requires c κs =
+    let t = c .before .before .before in
     let k = t .before .before in
     let a = entry k .args in
     let cut = unigram-cuttable (a .pack .now) (a .edge-at .now) (a .edge-n .now) (a .id .now) (a .score .now) (a .byte .now) (a .to .now) (good (known k)) _ _ _ (judged k _ (t .answer2 .given .1)) in
-    (cut .0, cut .1, entry k .pre .1)
+    (cut, entry k .pre .1)
 
 prefix-of-requires : tie.Need-prefix-of-requires
 prefix-of-requires c κs =
@@ -52,8 +52,8 @@ prefix-of-requires c κs =
     let a = entry k .args in
     strings-inside (a .pack .now) (a .edge-at .now) (a .edge-n .now) (a .id .now) (a .score .now) (a .byte .now) (a .to .now) (good (known k)) _ _ _ _ _ (judged k _ (t .answer3 .given .1))
 
-print-encoded-requires : tie.Need-print-encoded-requires
-print-encoded-requires c κs =
+print-lines-requires-2 : tie.Need-print-lines-requires-2
+print-lines-requires-2 c κs =
     let t = c .before .before .before in
     let k = t .before .before in
     let a = entry k .args in
@@ -75,10 +75,10 @@ returns c =
 returns-2 : tie.Need-returns-2
 returns-2 c =
     let p = c .before .before in
-    let t = p .before .before .before in
+    let t = p .before .before .before .before in
     let k = t .before .before in
     let a = entry k .args in
-    put-as (judged-unigram (a .pack .now) (a .edge-at .now) (a .edge-n .now) (a .id .now) (a .score .now) (a .byte .now) (a .to .now) (good (known k)) _ _ _ (judged k _ (t .answer2 .given .1)) (a .input .now)) (p .print-segmented .ensures)
+    put-as (judged-unigram (a .pack .now) (a .edge-at .now) (a .edge-n .now) (a .id .now) (a .score .now) (a .byte .now) (a .to .now) (good (known k)) _ _ _ (judged k _ (t .answer2 .given .1)) _ (a .input .now)) (p .print-lines .ensures)
 
 returns-3 : tie.Need-returns-3
 returns-3 c =
@@ -87,7 +87,7 @@ returns-3 c =
     let t = x .before .before in
     let k = t .before .before in
     let a = entry k .args in
-    put-as (judged-wordpiece (a .pack .now) (a .edge-at .now) (a .edge-n .now) (a .id .now) (a .score .now) (a .byte .now) (a .to .now) (good (known k)) _ _ _ _ _ (judged k _ (t .answer3 .given .1)) (a .input .now) (x .prefix-of .ensures)) (p .print-encoded .ensures)
+    put-as (judged-wordpiece (a .pack .now) (a .edge-at .now) (a .edge-n .now) (a .id .now) (a .score .now) (a .byte .now) (a .to .now) (good (known k)) _ _ _ _ _ (judged k _ (t .answer3 .given .1)) (a .input .now) (x .prefix-of .ensures)) (p .print-lines2 .ensures)
 
 pub print-built-spec : {M : Type 1} → statement M
 print-built-spec =
@@ -98,10 +98,11 @@ print-built-spec =
     (λ c κs. search needs)
     (λ c κs. search needs)
     (λ c. search needs)
-    print-segmented-requires
+    (λ c. search needs)
+    print-lines-requires
     (λ c. search needs)
     prefix-of-requires
-    print-encoded-requires
+    print-lines-requires-2
     (λ c. search needs)
     returns
     (λ c. search needs)

@@ -5,7 +5,7 @@ use mathlib.Core.Option.{Option, none}
 use borrow.Author.Needs.{needs}
 use Rattle.refusal.specs.declared.Fault.{Fault}
 use Rattle.text.specs.Span.{spanFault}
-use Rattle.text.proofs.Spans.{nothing-given, refused-fault, accepted-none, accepted-inside}
+use Rattle.text.proofs.Spans.{nothing-given, refused-exactly, accepted-exactly, accepted-span, part-lies}
 use Rattle.text.proofs.text.Statement.{statement}
 use Rattle.text.proofs.text.Tie as tie
 
@@ -18,17 +18,18 @@ fault c = spanFault (c .args .tab .now) (c .args .off) (c .args .len)
 
 -- the span was accepted
 accepted : (c : tie.After-enum-told2) → fault (start (c .before .before)) ≡ none
-accepted c = accepted-none (c .before .before .text-answer .ensures) (c .enum-told2 .given .1)
+accepted c = accepted-exactly (c .before .before .text-answer .ensures) .0 (c .enum-told2 .given .1)
 
 returns : tie.Need-returns
 returns c =
     let told = c .before in
     let asked = told .before .before in
     let f = told .enum-told .given .0 .0 in
-    nothing-given _ f (refused-fault (asked .text-answer .ensures) f (told .enum-told .given .1)) (c .nothing .ensures)
+    nothing-given _ f (refused-exactly (asked .text-answer .ensures) f .0 (told .enum-told .given .1)) (c .nothing .ensures)
 
 span-requires : tie.Need-span-requires
-span-requires c κs = let a = start (c .before .before) .args in accepted-inside (a .tab .now) (a .off) (a .len) (accepted c)
+span-requires c κs = let a = start (c .before .before) .args in
+    part-lies (a .tab .now) (a .off) (a .len) (accepted-span (a .tab .now) (a .off) (a .len) (accepted c) .1)
 
 returns-2 : tie.Need-returns-2
 returns-2 c = rw (accepted (c .before)) (c .span .ensures)

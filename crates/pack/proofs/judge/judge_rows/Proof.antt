@@ -9,14 +9,16 @@ use native.Mathlib.Omega.{arith}
 use borrow.Author.Needs.{needs}
 use lib.ListN.{length}
 use Rattle.refusal.specs.Sizes.{maxTable}
+use Rattle.refusal.specs.Refusal.{called}
 use Rattle.text.specs.Span.{TextAnswered}
-use Rattle.text.proofs.Spans.{refused-fault, accepted-none}
+use Rattle.text.proofs.Spans.{refused-exactly, accepted-exactly}
 use Rattle.rows.specs.Rows.{firstBad}
 use Rattle.rows.specs.Answers.{reasonIn}
 use Rattle.pack.specs.Pack.{Header, headerOf, rowsFrom, rowsOf, stringsOf}
+use Rattle.pack.specs.Build.{largeHeader}
 use Rattle.pack.specs.Reading.{headerIs}
-use Rattle.pack.proofs.Headers.{large, rows-inside, kind-laid, few-rows, small-table}
-use Rattle.pack.proofs.Faults.{strings-start, strings-length, strings-are, before-large, before-rows, before-bad-prefix, before-none}
+use Rattle.pack.proofs.Headers.{rows-inside, kind-laid, few-rows, small-table}
+use Rattle.pack.proofs.Faults.{strings-start, strings-length, strings-are, before-large, before-rows, before-prefix}
 use Rattle.pack.proofs.judge.judge_rows.Statement.{statement}
 use Rattle.pack.proofs.judge.judge_rows.Tie as tie
 
@@ -32,10 +34,10 @@ abbrev judged : tie.After-text-answer → tie.After-first-bad
 judged c = let k = c .before .before in k .before .before
 
 -- the sizes of the file's own header
-sized : (c : tie.After-is-large) → c .is-large .result ≡ large (headerOf (entry c .args .bytes .now))
-sized c = c .is-large .ensures ∙ ap large (entry c .pre .0)
+sized : (c : tie.After-is-large) → c .is-large .result ≡ largeHeader (headerOf (entry c .args .bytes .now))
+sized c = c .is-large .ensures ∙ ap largeHeader (entry c .pre .0)
 
-not-large : (c : tie.Else1) → large (headerOf (entry (c .before) .args .bytes .now)) ≡ false
+not-large : (c : tie.Else1) → largeHeader (headerOf (entry (c .before) .args .bytes .now)) ≡ false
 not-large c = sym (sized (c .before)) ∙ c .if1 .left
 
 start-is : (s : tie.Start) → s .args .h .«strings_off» ≡ headerOf (s .args .bytes .now) .stringsOff
@@ -128,23 +130,21 @@ part-text-answer-start c =
     omega (arith, start-is s, strings-start (s .args .bytes .now) (s .pre .1))
 
 returns-3 : tie.Need-returns-3
+unfolding called
 returns-3 c =
     let bound = c .before in
     let t = bound .before .before in
     let f = judged t in
     let s = entry (fits f .before) in
-    sym
-    (before-bad-prefix (s .args .kind) (s .args .bytes .now) (not-large (fits f)) (fine t) (table f)
-    (refused-fault (prefix-is t) _ (bound .spelled .given .1)))
+    sym (before-prefix (s .args .kind) (s .args .bytes .now) (not-large (fits f)) (fine t) (table f) ∙ ap called (refused-exactly (prefix-is t) _ .0 (bound .spelled .given .1)))
 
 returns-4 : tie.Need-returns-4
+unfolding called
 returns-4 c =
     let t = c .before .before in
     let f = judged t in
     let s = entry (fits f .before) in
-    sym
-    (before-none (s .args .kind) (s .args .bytes .now) (not-large (fits f)) (fine t) (table f)
-    (accepted-none (prefix-is t) (c .enum-told2 .given .1)))
+    sym (before-prefix (s .args .kind) (s .args .bytes .now) (not-large (fits f)) (fine t) (table f) ∙ ap called (accepted-exactly (prefix-is t) .0 (c .enum-told2 .given .1)))
 
 pub judge-rows-spec : {M : Type 1} → statement M
 judge-rows-spec =

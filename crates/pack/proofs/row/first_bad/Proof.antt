@@ -5,7 +5,7 @@ use Prim.Native.Nat.{_-_, _≤_}
 use native.Mathlib.Omega.{arith}
 use borrow.Author.Needs.{needs}
 use Rattle.rows.specs.Rows.{rowFault, firstBad}
-use Rattle.rows.specs.Answers.{faultIn}
+use Rattle.refusal.specs.Refusal.{faultIn}
 use Rattle.pack.specs.Pack.{rowAt}
 use Rattle.pack.specs.Reading.{rowStart}
 use Rattle.pack.proofs.Resting.{all, badFrom, bad-start, bad-turn, bad-found, bad-stop}

@@ -6,9 +6,10 @@ use native.Mathlib.Numerals.{add-one}
 use native.Mathlib.Omega.{arith}
 use borrow.Author.Needs.{needs}
 use lib.ListN.{length}
+use Rattle.refusal.specs.Refusal.{faultIn}
 use Rattle.rows.specs.Rows.{rowFault, firstBad}
 use Rattle.rows.specs.Columns.{Columns, rowAt, rowsOf}
-use Rattle.rows.specs.Answers.{columns, faultIn}
+use Rattle.rows.specs.Answers.{columns}
 use Rattle.rows.proofs.FirstBad.{badFrom, bad-start, bad-turn, bad-found, bad-stop}
 use Rattle.rows.proofs.checked.first_bad.Statement.{statement}
 use Rattle.rows.proofs.checked.first_bad.Tie as tie

@@ -1,28 +1,24 @@
--- `unigram::checked::segment_tested` meets its contract: refused with 1, 8 or 4 exactly where the first test that fails says so, else as `cut`. Assumes
--- nothing.
-use mathlib.Core.Path.{_≡_, sym, _∙_}
-use mathlib.Core.Bool.{true}
+-- `unigram::checked::segment_tested` meets its contract: what `judge` finds is refused, and a call without a fault is prepared for
+-- the cutting. Assumes nothing.
+use mathlib.Core.Path.{_≡_, sym, ap, _∙_}
+use mathlib.Core.Bool.{Bool}
 use mathlib.Core.List.{List}
+use mathlib.Core.Option.{none}
 use Prim.Native.Nat.{ℕ}
-use native.Mathlib.Omega.{arith}
-use Rattle.trie.specs.Sound.{soundScored}
+use lib.ListN.{length}
+use borrow.Author.Needs.{needs}
+use Rattle.refusal.specs.Refusal.{faultIn}
 use Rattle.unigram.specs.Pieces.{Model}
 use Rattle.unigram.specs.Work.{modelOf, pieceWith}
-use Rattle.unigram.specs.Segment.{Scratch}
-use Rattle.unigram.specs.Core.{scratchOf}
-use borrow.Author.Tests.{not-true, not-false}
-use Rattle.unigram.proofs.Refusing.{fault-size, fault-trie, fault-text, ready-of, refused-for}
-use borrow.Author.Needs.{needs}
+use Rattle.unigram.specs.Segment.{Scratch, Lengths, lengthsOf, segmentFault, soundModel}
+use Rattle.unigram.specs.Core.{scratchOf, lengths}
+use Rattle.unigram.proofs.Refusing.{lengths-are, prepared-for, refused-for, cut-for}
 use Rattle.unigram.proofs.checked.segment_tested.Statement.{statement}
 use Rattle.unigram.proofs.checked.segment_tested.Tie as tie
 
 -- the function's start
-abbrev entry : tie.After-slice-known5 → tie.Start
-entry c = c .before .before .before .before .before .before .before .before .before .before .before .before
-
--- from the call of `cut`
-abbrev asked : tie.After-cut-arg5 → tie.Else3
-asked c = c .before .before .before .before .before
+abbrev entry : tie.After-judge → tie.Start
+entry c = c .before .before .before .before .before .before .before .before .before .before .before .before .before
 
 abbrev model : tie.Start → Model
 model c =
@@ -35,50 +31,62 @@ text c = c .args .text .now
 abbrev columns : tie.Start → Scratch
 columns c = let a = c .args in scratchOf (a .start .now) (a .slot-id .now) (a .slot-score .now) (a .path .now) (a .ids .now)
 
--- the parts are sound
-sound : (c : tie.Else2) → let t = c .before in let m = model (entry (t .before)) in soundScored (m .trie) (m .score) (m .unknown .score) ≡ true
-sound c = let e = entry (c .before .before) in sym (e .pre) ∙ not-false (e .args .tested) (c .if2 .left)
+abbrev lent : tie.Start → Lengths
+lent c = let a = c .args in lengths (length (a .start .now)) (length (a .slot-id .now)) (length (a .slot-score .now)) (length (a .path .now)) (length (a .ids .now))
+
+-- the fault that was found, by the lengths and by the columns
+found : (c : tie.After-judge) → let e = entry c in segmentFault (soundModel (model e)) (text e) (lent e) ≡ faultIn (c .judge .result)
+found c = let e = entry c in ap (λ (b : Bool). segmentFault b (text e) (lent e)) (sym (e .pre)) ∙ sym (c .judge .ensures)
+
+by-columns : (e : tie.Start) → segmentFault (soundModel (model e)) (text e) (lengthsOf (columns e)) ≡ segmentFault (soundModel (model e)) (text e) (lent e)
+by-columns e =
+    let a = e .args in
+    ap (segmentFault (soundModel (model e)) (text e)) (lengths-are (a .start .now) (a .slot-id .now) (a .slot-score .now) (a .path .now) (a .ids .now))
+
+-- none
+free : (c : tie.After-enum-told) → let e = entry (c .before .before) in segmentFault (soundModel (model e)) (text e) (lent e) ≡ none
+free c = found (c .before .before) ∙ ap faultIn (c .enum-told .given .1)
+
+-- from the call of the cutting to where nothing was found, and to the call from where all columns are home
+abbrev asked : tie.After-segment-arg5 → tie.After-enum-told
+asked c = c .before .before .before .before .before
+
+abbrev cutting : tie.After-slice-known10 → tie.After-segment
+cutting c = c .before .before .before .before .before .before .before .before .before .before
+
+segment-requires : tie.Need-segment-requires
+segment-requires c κs =
+    let t = asked c in
+    let e = entry (t .before .before) in
+    let a = e .args in
+    prepared-for (model e) (text e) (a .start .now) (a .slot-id .now) (a .slot-score .now) (a .path .now) (a .ids .now) (free t)
 
 returns : tie.Need-returns
 returns c =
-    let e = entry (c .before) in
-    refused-for (model e) (text e) (columns e) (fault-size (model e) (text e) (columns e) (c .if1 .taken))
+    let bound = c .before in
+    let j = bound .before .before in
+    let e = entry j in
+    refused-for (model e) (text e) (columns e) (by-columns e ∙ found j ∙ ap faultIn (bound .judged .given .1))
 
 returns-2 : tie.Need-returns-2
 returns-2 c =
-    let t = c .before in
-    let e = entry (t .before) in
-    refused-for (model e) (text e) (columns e) (fault-trie (model e) (text e) (columns e) (t .if1 .left) (sym (e .pre) ∙ not-true (e .args .tested) (c .if2 .taken)))
-
-returns-3 : tie.Need-returns-3
-returns-3 c =
-    let v = c .before in
-    let u = v .before in
-    let t = u .before in
-    let e = entry (t .before) in
-    refused-for (model e) (text e) (columns e) (fault-text (model e) (text e) (columns e) (t .if1 .left) (sound u) (omega (arith, c .if3 .taken, v .valid-up-to .ensures)))
-
-cut-requires : tie.Need-cut-requires
-cut-requires c κs =
-    let w = asked c in
-    let v = w .before in
-    let u = v .before in
-    let t = u .before in
-    let e = entry (t .before) in
-    ready-of (model e) (text e) (columns e) (t .if1 .left) (sound u) (omega (arith, w .if3 .left, v .valid-up-to .ensures))
+    let g = cutting c in
+    let t = asked (g .before) in
+    let e = entry (t .before .before) in
+    cut-for (model e) (text e) (columns e) (by-columns e ∙ free t) (g .segment .ensures)
 
 pub segment-tested-spec : {M : Type 1} → statement M
 segment-tested-spec =
     tie.close
     (tie.spec
-    returns
-    returns-2
     (λ c κs. search needs)
-    returns-3
-    cut-requires
+    (λ c. search needs)
+    (λ c. search needs)
+    segment-requires
+    returns
     (λ c. search needs)
     (λ c. search needs)
     (λ c. search needs)
     (λ c. search needs)
     (λ c. search needs)
-    (λ c. search needs))
+    returns-2)

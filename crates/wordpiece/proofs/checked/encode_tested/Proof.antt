@@ -1,13 +1,17 @@
 -- `wordpiece::checked::encode_tested` meets its contract: what `judge` finds is refused, and a call without a fault is ready for the core. Assumes nothing.
-use mathlib.Core.Path.{_≡_, refl, sym, ap, _∙_}
+use mathlib.Core.Path.{_≡_, sym, ap, _∙_}
+use mathlib.Core.Bool.{Bool}
 use mathlib.Core.List.{List}
 use mathlib.Core.Option.{none}
 use Prim.Native.Nat.{ℕ}
 use borrow.Author.Needs.{needs}
+use lib.ListN.{length}
+use Rattle.refusal.specs.Refusal.{faultIn}
+use Rattle.refusal.proofs.Codings.{coded-refused, coded-ids}
 use Rattle.trie.specs.Trie.{Trie, partsOf}
+use Rattle.trie.specs.Sound.{sound}
 use Rattle.wordpiece.specs.Encode.{encodeFault}
-use Rattle.wordpiece.specs.Checked.{faultIn}
-use Rattle.wordpiece.proofs.Faults.{ready, encoded-refused, encoded-ids}
+use Rattle.wordpiece.proofs.Faults.{ready}
 use Rattle.wordpiece.proofs.checked.encode_tested.Statement.{statement}
 use Rattle.wordpiece.proofs.checked.encode_tested.Tie as tie
 
@@ -18,11 +22,13 @@ abbrev parts : tie.Start → Trie
 parts e = partsOf (e .args .edge-at .now) (e .args .edge-n .now) (e .args .id .now) (e .args .byte .now) (e .args .to .now)
 
 -- the fault that was found
-judged-fault : (j : tie.After-judge) → encodeFault (parts (entry j)) (entry j .args .prefix .now) (entry j .args .word .now) (entry j .args .ids .now) ≡ faultIn (j .judge .result)
-judged-fault j = let e = entry j in sym (j .judge .ensures (parts e) (e .args .ids .now) (sym (e .pre)) refl)
+judged-fault : (j : tie.After-judge) → let e = entry j in encodeFault (sound (parts e)) (e .args .prefix .now) (e .args .word .now) (length (e .args .ids .now)) ≡ faultIn (j .judge .result)
+judged-fault j =
+    let a = entry j .args in
+    ap (λ (b : Bool). encodeFault b (a .prefix .now) (a .word .now) (length (a .ids .now))) (sym (entry j .pre)) ∙ sym (j .judge .ensures)
 
 -- none
-fine : (c : tie.After-enum-told) → encodeFault (parts (entry (c .before .before))) (entry (c .before .before) .args .prefix .now) (entry (c .before .before) .args .word .now) (entry (c .before .before) .args .ids .now) ≡ none
+fine : (c : tie.After-enum-told) → let e = entry (c .before .before) in encodeFault (sound (parts e)) (e .args .prefix .now) (e .args .word .now) (length (e .args .ids .now)) ≡ none
 fine c = judged-fault (c .before .before) ∙ ap faultIn (c .enum-told .given .1)
 
 encode-requires : tie.Need-encode-requires
@@ -34,19 +40,12 @@ encode-requires c κs =
 returns : tie.Need-returns
 returns c =
     let bound = c .before in
-    let j = bound .before .before in
-    let e = entry j in
-    encoded-refused (parts e) (e .args .prefix .now) (e .args .word .now) (e .args .ids .now) (e .args .unknown) (e .args .max-chars)
-    (judged-fault j ∙ ap faultIn (bound .judged .given .1))
+    coded-refused (judged-fault (bound .before .before) ∙ ap faultIn (bound .judged .given .1))
 
 returns-2 : tie.Need-returns-2
 returns-2 c =
     let called = c .before .before in
-    let told = called .before .before in
-    let e = entry (told .before .before) in
-    encoded-ids (parts e) (e .args .prefix .now) (e .args .word .now) (e .args .ids .now) (e .args .unknown) (e .args .max-chars) (fine told)
-    (called .encode .ensures .0)
-    (called .encode .ensures .1)
+    coded-ids (fine (called .before .before)) (called .encode .ensures .0) (called .encode .ensures .1)
 
 pub encode-tested-spec : {M : Type 1} → statement M
 encode-tested-spec =

@@ -1,0 +1,2 @@
+-- Laws of coding in a vocabulary of either kind.
+pub mod Codes
