@@ -18,16 +18,14 @@ use Rattle.cutting.specs.Cuttings.{Piece, Rule, Slot, nth, Cutting, empt
 use Rattle.cutting.specs.Records.{offered, candidate, offeredAll, best, standsAt}
 use Rattle.cutting.proofs.Laws.{keeps, takes}
 use Rattle.refusal.proofs.Lists.{below-or}
-use Rattle.cutting.proofs.Working.{Pieces, no-piece, true-false, looked, worked, passed, none-before, stands-first, stands-record, record-stands}
-
-some-same : {A : Type 0} {x y : A} → some x ≡ some y → x ≡ y
-some-same e = cc
+use Rattle.cutting.proofs.Working.{Pieces, no-piece, some-same, true-false, looked}
+use Rattle.cutting.proofs.Working.{worked, passed, none-before, stands-first, stands-record, record-stands}
 
 pub is-true : (t : Bool) → T t → t ≡ true
 is-true true h = refl
 is-true false h = absurd h
 
-of-true : {t : Bool} → t ≡ true → T t
+pub of-true : {t : Bool} → t ≡ true → T t
 of-true {t} e = subst T (sym e) tt
 
 of-false : {t : Bool} → t ≡ false → T (not t)
@@ -124,59 +122,51 @@ module _ {end : ℕ} {rule : Rule} (g : Pieces end rule) where
   abbrev Status : ℕ → ℕ → ℕ → Option Slot → Type 0
   Status from m j o = ((o ≡ none) × ((i k : ℕ) (y : Double) → Sooner i k from m → Offer j i k y → ⊥)) ⊎ ((r : Slot) × (o ≡ some r) × Standing from m j r)
 
+  -- the same piece by another number
+  moved : {j i m a b : ℕ} {y : Double} → (a ≡ i) × (b ≡ m) → Offer j a b y → Offer j i m y
+  moved {j} {i} {m} {a} {b} {y} h f = subst (λ (n : ℕ). Offer j i n y) (h .1) (subst (λ (n : ℕ). Offer j n b y) (h .0) f)
+
+  -- a record that stays stands at a later turn, where all that has been offered by then is at most its sum
+  kept :
+      {from m to k j : ℕ} {r : Slot} (s : Standing from m j r) → Sooner (r .start) (s .place) to k
+      → ((a b : ℕ) (y : Double) → Sooner a b to k → Offer j a b y → T (atMost y (r .score))) → Standing to k j r
+  kept s below most =
+      record {
+        place = s .place;
+        offer = s .offer;
+        named = s .named;
+        below = below;
+        greatest = most;
+        earlier = s .earlier;
+      }
+
+  -- a later turn, by which nothing more has been offered
+  widened :
+      (from m to k j : ℕ) (o : Option Slot) → ((a b : ℕ) → Sooner a b from m → Sooner a b to k)
+      → ((a b : ℕ) (y : Double) → Sooner a b to k → Offer j a b y → Sooner a b from m) → Status from m j o → Status to k j o
+  widened from m to k j o up down (inl w) = inl (w .0, λ a b y l f. w .1 a b y (down a b y l f) f)
+  widened from m to k j o up down (inr w) =
+      let s = w .2 in
+      inr (w .0, w .1, kept s (up (w .0 .start) (s .place) (s .below)) (λ a b y l f. s .greatest a b y (down a b y l f) f))
+
   -- with nothing offered by piece m from i
   still : (i m j : ℕ) (o : Option Slot) → ((y : Double) → Offer j i m y → ⊥) → Status i m j o → Status i (suc m) j o
-  still i m j o no-such (inl w) =
-      inl (w .0, λ a b y l f. ⊎-elim (λ (h : Sooner a b i m). w .1 a b y h f) (λ (h : (a ≡ i) × (b ≡ m)). no-such y (moved h f)) (sooner-more l))
-    where
-      moved : {a b : ℕ} {y : Double} → (a ≡ i) × (b ≡ m) → Offer j a b y → Offer j i m y
-      moved {a} {b} {y} h f = subst (λ (n : ℕ). Offer j i n y) (h .1) (subst (λ (n : ℕ). Offer j n b y) (h .0) f)
-  still i m j o no-such (inr w) =
-      let s = w .2 in
-      inr (
-        w .0,
-        w .1,
-        record {
-          place = s .place;
-          offer = s .offer;
-          named = s .named;
-          below = sooner-wide (s .below);
-          greatest = λ a b y l f. ⊎-elim (λ (h : Sooner a b i m). s .greatest a b y h f) (λ (h : (a ≡ i) × (b ≡ m)). absurd (no-such y (moved h f))) (sooner-more l);
-          earlier = s .earlier;
-        },
-      )
-    where
-      moved : {a b : ℕ} {y : Double} → (a ≡ i) × (b ≡ m) → Offer j a b y → Offer j i m y
-      moved {a} {b} {y} h f = subst (λ (n : ℕ). Offer j i n y) (h .1) (subst (λ (n : ℕ). Offer j n b y) (h .0) f)
+  still i m j o no-such =
+      widened i m i (suc m) j o (λ a b l. sooner-wide l)
+      (λ a b y l f.
+      ⊎-elim (λ (h : Sooner a b i m). h) (λ (h : (a ≡ i) × (b ≡ m)). absurd (no-such y (moved h f))) (sooner-more l))
 
   -- with no more pieces from i
-  later : (i m j : ℕ) (o : Option Slot) → ((k : ℕ) (y : Double) → m ≤ k → Offer j i k y → ⊥) → Status i m j o → Status (suc i) 0 j o
-  later i m j o no-such st = go st
-    where
-      before-m : (a b : ℕ) (y : Double) → Sooner a b (suc i) 0 → Offer j a b y → Sooner a b i m
-      before-m a b y l f =
-          ⊎-elim (λ (h : a < i). inl h)
-          (λ (h : i ≤ a).
-          let e : a ≡ i = let q = sooner-below l in omega arith in
-          ⊎-elim (λ (q : b < m). inr (e, q)) (λ (q : m ≤ b). absurd (no-such b y q (subst (λ (n : ℕ). Offer j n b y) e f))) (below-or b m))
-          (below-or a i)
-
-      go : Status i m j o → Status (suc i) 0 j o
-      go (inl w) = inl (w .0, λ a b y l f. w .1 a b y (before-m a b y l f) f)
-      go (inr w) =
-          let s = w .2 in
-          inr (
-            w .0,
-            w .1,
-            record {
-              place = s .place;
-              offer = s .offer;
-              named = s .named;
-              below = sooner-start (s .below);
-              greatest = λ a b y l f. s .greatest a b y (before-m a b y l f) f;
-              earlier = s .earlier;
-            },
-          )
+  later :
+      (i m j : ℕ) (o : Option Slot) → ((k : ℕ) (y : Double) → m ≤ k → Offer j i k y → ⊥) → Status i m j o → Status (suc i) 0 j o
+  later i m j o no-such =
+      widened i m (suc i) 0 j o (λ a b l. sooner-start l)
+      (λ a b y l f.
+      ⊎-elim (λ (h : a < i). inl h)
+      (λ (h : i ≤ a).
+      let e : a ≡ i = let q = sooner-below l in omega arith in
+      ⊎-elim (λ (q : b < m). inr (e, q)) (λ (q : m ≤ b). absurd (no-such b y q (moved (e, refl) f))) (below-or b m))
+      (below-or a i))
 
   module _ (i j m : ℕ) (x : Double) (p : Piece) (stands : standsAt rule i ≡ some x) (is : nth (rule .pieces i j) m ≡ some p) where
     abbrev cand : Double
@@ -196,9 +186,7 @@ module _ {end : ℕ} {rule : Rule} (g : Pieces end rule) where
       at-here : (r : Slot) → ((a b : ℕ) (y : Double) → Sooner a b i m → Offer j a b y → T (atMost y (r .score))) → T (atMost cand (r .score)) → (a b : ℕ) (y : Double) → Sooner a b i (suc m) → Offer j a b y → T (atMost y (r .score))
       at-here r all most a b y l f =
           ⊎-elim (λ (h : Sooner a b i m). all a b y h f)
-          (λ (h : (a ≡ i) × (b ≡ m)).
-          let f′ : Offer j i m y = subst (λ (n : ℕ). Offer j i n y) (h .1) (subst (λ (n : ℕ). Offer j n b y) (h .0) f) in
-          subst (λ (z : Double). T (atMost z (r .score))) (sym (one-sum y f′)) most)
+          (λ (h : (a ≡ i) × (b ≡ m)). subst (λ (z : Double). T (atMost z (r .score))) (sym (one-sum y (moved h f))) most)
           (sooner-more l)
 
       -- it stands, where all before it are strictly less
@@ -222,14 +210,9 @@ module _ {end : ℕ} {rule : Rule} (g : Pieces end rule) where
       weigh r s false h = (
         r,
         keeps r (candidate x i p) h,
-        record {
-          place = s .place;
-          offer = s .offer;
-          named = s .named;
-          below = sooner-wide (s .below);
-          greatest = at-here r (s .greatest) (not-less-at-most (r .score) cand (g .number (r .score) (s .offer .counts)) (g .number cand counts) (of-false h));
-          earlier = s .earlier;
-        },
+        kept s (sooner-wide (s .below))
+            (at-here r (s .greatest)
+            (not-less-at-most (r .score) cand (g .number (r .score) (s .offer .counts)) (g .number cand counts) (of-false h))),
       )
 
       offers : (o : Option Slot) → Status i m j o → Status i (suc m) j (some (offered o (candidate x i p)))

@@ -2,7 +2,7 @@
 use mathlib.Core.Path.{_≡_, refl, sym, ap, subst, _∙_}
 use mathlib.Core.Bool.{Bool, true, false, cond}
 use mathlib.Core.List.{List, map}
-use mathlib.Core.Logic.{_⊎_, ⊎-elim}
+use mathlib.Core.Logic.{⊎-elim}
 use mathlib.Core.Option.{none}
 use Prim.Native.Nat.{ℕ, suc, _+_, _≤_, _<_}
 use native.Mathlib.Omega.{arith}
@@ -56,6 +56,13 @@ module _ (starts ids : List ℕ) (scores : List Float) (j : ℕ) (in-place : Ins
           (set-at ids j k y noId (in-place .id) false e)
           (ap (λ (l : List Double). getD l k plusZero) (map-set units scores j z) ∙ set-at (map units scores) j k (units z) plusZero (omega (arith, in-place .score, length-map scores units)) false e)
           ∙ sym (ap (λ (t : Bool). cond t q (slotAt (slotsOf starts ids scores) k)) e)
+
+-- columns that keep their lengths have every place below too
+pub inside-kept :
+    {starts ids starts′ ids′ : List ℕ} {scores scores′ : List Float} {i j : ℕ} → Inside starts ids scores j → i ≤ j
+    → length starts′ ≡ length starts → length ids′ ≡ length ids → length scores′ ≡ length scores → Inside starts′ ids′ scores′ i
+inside-kept s l a b c =
+    record { start = omega (arith, s .start); id = omega (arith, s .id); score = omega (arith, s .score) }
 
 -- the score of a slot
 pub score-read : (starts ids : List ℕ) (scores : List Float) (j : ℕ) (d : Float) → j < length scores → units (getD scores j d) ≡ slotAt (slotsOf starts ids scores) j .score

@@ -3,8 +3,8 @@
 -- 3. Assumes nothing.
 use mathlib.Core.Path.{_≡_, refl, sym, ap, subst, _∙_}
 use mathlib.Core.List.{List, [], _∷_, _++_, map}
-use mathlib.Core.Logic.{_⊎_, ⊎-elim}
-use mathlib.Core.Option.{Option, some}
+use mathlib.Core.Logic.{⊎-elim}
+use mathlib.Core.Option.{none, some}
 use Prim.Native.Nat.{ℕ, zero, suc, _+_, _-_, _≤_, _<_}
 use native.Mathlib.Nat.{add-zero}
 use native.Mathlib.Omega.{arith}
@@ -21,8 +21,8 @@ use Rattle.cutting.specs.Law.{Recorded, bestPieces, slotsLeft, pathLeft,
 use Rattle.refusal.proofs.Lists.{below-or, map-inside}
 use Rattle.cutting.proofs.Working.{Pieces, settled-le}
 use Rattle.cutting.proofs.Best.{sooner-below, filled, is-best}
-use Rattle.cutting.proofs.Following.{piece-to, followed-first, followed-more, chained, chain-ends, covers, named}
-use Rattle.cutting.proofs.Tracing.{falling, ends-followed}
+use Rattle.cutting.proofs.Following.{piece-to, map-more, followed-first, followed-more, chained, chain-ends, covers}
+use Rattle.cutting.proofs.Tracing.{falling}
 
 -- ---- the records as a list
 
@@ -41,13 +41,11 @@ module _ (rule : Rule) where
 
 -- ---- whole columns
 
-empty-slot : Slot
-empty-slot = record { start = noId; id = noId; score = plusZero }
-
 -- a column that holds f of the records in front, and after them what it held before
 column-whole :
     {A : Type 0} (f : Slot → A) (d : A) (rs : List Slot) (before after : List A) → length after ≡ length before → length rs ≤ length before
-    → ((k : ℕ) → k < length rs → getD after k d ≡ f (getD rs k empty-slot)) → ((k : ℕ) → length rs ≤ k → getD after k d ≡ getD before k d)
+    → ((k : ℕ) → k < length rs → getD after k d ≡ f (getD rs k (shown none)))
+    → ((k : ℕ) → length rs ≤ k → getD after k d ≡ getD before k d)
     → after ≡ overlay (map f rs) before
 column-whole f d rs before after level fits low high =
     let n = length (map f rs) in
@@ -57,7 +55,7 @@ column-whole f d rs before after level fits low high =
     (λ k l.
     ⊎-elim
     (λ (h : k < length rs).
-    low k h ∙ sym (List·getD-append (map f rs) (drop n before) d k (omega arith) ∙ map-inside f rs k empty-slot d h))
+    low k h ∙ sym (List·getD-append (map f rs) (drop n before) d k (omega arith) ∙ map-inside f rs k (shown none) d h))
     (λ (h : length rs ≤ k).
     let there : n + (k - n) ≡ k = omega arith in
     high k h
@@ -89,6 +87,54 @@ same-slots a b x y z =
     ∙ ap (λ (u : List ℕ). slots-of (b .start) u (a .score)) y
     ∙ ap (λ (u : List Double). slots-of (b .start) (b .id) u) z
 
+-- ---- the slots followed back
+
+-- the ends are those by the start column, and the ids those of the id column
+module _ (c : Slots) where
+  ends-in : (n j : ℕ) → endsFrom (c .start) n j ≡ map (λ e. e .end) (followedIn c n j)
+  unfolding endsFrom followedIn slotAt
+  ends-in zero j = refl
+  ends-in (suc n) zero = refl
+  ends-in (suc n) (suc j) =
+      let i = getD (c .start) (suc j) noId in
+      ap (λ (es : List ℕ). es ++ (suc j ∷ [])) (ends-in n i)
+      ∙ sym (map-more (λ e. e .end) (followedIn c n i) (piece-to (suc j) (getD (c .id) (suc j) noId)))
+
+  steps-in : (n j : ℕ) → stepsAt (c .id) (map (λ e. e .end) (followedIn c n j)) ≡ followedIn c n j
+  unfolding followedIn slotAt
+  steps-in zero j = refl
+  steps-in (suc n) zero = refl
+  steps-in (suc n) (suc j) =
+      let es = followedIn c n (getD (c .start) (suc j) noId) in
+      ap (stepsAt (c .id)) (map-more (λ e. e .end) es (piece-to (suc j) (getD (c .id) (suc j) noId)))
+      ∙ map-more (λ e. piece-to e (getD (c .id) e noId)) (map (λ e. e .end) es) (suc j)
+      ∙ ap (λ (u : List Step). u ++ (piece-to (suc j) (getD (c .id) (suc j) noId) ∷ []))
+      (steps-in n (getD (c .start) (suc j) noId))
+
+-- slots that hold the records, followed back, give the records' pieces
+module _
+    {end : ℕ} {rule : Rule} (g : Pieces end rule) (c : Slots)
+    (holds : (j : ℕ) → 0 < j → j ≤ end → slotAt c j ≡ shown (best rule j j))
+  where
+    slots-followed :
+        (n j : ℕ) (x : Double) → j ≤ n → j ≤ end → standsAt rule j ≡ some x → followedIn c n j ≡ followed rule n j
+    unfolding followedIn shown
+    slots-followed zero zero x l inside at = sym (followed-first g 0)
+    slots-followed (suc n) zero x l inside at = sym (followed-first g (suc n))
+    slots-followed zero (suc j) x l inside at = absurd (omega arith)
+    slots-followed (suc n) (suc j) x l inside at =
+        let w = filled g (suc j) x (omega arith) at in
+        let r = w .0 in
+        let s = w .3 in
+        let h : r .start < suc j = sooner-below (s .below) in
+        let slot : slotAt c (suc j) ≡ r = holds (suc j) (omega arith) inside ∙ ap shown (w .1) in
+        ap (λ (q : Slot). followedIn c n (q .start) ++ (piece-to (suc j) (q .id) ∷ [])) slot
+        ∙ ap (λ (es : List Step). es ++ (piece-to (suc j) (r .id) ∷ []))
+        (slots-followed n (r .start) (s .offer .till) (omega arith) (omega arith) (s .offer .stands))
+        ∙ sym (followed-more g n (suc j) r (w .1))
+
+-- ---- columns that hold the records
+
 module _ {end : ℕ} {rule : Rule} (g : Pieces end rule) {come : ℕ → Type 0} {b a : Slots} (r : Recorded rule come end b a) where
   -- every slot up to the end holds its record
   pub slot-holds : (j : ℕ) → j ≤ end → slotAt a j ≡ shown (best rule j j)
@@ -98,17 +144,15 @@ module _ {end : ℕ} {rule : Rule} (g : Pieces end rule) {come : ℕ → Type 0}
   unfolding slotAt
   start-holds j l = ap (λ (q : Slot). q .start) (slot-holds j l)
 
-  id-holds : (j : ℕ) → j ≤ end → getD (a .id) j noId ≡ shown (best rule j j) .id
-  unfolding slotAt
-  id-holds j l = ap (λ (q : Slot). q .id) (slot-holds j l)
-
   column-is : {A : Type 0} (f : Slot → A) (d : A) (before after : List A) → length after ≡ length before → end < length before → ((k : ℕ) → getD after k d ≡ f (slotAt a k)) → ((k : ℕ) → getD before k d ≡ f (slotAt b k)) → after ≡ overlay (map f (recordsFrom rule 0 (end + 1))) before
   column-is f d before after level fits now was =
       let many = length-records rule 0 (end + 1) in
       column-whole f d (recordsFrom rule 0 (end + 1)) before after level (omega arith)
       (λ k l.
-      now k
-      ∙ ap f (slot-holds k (omega arith) ∙ sym (record-at rule 0 (end + 1) k empty-slot (omega arith) ∙ ap (λ (i : ℕ). shown (best rule i i)) (let e : 0 + k ≡ k = omega arith in e))))
+      let there : shown (best rule (0 + k) (0 + k)) ≡ shown (best rule k k) =
+      ap (λ (i : ℕ). shown (best rule i i)) (let e : 0 + k ≡ k = omega arith in e)
+      in
+      now k ∙ ap f (slot-holds k (omega arith) ∙ sym (record-at rule 0 (end + 1) k (shown none) (omega arith) ∙ there)))
       (λ k l. now k ∙ ap f (r .past k (omega arith)) ∙ sym (was k))
 
   pub slots-are : Level b a → Reaching end b → a ≡ slotsLeft rule end b
@@ -124,42 +168,28 @@ module _ {end : ℕ} {rule : Rule} (g : Pieces end rule) {come : ℕ → Type 0}
     pub falls : end < length (a .start) → end ≤ maxText → Falling (a .start) end
     falls inside size = falling g (a .start) start-holds x inside size at-end
 
+    pieces-are : followedIn a end end ≡ bestPieces rule end
+    pieces-are = slots-followed g a (λ j l k. slot-holds j k) end end x (omega arith) (omega arith) at-end
+
     pub path-is : endsFrom (a .start) end end ≡ map (λ e. e .end) (bestPieces rule end)
-    path-is = ends-followed g (a .start) start-holds end end x (omega arith) (omega arith) at-end
+    path-is = ends-in a end end ∙ ap (map (λ (e : Step). e .end)) pieces-are
 
     pub ends-rise : Ends end 0 (map (λ e. e .end) (bestPieces rule end))
-    ends-rise = chain-ends g 0 end plusZero x (bestPieces rule end) (chained g end end x (omega arith) at-end)
+    ends-rise =
+        let v = chained g end end x (omega arith) at-end in
+        chain-ends g 0 end (bestPieces rule end) (v .0) (v .1)
 
     pub steps-are : stepsAt (a .id) (map (λ e. e .end) (bestPieces rule end)) ≡ bestPieces rule end
-    unfolding shown
     steps-are =
-        sym (named g (λ k. getD (a .id) k noId) (λ j q l e. id-holds j l ∙ ap (λ (o : Option Slot). shown o .id) e) end end x (omega arith) at-end)
+        ap (λ (es : List Step). stepsAt (a .id) (map (λ (e : Step). e .end) es)) (sym pieces-are)
+        ∙ steps-in a end end
+        ∙ pieces-are
 
     pub path-left : {before after : List ℕ} → Traced (a .start) end before after → after ≡ pathLeft rule end before
     unfolding pathLeft
     path-left {before} t = t .path ∙ ap (λ (u : List ℕ). overlay u before) path-is
 
 -- ---- demand 3
-
--- slots that hold the records, followed back, give the records' pieces
-module _
-    {end : ℕ} {rule : Rule} (g : Pieces end rule) (c : Slots)
-    (holds : (j : ℕ) → 0 < j → j ≤ end → slotAt c j ≡ shown (best rule j j))
-  where
-    slots-followed : (n j : ℕ) (x : Double) → j ≤ n → j ≤ end → standsAt rule j ≡ some x → followedIn c n j ≡ followed rule n j
-    unfolding followedIn shown
-    slots-followed zero zero x l inside at = sym (followed-first g 0)
-    slots-followed (suc n) zero x l inside at = sym (followed-first g (suc n))
-    slots-followed zero (suc j) x l inside at = absurd (omega arith)
-    slots-followed (suc n) (suc j) x l inside at =
-        let w = filled g (suc j) x (omega arith) at in
-        let r = w .0 in
-        let s = w .3 in
-        let h : r .start < suc j = sooner-below (s .below) in
-        let slot : slotAt c (suc j) ≡ r = holds (suc j) (omega arith) inside ∙ ap shown (w .1) in
-        ap (λ (q : Slot). followedIn c n (q .start) ++ (piece-to (suc j) (q .id) ∷ [])) slot
-        ∙ ap (λ (es : List Step). es ++ (piece-to (suc j) (r .id) ∷ [])) (slots-followed n (r .start) (s .offer .till) (omega arith) (omega arith) (s .offer .stands))
-        ∙ sym (followed-more g n (suc j) r (w .1))
 
 -- slots that hold the records meet the law of demand 3, where something stands at the end and wherever is come to
 pub law-of :
@@ -170,17 +200,18 @@ unfolding shown
 law-of {come} {s} {rule} g reach x at-end few after holds =
     let n = length s in
     let all : n ≤ n = omega arith in
+    let v = chained g n n x all at-end in
     record {
       best = λ j l inside t.
-          let v = reach j inside t in
-          let w = filled g j (v .0) l (v .1) in
+          let u = reach j inside t in
+          let w = filled g j (u .0) l (u .1) in
           subst (Best rule j) (sym (holds j l inside ∙ ap shown (w .1))) (is-best g j (w .0) (w .1));
       followed = slots-followed g after holds n n x all all at-end;
-      added = x;
-      chain = chained g n n x all at-end;
+      pieces = v .0;
+      chain = v .1;
       score = λ l.
           let w = filled g n x l at-end in
-          sym (w .2) ∙ sym (ap (λ (r : Slot). r .score) (holds n l all ∙ ap shown (w .1)));
+          v .2 ∙ sym (w .2) ∙ sym (ap (λ (r : Slot). r .score) (holds n l all ∙ ap shown (w .1)));
       cover = covers g s n n x all at-end ∙ take-length s;
       few = few;
     }

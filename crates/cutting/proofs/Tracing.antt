@@ -1,21 +1,22 @@
--- The path by the start column. The ends before j are those before its start and then j; followed from where something stands
--- by slots that hold the records, they are the ends of the records' pieces. Assumes nothing.
-use mathlib.Core.Path.{_≡_, refl, sym, ap, _∙_}
+-- The path by the start column. The ends before j are those before its start and then j, which is a turn of the code that
+-- counts them and of that which writes them (`turn`). By slots that hold the records, the starts fall from where something
+-- stands. Assumes nothing.
+use mathlib.Core.Path.{_≡_, refl, sym, ap, subst, _∙_}
 use mathlib.Core.Bool.{Bool, true, false}
-use mathlib.Core.List.{List, [], _∷_, _++_, map, append-assoc}
+use mathlib.Core.List.{List, [], _∷_, _++_, append-assoc}
 use mathlib.Core.Option.{Option, none, some}
-use Prim.Native.Nat.{ℕ, zero, suc, _+_, _-_, _≤_, _<_}
+use Prim.Native.Nat.{ℕ, zero, suc, _≤_, _<_}
 use native.Mathlib.Omega.{arith}
 use lib.ListN.{length, getD, take, drop, set, length-append}
 use lib.Seq.{set-split, drop-at, length-take-le}
 use Rattle.doubles.specs.Double.{Double}
 use Rattle.refusal.specs.Sizes.{noId, maxText}
-use Rattle.cutting.specs.Cuttings.{Rule, Slot, Step}
-use Rattle.cutting.specs.Records.{best, shown, followed, standsAt}
+use Rattle.cutting.specs.Cuttings.{Rule, Slot}
+use Rattle.cutting.specs.Records.{best, shown, standsAt}
 use Rattle.cutting.specs.Tracing.{endsFrom, Falling}
+use Rattle.refusal.proofs.Lists.{place-inside}
 use Rattle.cutting.proofs.Working.{Pieces, true-false}
 use Rattle.cutting.proofs.Best.{sooner-below, filled}
-use Rattle.cutting.proofs.Following.{piece-to, map-more, followed-first, followed-more}
 
 module _ (starts : List ℕ) where
   pub ends-first : (n : ℕ) → endsFrom starts n 0 ≡ []
@@ -55,13 +56,44 @@ module _ {starts : List ℕ} {end : ℕ} (f : Falling starts end) where
       ∙ sym (ends-before starts m (suc j) (omega arith))
 
   -- one record back
-  pub ends-turn : (j : ℕ) → 0 < j → j ≤ end → f .marks j ≡ true → let i = getD starts j noId in endsFrom starts j j ≡ endsFrom starts i i ++ (j ∷ [])
+  ends-turn :
+      (j : ℕ) → 0 < j → j ≤ end → f .marks j ≡ true → let i = getD starts j noId in
+      endsFrom starts j j ≡ endsFrom starts i i ++ (j ∷ [])
   ends-turn zero l inside at = absurd (omega arith)
   ends-turn (suc j) l inside at =
       let i = getD starts (suc j) noId in
       let below : i < suc j = f .falls (suc j) l inside at in
       ends-before starts j (suc j) l
-      ∙ ap (λ (es : List ℕ). es ++ (suc j ∷ [])) (ends-enough j i i (omega arith) (omega arith) (omega arith) (f .stays (suc j) l inside at))
+      ∙ ap (λ (es : List ℕ). es ++ (suc j ∷ []))
+      (ends-enough j i i (omega arith) (omega arith) (omega arith) (f .stays (suc j) l inside at))
+
+-- ---- one turn of the code: from a position come to, back to the start that is read there
+
+-- a position come to from n
+abbrev pub Come : List ℕ → ℕ → ℕ → Type 0
+Come starts n j = (j ≤ n) × ((f : Falling starts n) → f .marks j ≡ true)
+
+-- the start i that stands at j
+pub record Turn (starts : List ℕ) (n j i : ℕ) : Type 0 where
+  pub inside : j < length starts
+  pub below : i < j
+  pub come : Come starts n i
+  pub ends : endsFrom starts j j ≡ endsFrom starts i i ++ (j ∷ [])
+  pub many : length (endsFrom starts j j) ≡ suc (length (endsFrom starts i i))
+
+pub turn : {starts : List ℕ} {n : ℕ} → Falling starts n → (j : ℕ) → 0 < j → Come starts n j → Turn starts n j (getD starts j 0)
+turn {starts} {n} f j l c =
+    let inside : j < length starts = omega (arith, c .0, f .inside) in
+    let i = getD starts j noId in
+    let ends = ends-turn f j l (c .0) (c .1 f) in
+    subst (Turn starts n j) (place-inside starts j noId 0 inside)
+    (record {
+      inside = inside;
+      below = f .falls j l (c .0) (c .1 f);
+      come = (omega (arith, f .falls j l (c .0) (c .1 f), c .0), λ h. h .stays j l (c .0) (c .1 h));
+      ends = ends;
+      many = omega (arith, ap length ends, length-append (endsFrom starts i i) (j ∷ []));
+    })
 
 -- ---- a store before what has been written
 
@@ -113,18 +145,3 @@ module _ {end : ℕ} {rule : Rule} (g : Pieces end rule) (starts : List ℕ) (ho
         falls = λ j l k b. back-to j l k b .0;
         stays = λ j l k b. back-to j l k b .1;
       }
-
-  pub ends-followed : (n j : ℕ) (x : Double) → j ≤ n → j ≤ end → standsAt rule j ≡ some x → endsFrom starts n j ≡ map (λ e. e .end) (followed rule n j)
-  ends-followed zero zero x l inside at = ends-first starts 0 ∙ sym (ap (map (λ (e : Step). e .end)) (followed-first g 0))
-  ends-followed (suc n) zero x l inside at = ends-first starts (suc n) ∙ sym (ap (map (λ (e : Step). e .end)) (followed-first g (suc n)))
-  ends-followed zero (suc j) x l inside at = absurd (omega arith)
-  ends-followed (suc n) (suc j) x l inside at =
-      let w = filled g (suc j) x (omega arith) at in
-      let r = w .0 in
-      let s = w .3 in
-      let h : r .start < suc j = sooner-below (s .below) in
-      ends-before starts n (suc j) (omega arith)
-      ∙ ap (λ (i : ℕ). endsFrom starts n i ++ (suc j ∷ [])) (start-is (suc j) r inside (w .1))
-      ∙ ap (λ (es : List ℕ). es ++ (suc j ∷ [])) (ends-followed n (r .start) (s .offer .till) (omega arith) (omega arith) (s .offer .stands))
-      ∙ sym (map-more (λ (e : Step). e .end) (followed rule n (r .start)) (piece-to (suc j) (r .id)))
-      ∙ sym (ap (map (λ (e : Step). e .end)) (followed-more g n (suc j) r (w .1)))

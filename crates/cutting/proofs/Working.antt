@@ -29,6 +29,10 @@ pub record Pieces (end : ℕ) (rule : Rule) : Type 0 where
 pub no-piece : {A : Type 0} {x : A} → none ≡ some x → ⊥
 no-piece e = let z : _≡_ {A = ℕ} 0 1 = cc in omega arith
 
+-- and one thing is one thing
+pub some-same : {A : Type 0} {x y : A} → some x ≡ some y → x ≡ y
+some-same e = cc
+
 pub true-false : {b : Bool} → b ≡ true → b ≡ false → ⊥
 true-false p q = let z : _≡_ {A = ℕ} 0 1 = cc in omega arith
 

@@ -69,13 +69,19 @@ pub record Step : Type 0 where
   pub end : ℕ
   pub id : ℕ
 
--- Pieces that follow one another from byte `at` up to byte j, each starting where the one before it ends. Their scores, added
--- from the left to x, give y.
-abbrev pub Chain : Rule → ℕ → Double → List Step → ℕ → Double → Type 0
-Chain rule at x [] j y = (at ≡ j) × (x ≡ y)
-Chain rule at x (e ∷ es) j y =
-    (k : ℕ) × (p : Piece) × (nth (rule .pieces at (e .end)) k ≡ some p) × (p .id ≡ e .id)
-    × Chain rule (e .end) (sum x (p .score)) es j y
+-- Steps that follow one another from byte `at` up to byte j, each starting where the one before it ends, and these are their
+-- pieces, one for each step.
+abbrev pub Chain : Rule → ℕ → List Step → ℕ → List Piece → Type 0
+Chain rule at [] j [] = at ≡ j
+Chain rule at [] j (p ∷ ps) = ⊥
+Chain rule at (e ∷ es) j [] = ⊥
+Chain rule at (e ∷ es) j (p ∷ ps) =
+    (k : ℕ) × (nth (rule .pieces at (e .end)) k ≡ some p) × (p .id ≡ e .id) × Chain rule (e .end) es j ps
+
+-- "left-to-right rounded sum": the scores of these pieces added to x from the left, rounded at each addition
+unfoldable pub added : Double → List Piece → Double
+added x [] = x
+added x (p ∷ ps) = added (sum x (p .score)) ps
 
 -- the bytes of pieces that follow one another from byte `at`, joined
 unfoldable pub joined : List ℕ → ℕ → List Step → List ℕ

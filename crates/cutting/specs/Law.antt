@@ -4,9 +4,9 @@ use mathlib.Core.Path.{_≡_}
 use Prim.Native.Nat.{ℕ, _+_, _≤_, _<_}
 use mathlib.Core.List.{List, map}
 use lib.ListN.{length}
-use Rattle.doubles.specs.Double.{Double, plusZero}
+use Rattle.doubles.specs.Double.{plusZero}
 use Rattle.refusal.specs.Places.{overlay}
-use Rattle.cutting.specs.Cuttings.{Rule, Best, Step, Chain, joined}
+use Rattle.cutting.specs.Cuttings.{Piece, Rule, Best, Step, Chain, added, joined}
 use Rattle.cutting.specs.Records.{best, shown, recordsFrom, followed}
 use Rattle.cutting.specs.Slots.{Slots, slotAt}
 use Rattle.cutting.specs.Tracing.{followedIn}
@@ -43,12 +43,13 @@ pathLeft rule n path = overlay (map (λ e. e .end) (bestPieces rule n)) path
 -- Demand 3, of the slots that stand when the call has ended: "the record at every boundary come to holds the greatest
 -- left-to-right rounded sum of any allowed cutting before it, names the last piece of such a cutting (the earliest start among
 -- equals), and the records followed back cover every byte once", with at most so many pieces. The pieces are those that
--- these slots give (`followed`), so `chain`, `score`, `cover` and `few` are of what the records say.
+-- these slots give (`followed`), so `chain`, `score`, `cover` and `few` are of what the records say. In `pieces` they have
+-- their scores.
 pub record RecordLaw (rule : Rule) (come : ℕ → Type 0) (s : List ℕ) (most : ℕ) (after : Slots) : Type 0 where
   pub best : (j : ℕ) → 0 < j → j ≤ length s → come j → Best rule j (slotAt after j)
   pub followed : followedIn after (length s) (length s) ≡ bestPieces rule (length s)
-  pub added : Double
-  pub chain : Chain rule 0 plusZero (bestPieces rule (length s)) (length s) added
-  pub score : 0 < length s → added ≡ slotAt after (length s) .score
+  pub pieces : List Piece
+  pub chain : Chain rule 0 (bestPieces rule (length s)) (length s) pieces
+  pub score : 0 < length s → added plusZero pieces ≡ slotAt after (length s) .score
   pub cover : joined s 0 (bestPieces rule (length s)) ≡ s
   pub few : length (bestPieces rule (length s)) ≤ most

@@ -9,7 +9,7 @@ use mathlib.Core.Logic.{_↔_, ⊎-elim}
 use mathlib.Core.Option.{Option, none, some}
 use Prim.Native.Nat.{ℕ, zero, suc, _≤_, _<_}
 use native.Mathlib.Omega.{arith}
-use lib.Dec.{T, eqb}
+use lib.Dec.{T}
 use lib.Ieee.{Float, nan, binary64, fits}
 use lib.ListN.{length, getD, take, length-map}
 use Rattle.doubles.specs.Double.{Double, plusZero, isDouble}
@@ -25,7 +25,6 @@ use Rattle.trie.proofs.SoundParts.{of-scored}
 use Rattle.rows.specs.declared.Kind.the-variants.{Unigram}
 use Rattle.rows.specs.Rows.{Row}
 use Rattle.rows.specs.Columns.{Columns, rowsOf, columnsFault}
-use Rattle.rows.specs.Scores.{unknownScore}
 use Rattle.rows.proofs.RowLists.{getD-map-inside}
 use Rattle.build.specs.Names.{same, later, place, names}
 use Rattle.build.specs.Grown.{Bytes}
@@ -194,10 +193,6 @@ module _ (tab : List ℕ) (c : Columns) (m after : Memory) (s : Summary) (bytes 
 
   pub built-nodes : s .nodes ≡ nodesOf tab (rowsOf c)
   built-nodes = ap (λ (r : Report). r .nodes) report
-
-  -- the unknown score is that of the score column
-  pub built-unknown : units (s .«unknown_score») ≡ unknownScore (c .score)
-  built-unknown = ap (λ (r : Report). r .unknown) report ∙ ap unknownScore (scores-are tab c built-fine)
 
   few : length (rowsOf c) ≤ 1_048_576
   few = few-rows Unigram tab c built-fine

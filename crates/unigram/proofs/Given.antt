@@ -18,18 +18,16 @@ use Rattle.text.proofs.Boundaries.{boundary-le, boundary-zero, next-above, next
 use Rattle.trie.specs.Trie.{walk, idAt}
 use Rattle.trie.specs.Sound.{SoundScored}
 use Rattle.trie.proofs.Walking.{walk-inside}
+use Rattle.trie.proofs.Every.{both}
 use Rattle.cutting.specs.Cuttings.{Piece, nth}
 use Rattle.cutting.specs.Records.{best, standsAt}
 use Rattle.unigram.specs.Pieces.{Model, pieceAt, known, pieceHere, pieceOf, listed, rule}
 use Rattle.refusal.proofs.Lists.{below-or}
 use Rattle.cutting.proofs.Working.{Pieces, no-piece, true-false, absent, none-before, unchanged}
-use Rattle.cutting.proofs.Best.{zero-number, total-number}
+use Rattle.cutting.proofs.Best.{of-true, zero-number, total-number}
 use Rattle.cutting.proofs.Reaching.{Reach, all-stand}
 
 -- ---- taking the rule apart
-
-both-true : {a b : Bool} → a ≡ true → b ≡ true → a && b ≡ true
-both-true {a} {b} p q = ap (λ (t : Bool). t && b) p ∙ q
 
 module _ (m : Model) (s : List ℕ) (i j : ℕ) where
   -- from boundary to boundary
@@ -37,7 +35,7 @@ module _ (m : Model) (s : List ℕ) (i j : ℕ) where
   unfolding pieceOf
   piece-between l p q =
       ap (λ (t : Bool). elim t [ true ↦ pieceHere (known m (part s i j)) (eqb j (next s i)) (m .unknown) | false ↦ none ])
-      (both-true (lt-ltb i j l) (both-true p q))
+      (both (lt-ltb i j l) (both p q))
 
   pub record Between (p : Piece) : Type 0 where
     pub forward : i < j
@@ -100,18 +98,16 @@ back-number (infinite s) y t = tt
 back-number (finite s n) y t = tt
 
 module _ (m : Model) (s : List ℕ) (well : wellFormed s ≡ true) (sound : SoundScored (m .trie) (m .score) (m .unknown .score)) where
-  true-test : {t : Bool} → t ≡ true → T t
-  true-test {t} e = subst T (sym e) tt
-
   finite-piece : (i j : ℕ) (p : Piece) → pieceOf m s i j ≡ some p → T (isFinite (p .score))
   finite-piece i j p e =
       ⊎-elim
       (λ (k : known m (part s i j) ≡ some p).
       let w = known-node m (part s i j) p k in
       let inside = walk-inside (sound .parts) 0 (part s i j) (sound .parts .some-node) (w .1) in
-      subst (λ (x : Double). T (isFinite x)) (sym (w .2)) (true-test (sound .finite (w .0) (omega (arith, inside, sound .level-score)))))
+      subst (λ (x : Double). T (isFinite x)) (sym (w .2))
+      (of-true (sound .finite (w .0) (omega (arith, inside, sound .level-score)))))
       (λ (w : (known m (part s i j) ≡ none) × (eqb j (next s i) ≡ true) × (m .unknown ≡ p)).
-      subst (λ (x : Piece). T (isFinite (x .score))) (w .2) (true-test (sound .finite-unknown)))
+      subst (λ (x : Piece). T (isFinite (x .score))) (w .2) (of-true (sound .finite-unknown)))
       (here-known (known m (part s i j)) (eqb j (next s i)) (m .unknown) p (between m s i j p e .here))
 
   pub given : Pieces (length s) (rule m s)

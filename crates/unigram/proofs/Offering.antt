@@ -17,6 +17,7 @@ use Rattle.doubles.proofs.Sums.{sum-number}
 use Rattle.text.specs.Text.{wellFormed, boundary, next, part}
 use Rattle.text.proofs.Boundaries.{boundary-le, next-above, next-boundary, next-first}
 use Rattle.trie.specs.Trie.{step, walk, idAt}
+use Rattle.trie.proofs.Every.{both, fails}
 use Rattle.trie.proofs.Walking.{walk-snoc, walk-append-none, walk-nil}
 use Rattle.cutting.specs.Cuttings.{Piece, Slot, nth}
 use Rattle.cutting.specs.Records.{candidate, best, standsAt}
@@ -34,22 +35,17 @@ use Rattle.cutting.proofs.Columns.{put-as, put-back, Filled, filled-of, filled-
 -- ---- the piece that a node ends
 
 module _ (m : Model) (k : ℕ) where
-  pub piece-none : idAt (m .trie) k ≡ none → pieceAt m k ≡ none
+  pub piece-is :
+      {o : Option ℕ} → idAt (m .trie) k ≡ o
+      → pieceAt m k ≡ elim o [ none ↦ none | some i ↦ some (record { id = i; score = getD (m .score) k plusZero }) ]
   unfolding pieceAt
-  piece-none e = ap (λ (o : Option ℕ). elim o [ none ↦ none | some i ↦ some (record { id = i; score = getD (m .score) k plusZero }) ]) e
+  piece-is e =
+      ap (λ (o : Option ℕ). elim o [ none ↦ none | some i ↦ some (record { id = i; score = getD (m .score) k plusZero }) ]) e
 
-  pub piece-some : (x : ℕ) → idAt (m .trie) k ≡ some x → pieceAt m k ≡ some (record { id = x; score = getD (m .score) k plusZero })
-  unfolding pieceAt
-  piece-some x e = ap (λ (o : Option ℕ). elim o [ none ↦ none | some i ↦ some (record { id = i; score = getD (m .score) k plusZero }) ]) e
-
-  module _ (s : List ℕ) (i : ℕ) where
-    pub ends-off : boundary s i ≡ false → endsHere m s k i ≡ none
-    unfolding endsHere
-    ends-off e = ap (λ (t : Bool). elim t [ true ↦ pieceAt m k | false ↦ none ]) e
-
-    pub ends-on : boundary s i ≡ true → endsHere m s k i ≡ pieceAt m k
-    unfolding endsHere
-    ends-on e = ap (λ (t : Bool). elim t [ true ↦ pieceAt m k | false ↦ none ]) e
+  pub ends-is :
+      (s : List ℕ) (i : ℕ) {t : Bool} → boundary s i ≡ t → endsHere m s k i ≡ elim t [ true ↦ pieceAt m k | false ↦ none ]
+  unfolding endsHere
+  ends-is s i e = ap (λ (t : Bool). elim t [ true ↦ pieceAt m k | false ↦ none ]) e
 
 or-nothing : (a b : Bool) → a ≡ (a || (b && false))
 or-nothing true b = refl
@@ -82,34 +78,24 @@ module _ (m : Model) (s : List ℕ) (node i one : ℕ) (single : Bool) (at : ℕ
 
 -- ---- the string that a walk from `at` has come to
 
-pub known-none : (m : Model) (s : List ℕ) → walk (m .trie) 0 s ≡ none → known m s ≡ none
+known-is :
+    (m : Model) (s : List ℕ) {o : Option ℕ} → walk (m .trie) 0 s ≡ o → known m s ≡ elim o [ none ↦ none | some k ↦ pieceAt m k ]
 unfolding known
-known-none m s e = ap (λ (o : Option ℕ). elim o [ none ↦ none | some k ↦ pieceAt m k ]) e
-
-pub known-at : (m : Model) (s : List ℕ) (k : ℕ) → walk (m .trie) 0 s ≡ some k → known m s ≡ pieceAt m k
-unfolding known
-known-at m s k e = ap (λ (o : Option ℕ). elim o [ none ↦ none | some k ↦ pieceAt m k ]) e
+known-is m s e = ap (λ (o : Option ℕ). elim o [ none ↦ none | some k ↦ pieceAt m k ]) e
 
 module _ (m : Model) (s : List ℕ) (at : ℕ) where
-  both-true : {a b : Bool} → a ≡ true → b ≡ true → a && b ≡ true
-  both-true {a} {b} p q = ap (λ (t : Bool). t && b) p ∙ q
-
   first-false : {a : Bool} (b : Bool) → a ≡ false → a && b ≡ false
   first-false b p = ap (λ (t : Bool). t && b) p
-
-  second-false : (a : Bool) {b : Bool} → b ≡ false → a && b ≡ false
-  second-false true p = p
-  second-false false p = refl
 
   to-known : (j : ℕ) (t : Bool) → ltb at j && boundary s j ≡ t → knownTo m s at j ≡ elim t [ true ↦ known m (part s at j) | false ↦ none ]
   unfolding knownTo
   to-known j t e = ap (λ (b : Bool). elim b [ true ↦ known m (part s at j) | false ↦ none ]) e
 
   pub known-on : (j : ℕ) → at < j → boundary s j ≡ true → knownTo m s at j ≡ known m (part s at j)
-  known-on j l e = to-known j true (both-true (lt-ltb at j l) e)
+  known-on j l e = to-known j true (both (lt-ltb at j l) e)
 
   pub known-off : (j : ℕ) → boundary s j ≡ false → knownTo m s at j ≡ none
-  known-off j e = to-known j false (second-false (ltb at j) e)
+  known-off j e = to-known j false (fails (ltb at j) (boundary s j) e)
 
   pub known-back : (j : ℕ) → j ≤ at → knownTo m s at j ≡ none
   known-back j l = to-known j false (first-false (boundary s j) (le-ltb at j l))
@@ -127,7 +113,7 @@ module _ (m : Model) (s : List ℕ) (at : ℕ) where
   known-stopped j none-there = ⊎-elim (λ (l : at < j). by-test l (boundary s j) refl) (λ (l : j ≤ at). known-back j l) (below-or at j)
     where
       by-test : at < j → (t : Bool) → boundary s j ≡ t → knownTo m s at j ≡ none
-      by-test l true e = known-on j l e ∙ known-none m (part s at j) (none-there l)
+      by-test l true e = known-on j l e ∙ known-is m (part s at j) (none-there l)
       by-test l false e = known-off j e
 
   -- what ends at the walk's node is the string so far
@@ -135,8 +121,8 @@ module _ (m : Model) (s : List ℕ) (at : ℕ) where
   ends-known i k l w = by-test (boundary s i) refl
     where
       by-test : (t : Bool) → boundary s i ≡ t → endsHere m s k i ≡ knownTo m s at i
-      by-test true e = ends-on m k s i e ∙ sym (known-on i l e ∙ known-at m (part s at i) k w)
-      by-test false e = ends-off m k s i e ∙ sym (known-off i e)
+      by-test true e = ends-is m k s i e ∙ sym (known-on i l e ∙ known-is m (part s at i) w)
+      by-test false e = ends-is m k s i e ∙ sym (known-off i e)
 
   -- one byte more
   part-more : (i : ℕ) → at ≤ i → i < length s → part s at (i + 1) ≡ part s at i ++ (getD s i 0 ∷ [])

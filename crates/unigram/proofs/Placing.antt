@@ -1,26 +1,25 @@
 -- Ids placed one after another, and the turns of merging in these terms. Assumes nothing.
 use mathlib.Core.Path.{_≡_, refl, sym, ap, subst, _∙_}
 use mathlib.Core.Bool.{Bool, true, false, cond}
-use mathlib.Core.List.{List, [], _∷_, _++_, map, append-assoc, append-nil}
-use mathlib.Core.Logic.{_⊎_, inl, inr, ⊎-elim}
+use mathlib.Core.List.{List, [], _∷_, _++_, append-assoc}
+use mathlib.Core.Logic.{⊎-elim}
 use mathlib.Core.Option.{Option, none, some}
-use Prim.Native.Nat.{ℕ, zero, suc, _+_, _-_, _≤_, _<_}
+use Prim.Native.Nat.{ℕ, suc, _+_, _-_, _≤_, _<_}
 use native.Mathlib.Nat.{add-zero}
-use native.Mathlib.Numerals.{add-one}
 use native.Mathlib.Omega.{arith}
 use borrow.Author.Tests.{lt-ltb, le-ltb, eq-eqb, ne-eqb, eqb-true, eqb-false}
-use lib.Dec.{ltb, eqb}
+use lib.Dec.{eqb, ltb}
 use lib.ListN.{length, getD, take, drop, set, take-append-drop, length-append, drop-of-length-le}
-use lib.Seq.{set-split, take-at, drop-at, length-take-le, drop-drop, set-at, drop-cons}
+use lib.Seq.{take-at, drop-at, length-take-le, drop-drop, set-at, drop-cons}
 use Rattle.refusal.specs.Sizes.{noId}
 use Rattle.refusal.specs.Places.{overlay}
 use Rattle.cutting.specs.Cuttings.{Step}
 use Rattle.unigram.specs.Runs.{runId, merged}
-use Rattle.cutting.specs.Tracing.{stepsAt, Ends, no-more, and-then}
+use Rattle.cutting.specs.Tracing.{stepsAt, Ends, and-then}
 use Rattle.unigram.specs.Merge.{runOf, waiting, runIds, closing, Placed}
 use Rattle.refusal.proofs.Lists.{below-or}
 use Rattle.cutting.proofs.Following.{piece-to}
-use Rattle.unigram.proofs.Merging.{merged-end, merged-end-run, begins, joins, stands, ends-run}
+use Rattle.unigram.proofs.Merging.{begun, owed, merged-end, merged-more}
 
 -- ---- places
 
@@ -34,23 +33,6 @@ placed-none ids n =
 -- what is placed may be called otherwise
 pub placed-as : {ws us ids after : List ℕ} {n r : ℕ} → Placed ws ids n after r → ws ≡ us → Placed us ids n after r
 placed-as {ids = ids} {after = after} {n = n} {r = r} p e = subst (λ (ws : List ℕ). Placed ws ids n after r) e p
-
--- one more after those placed
-pub placed-more : {ws ids after : List ℕ} {n r : ℕ} (x : ℕ) → n + length ws < length ids → Placed ws ids n after r → Placed (ws ++ (x ∷ [])) ids n (set after r x) (r + 1)
-placed-more {ws} {ids} {after} {n} {r} x l p =
-    let front = take n ids ++ ws in
-    let place : length front ≡ r = length-append (take n ids) ws ∙ ap (λ (k : ℕ). k + length ws) (length-take-le n ids (omega arith)) ∙ sym (p .next) in
-    let many : n + length (ws ++ (x ∷ [])) ≡ suc (n + length ws) = omega (arith, length-append ws (x ∷ [])) in
-    record {
-      ids =
-          ap (λ (u : List ℕ). set u r x)
-          (p .ids ∙ sym (append-assoc (take n ids) ws (drop (n + length ws) ids)) ∙ ap (λ (u : List ℕ). front ++ u) (drop-cons ids (n + length ws) 0 l))
-          ∙ set-at front (getD ids (n + length ws) 0) (drop (suc (n + length ws)) ids) x r place
-          ∙ append-assoc (take n ids) ws (x ∷ drop (suc (n + length ws)) ids)
-          ∙ ap (λ (u : List ℕ). take n ids ++ u) (sym (append-assoc ws (x ∷ []) (drop (suc (n + length ws)) ids)))
-          ∙ ap (λ (k : ℕ). take n ids ++ ((ws ++ (x ∷ [])) ++ drop k ids)) (sym many);
-      next = omega (arith, p .next, many);
-    }
 
 module _ {ws ids after : List ℕ} {n r : ℕ} (p : Placed ws ids n after r) (l : n + length ws ≤ length ids) where
   front-is : length (take n ids ++ ws) ≡ r
@@ -69,8 +51,24 @@ module _ {ws ids after : List ℕ} {n r : ℕ} (p : Placed ws ids n after r) (l 
   pub placed-rest : drop r after ≡ drop r ids
   placed-rest = ap (drop r) split-is ∙ drop-at (take n ids ++ ws) (drop r ids) r front-is
 
-  pub placed-room : r ≤ length ids
-  placed-room = omega (arith, p .next)
+-- one more after those placed
+pub placed-more :
+    {ws ids after : List ℕ} {n r : ℕ} (x : ℕ) → n + length ws < length ids → Placed ws ids n after r
+    → Placed (ws ++ (x ∷ [])) ids n (set after r x) (r + 1)
+placed-more {ws} {ids} {after} {n} {r} x l p =
+    let front = take n ids ++ ws in
+    let fits : n + length ws ≤ length ids = omega arith in
+    let many : n + length (ws ++ (x ∷ [])) ≡ suc r = omega (arith, length-append ws (x ∷ []), p .next) in
+    record {
+      ids =
+          ap (λ (u : List ℕ). set u r x)
+          (split-is p fits ∙ ap (λ (u : List ℕ). front ++ u) (drop-cons ids r 0 (omega (arith, p .next))))
+          ∙ set-at front (getD ids r 0) (drop (suc r) ids) x r (front-is p fits)
+          ∙ append-assoc (take n ids) ws (x ∷ drop (suc r) ids)
+          ∙ ap (λ (u : List ℕ). take n ids ++ u) (sym (append-assoc ws (x ∷ []) (drop (suc r) ids)))
+          ∙ ap (λ (k : ℕ). take n ids ++ ((ws ++ (x ∷ [])) ++ drop k ids)) (sym many);
+      next = omega (arith, many);
+    }
 
 -- the places past n are still those of before, so those past r are
 pub rest-more : (a b : List ℕ) (n r : ℕ) → n ≤ r → drop n a ≡ drop n b → drop r a ≡ drop r b
@@ -117,55 +115,47 @@ module _ (idOf : ℕ → ℕ → Option ℕ) (unknown : ℕ) where
   unfolding closing
   closes run at x e = ap (λ (t : Bool). cond t [] (runIds idOf unknown run at ++ (x ∷ []))) (ne-eqb x unknown e)
 
+  -- the run still to come, and where it begins
+  owed-is : (run at : ℕ) → owed idOf unknown (runOf run at) at ≡ runIds idOf unknown run at
+  unfolding runOf runIds
+  owed-is run at = by-test (ltb run at)
+    where
+      by-test : (t : Bool) → owed idOf unknown (cond t (some run) none) at ≡ cond t (runId idOf unknown run at ∷ []) []
+      by-test true = refl
+      by-test false = refl
+
+  begun-is : (run at : ℕ) → run ≤ at → begun idOf unknown (runOf run at) at ≡ run
+  begun-is run at back =
+      ⊎-elim (λ (l : run < at). ap (λ (o : Option ℕ). begun idOf unknown o at) (run-there run at l))
+      (λ (l : at ≤ run).
+      let one : at ≡ run = omega arith in
+      ap (λ (o : Option ℕ). begun idOf unknown o at) (run-none run at l) ∙ one)
+      (below-or run at)
+
   -- at the end
   pub merged-last : (run at : ℕ) → merged idOf unknown (runOf run at) at [] ≡ runIds idOf unknown run at
-  merged-last run at =
-      ⊎-elim
-      (λ (l : run < at). ap (λ (o : Option ℕ). merged idOf unknown o at []) (run-there run at l) ∙ merged-end-run idOf unknown run at ∙ sym (ids-there run at l))
-      (λ (l : at ≤ run). ap (λ (o : Option ℕ). merged idOf unknown o at []) (run-none run at l) ∙ merged-end idOf unknown at ∙ sym (ids-none run at l))
-      (below-or run at)
+  merged-last run at = merged-end idOf unknown (runOf run at) at ∙ owed-is run at
 
   -- the run after a piece
   abbrev next-run : ℕ → ℕ → ℕ → ℕ
   next-run x run e = cond (eqb x unknown) run e
 
   module _ (run at e x : ℕ) (es : List Step) (back : run ≤ at) (ahead : at < e) where
-    joined-run : x ≡ unknown → merged idOf unknown (runOf run at) at (piece-to e x ∷ es) ≡ merged idOf unknown (some run) e es
-    joined-run same =
-        ⊎-elim
-        (λ (l : run < at). ap (λ (o : Option ℕ). merged idOf unknown o at (piece-to e x ∷ es)) (run-there run at l) ∙ joins idOf unknown run at (piece-to e x) es (eq-eqb x unknown same))
-        (λ (l : at ≤ run).
-        let one : at ≡ run = omega arith in
-        ap (λ (o : Option ℕ). merged idOf unknown o at (piece-to e x ∷ es)) (run-none run at l)
-        ∙ begins idOf unknown at (piece-to e x) es (eq-eqb x unknown same)
-        ∙ ap (λ (i : ℕ). merged idOf unknown (some i) e es) one)
-        (below-or run at)
-
-    ended-run : (x ≡ unknown → ⊥) → merged idOf unknown (runOf run at) at (piece-to e x ∷ es) ≡ (runIds idOf unknown run at ++ (x ∷ [])) ++ merged idOf unknown none e es
-    ended-run other =
-        ⊎-elim
-        (λ (l : run < at).
-        ap (λ (o : Option ℕ). merged idOf unknown o at (piece-to e x ∷ es)) (run-there run at l)
-        ∙ ends-run idOf unknown run at (piece-to e x) es (ne-eqb x unknown other)
-        ∙ ap (λ (u : List ℕ). (u ++ (x ∷ [])) ++ merged idOf unknown none e es) (sym (ids-there run at l)))
-        (λ (l : at ≤ run).
-        ap (λ (o : Option ℕ). merged idOf unknown o at (piece-to e x ∷ es)) (run-none run at l)
-        ∙ stands idOf unknown at (piece-to e x) es (ne-eqb x unknown other)
-        ∙ ap (λ (u : List ℕ). (u ++ (x ∷ [])) ++ merged idOf unknown none e es) (sym (ids-none run at l)))
-        (below-or run at)
-
     pub merged-turn : merged idOf unknown (runOf run at) at (piece-to e x ∷ es) ≡ closing idOf unknown run at x ++ merged idOf unknown (runOf (next-run x run e) e) e es
     merged-turn = by-test (eqb x unknown) refl
       where
         by-test : (t : Bool) → eqb x unknown ≡ t → merged idOf unknown (runOf run at) at (piece-to e x ∷ es) ≡ closing idOf unknown run at x ++ merged idOf unknown (runOf (next-run x run e) e) e es
         by-test true h =
             let same : x ≡ unknown = eqb-true x unknown h in
-            joined-run same
+            merged-more idOf unknown (runOf run at) at (piece-to e x) es h
+            ∙ ap (λ (i : ℕ). merged idOf unknown (some i) e es) (begun-is run at back)
             ∙ ap (λ (o : Option ℕ). merged idOf unknown o e es) (sym (run-there run e (omega arith)) ∙ ap (λ (t : Bool). runOf (cond t run e) e) (sym h))
             ∙ ap (λ (u : List ℕ). u ++ merged idOf unknown (runOf (next-run x run e) e) e es) (sym (closes-not run at x same))
         by-test false h =
             let other : x ≡ unknown → ⊥ = eqb-false x unknown h in
-            ended-run other
+            merged-more idOf unknown (runOf run at) at (piece-to e x) es h
+            ∙ ap (λ (u : List ℕ). u ++ (x ∷ merged idOf unknown none e es)) (owed-is run at)
+            ∙ sym (append-assoc (runIds idOf unknown run at) (x ∷ []) (merged idOf unknown none e es))
             ∙ ap (λ (o : Option ℕ). (runIds idOf unknown run at ++ (x ∷ [])) ++ merged idOf unknown o e es) (sym (run-none e e (omega arith)) ∙ ap (λ (t : Bool). runOf (cond t run e) e) (sym h))
             ∙ ap (λ (u : List ℕ). u ++ merged idOf unknown (runOf (next-run x run e) e) e es) (sym (closes run at x other))
 

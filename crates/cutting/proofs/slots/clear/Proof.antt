@@ -4,12 +4,11 @@ use mathlib.Core.Path.{_≡_, refl, _∙_}
 use mathlib.Core.Option.{none}
 use Prim.Native.Nat.{_+_, _-_, _≤_}
 use native.Mathlib.Omega.{arith}
-use borrow.Author.Needs.{needs}
 use lib.ListN.{length}
 use Rattle.doubles.proofs.Patterns.{zero-units}
 use Rattle.cutting.specs.Records.{shown}
 use Rattle.cutting.specs.Slots.{slotsOf}
-use Rattle.cutting.proofs.Columns.{Filled, filled-of, filled-more, put-as, cleared, empty-slot}
+use Rattle.cutting.proofs.Columns.{Filled, filled-of, filled-more, put-as, inside-kept, cleared, empty-slot}
 use Rattle.cutting.proofs.slots.clear.Statement.{statement}
 use Rattle.cutting.proofs.slots.clear.Tie as tie
 
@@ -45,11 +44,7 @@ put-requires : tie.Need-put-requires Inv-loop μ-loop
 put-requires c κs =
     let h = asked c in
     let e = begun h in
-    record {
-      start = omega (arith, e .pre .start, h .loop .inv .1);
-      id = omega (arith, e .pre .id, h .loop .inv .2);
-      score = omega (arith, e .pre .score, h .loop .inv .3);
-    }
+    inside-kept (e .pre) (omega arith) (h .loop .inv .1) (h .loop .inv .2) (h .loop .inv .3)
 
 add-j : tie.Need-add-j Inv-loop μ-loop
 add-j c = let h = head (stored c) in let room = begun h .pre .start in omega arith

@@ -1,28 +1,24 @@
 -- `unigram::lattice::end_at` meets its contract: what ends here is offered where the position is a boundary and the node has an id. Assumes
 -- nothing.
 use mathlib.Core.Path.{_≡_, refl, sym, ap, _∙_}
-use mathlib.Core.Bool.{Bool, true, false, not, _||_}
+use mathlib.Core.Bool.{Bool, true, false, _||_}
 use mathlib.Core.List.{List, map}
-use mathlib.Core.Option.{Option, none, some}
-use Prim.Native.Nat.{ℕ, _<_}
-use native.Mathlib.Omega.{arith}
+use mathlib.Core.Option.{some}
 use borrow.Author.Tests.{eq-eqb, ne-eqb, not-true, not-false}
 use lib.Dec.{eqb}
-use lib.ListN.{length, getD}
+use lib.ListN.{getD}
 use Rattle.doubles.specs.Double.{Double, plusZero, sum}
 use Rattle.doubles.specs.Units.{units}
-use Rattle.text.specs.Text.{boundary}
-use Rattle.trie.specs.Trie.{idAt}
 use Rattle.trie.specs.Walks.{idIn}
-use Rattle.cutting.specs.Cuttings.{Piece, Slot}
+use Rattle.cutting.specs.Cuttings.{Piece}
 use Rattle.cutting.specs.Records.{candidate}
 use Rattle.unigram.specs.Pieces.{Model, pieceAt}
-use Rattle.cutting.specs.Slots.{Slots, slotsOf, slotAt, PutAt, taken, held}
+use Rattle.cutting.specs.Slots.{Slots, slotsOf, slotAt, taken}
 use Rattle.unigram.specs.Work.{endsHere, Ended}
 use Rattle.cutting.proofs.Best.{same-slot}
 use Rattle.refusal.proofs.Lists.{map-inside}
 use Rattle.cutting.proofs.Columns.{put-as}
-use Rattle.unigram.proofs.Offering.{piece-none, piece-some, ends-off, ends-on, ended-none, ended-some}
+use Rattle.unigram.proofs.Offering.{piece-is, ends-is, ended-none, ended-some}
 use borrow.Author.Needs.{needs}
 use Rattle.unigram.proofs.lattice.end_at.Statement.{statement}
 use Rattle.unigram.proofs.lattice.end_at.Tie as tie
@@ -39,7 +35,8 @@ on : (c : tie.Else1) (m : Model) → let a = entry (c .before) .args in endsHere
 on c m =
     let b = c .before in
     let a = entry b .args in
-    ends-on m (a .node) (a .text .now) (a .i) (sym (b .is-boundary .ensures) ∙ not-false (b .is-boundary .result) (c .if1 .left))
+    ends-is m (a .node) (a .text .now) (a .i)
+    (sym (b .is-boundary .ensures) ∙ not-false (b .is-boundary .result) (c .if1 .left))
 
 -- the node's id was found, and the piece offered
 abbrev summed : tie.After-offer → tie.After-added
@@ -61,7 +58,7 @@ ends :
 ends c m ids =
     let found = c .before .before in
     on (found .before) m
-    ∙ piece-some m (begun c .args .node) (c .x .given .0 .0) (sym (found .id-at .ensures (m .trie) ids) ∙ ap idIn (c .x .given .1))
+    ∙ piece-is m (begun c .args .node) (sym (found .id-at .ensures (m .trie) ids) ∙ ap idIn (c .x .given .1))
 
 -- the sum is the candidate's
 score-is :
@@ -105,7 +102,8 @@ returns c m ids scores =
     let e = entry (c .before) in
     let a = e .args in
     ended-none m (a .text .now) (a .node) (a .i) (a .one) (a .single) (a .at) (units (a .till)) (columns e)
-    (ends-off m (a .node) (a .text .now) (a .i) (sym (c .before .is-boundary .ensures) ∙ not-true (c .before .is-boundary .result) (c .if1 .taken)))
+    (ends-is m (a .node) (a .text .now) (a .i)
+    (sym (c .before .is-boundary .ensures) ∙ not-true (c .before .is-boundary .result) (c .if1 .taken)))
 
 returns-2 : tie.Need-returns-2
 returns-2 c m ids scores =
@@ -125,7 +123,7 @@ returns-4 c m ids scores =
     let e = entry (told .before .before) in
     let a = e .args in
     ended-none m (a .text .now) (a .node) (a .i) (a .one) (a .single) (a .at) (units (a .till)) (columns e)
-    (on (told .before) m ∙ piece-none m (a .node) (sym (told .id-at .ensures (m .trie) ids) ∙ ap idIn (c .enum-told .given .1)))
+    (on (told .before) m ∙ piece-is m (a .node) (sym (told .id-at .ensures (m .trie) ids) ∙ ap idIn (c .enum-told .given .1)))
 
 pub end-at-spec : {M : Type 1} → statement M
 end-at-spec =

@@ -13,6 +13,7 @@ use Rattle.unigram.specs.Pieces.{rule}
 use Rattle.cutting.specs.Slots.{slotsOf, slotAt}
 use Rattle.unigram.specs.Work.{modelOf, pieceWith}
 use Rattle.cutting.specs.Law.{Holds}
+use Rattle.cutting.proofs.Columns.{inside-kept}
 use Rattle.cutting.proofs.Holding.{holds-none, cleared-past, recorded}
 use Rattle.unigram.proofs.Given.{given, boundary-stands}
 use Rattle.unigram.proofs.lattice.fill.Statement.{statement}
@@ -94,18 +95,14 @@ work-at-requires c κs =
     let h = t .before in
     let d = emptied (h .before) in
     let e = begun d in
-    let s = e .pre .1 in
     let kept = d .clear .kept in (
       record {
         ready = e .pre .0;
         below = t .loop-test .taken;
         boundary = h .loop .inv .1;
         inside =
-            record {
-              start = omega (arith, s .start, h .loop .inv .2, kept .0);
-              id = omega (arith, s .id, h .loop .inv .3, kept .1 .0);
-              score = omega (arith, s .score, h .loop .inv .4, kept .1 .1 .0);
-            };
+            inside-kept (e .pre .1) (omega arith) (h .loop .inv .2 ∙ kept .0) (h .loop .inv .3 ∙ kept .1 .0)
+            (h .loop .inv .4 ∙ kept .1 .1 .0);
         holds = h .loop .inv .5;
       },
       made (h .before) .fill-first .ensures,

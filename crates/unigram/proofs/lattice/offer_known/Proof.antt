@@ -1,8 +1,8 @@
 -- `unigram::lattice::offer_known` meets its contract. The loop's invariant: the walk over the bytes from `at` up to i has come to the node, and
 -- each string that ends by i has been offered. What is left of the text falls. Assumes nothing.
 use mathlib.Core.Path.{_≡_, refl, sym, ap, _∙_}
-use mathlib.Core.List.{List, map}
-use mathlib.Core.Option.{Option, none, some}
+use mathlib.Core.List.{List}
+use mathlib.Core.Option.{some}
 use Prim.Native.Nat.{ℕ, _+_, _-_, _≤_, _<_}
 use native.Mathlib.Omega.{arith}
 use borrow.Author.Needs.{needs}
@@ -10,11 +10,12 @@ use lib.ListN.{length, getD}
 use Rattle.doubles.specs.Units.{units}
 use Rattle.text.specs.Text.{part}
 use Rattle.trie.specs.Trie.{Trie, partsOf, step, walk}
-use Rattle.trie.specs.Walks.{Stands, nextOf}
+use Rattle.trie.specs.Walks.{nextOf}
 use Rattle.trie.proofs.Walking.{step-inside}
 use Rattle.cutting.specs.Cuttings.{Piece}
 use Rattle.unigram.specs.Pieces.{Model}
-use Rattle.cutting.specs.Slots.{Slots, slotsOf, Inside}
+use Rattle.cutting.specs.Slots.{Slots, slotsOf}
+use Rattle.cutting.proofs.Columns.{inside-kept}
 use Rattle.unigram.specs.Work.{modelOf}
 use Rattle.unigram.proofs.Offering.{Offered, offered-none, offered-more, offered-all, walk-none-yet, walk-on, walk-over, known-past}
 use Rattle.unigram.proofs.lattice.offer_known.Statement.{statement}
@@ -131,16 +132,11 @@ end-at-requires c κs =
     let h = head (n .before .before) in
     let e = entry (h .before) in
     let p = e .pre .0 in
-    let s = e .pre .1 in
     let l = led-inside n in (
       omega (arith, p .parts .level-id),
       omega (arith, p .level-score),
       omega (arith, p .inside, p .size),
-      record {
-        start = omega (arith, s .start, h .loop .inv .3);
-        id = omega (arith, s .id, h .loop .inv .4);
-        score = omega (arith, s .score, h .loop .inv .5);
-      },
+      inside-kept (e .pre .1) (omega arith) (h .loop .inv .3) (h .loop .inv .4) (h .loop .inv .5),
     )
 
 loop-less : tie.Need-loop-less Inv-loop μ-loop

@@ -16,7 +16,7 @@ use Rattle.unigram.specs.Pieces.{Model}
 use Rattle.cutting.specs.Slots.{Slots, slotsOf, slotAt, PutAt, taken}
 use Rattle.unigram.specs.Work.{modelOf, pieceWith, KnownOffered, Worked}
 use Rattle.cutting.proofs.Best.{same-slot}
-use Rattle.cutting.proofs.Columns.{put-as, score-read}
+use Rattle.cutting.proofs.Columns.{put-as, inside-kept, score-read}
 use Rattle.unigram.proofs.Offering.{EachOffered, all-known, all-unknown, worked-all}
 use borrow.Author.Needs.{needs}
 use Rattle.unigram.proofs.lattice.work_at.Statement.{statement}
@@ -156,10 +156,8 @@ offer-requires c κs =
     let t = weighed c in
     let k = offered (t .before) in
     let d = measured k in
-    let l = within d in
-    let s = entry d .pre .0 .inside in
     let kept = k .offer-known .kept .1 .1 .1 .1 .1 .1 .1 .1 .1 .1 in
-    record { start = omega (arith, s .start, kept .0); id = omega (arith, s .id, kept .1 .0); score = omega (arith, s .score, kept .1 .1 .0) }
+    inside-kept (entry d .pre .0 .inside) (within d) (kept .0) (kept .1 .0) (kept .1 .1 .0)
 
 returns-2 : tie.Need-returns-2
 returns-2 c =

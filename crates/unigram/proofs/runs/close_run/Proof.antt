@@ -1,12 +1,11 @@
 -- `unigram::runs::close_run` meets its contract: one id where a run is waiting, else none. Assumes nothing.
-use mathlib.Core.Path.{_≡_, refl, sym, ap, subst, _∙_}
-use mathlib.Core.List.{List, [], _∷_, _++_}
-use Prim.Native.Nat.{ℕ, _+_, _<_}
+use mathlib.Core.Path.{_≡_, sym, ap, _∙_}
+use mathlib.Core.List.{[], _∷_}
+use Prim.Native.Nat.{ℕ, _<_}
 use native.Mathlib.Omega.{arith}
 use lib.ListN.{length}
 use Rattle.trie.specs.Trie.{Trie, partsOf}
-use Rattle.unigram.specs.Runs.{runId}
-use Rattle.unigram.specs.Merge.{partId, runIds, Placed}
+use Rattle.unigram.specs.Merge.{partId, runIds}
 use Rattle.unigram.proofs.Placing.{placed-none, placed-as, placed-more, ids-there, ids-none}
 use borrow.Author.Needs.{needs}
 use Rattle.unigram.proofs.runs.close_run.Statement.{statement}

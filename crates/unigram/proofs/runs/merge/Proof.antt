@@ -1,17 +1,14 @@
 -- `unigram::runs::merge` meets its contract. The loop's invariant (`Going`): the ids written and those of the pieces left, with the run that is still
 -- to come, are all. The pieces left fall. Assumes nothing.
-use mathlib.Core.Path.{_≡_, refl, sym, ap, subst, _∙_}
-use mathlib.Core.List.{List}
-use mathlib.Core.Bool.{cond}
+use mathlib.Core.Path.{sym, subst, _∙_}
 use mathlib.Core.Option.{Option}
 use Prim.Native.Nat.{ℕ, _+_, _-_, _≤_, _<_}
 use native.Mathlib.Omega.{arith}
 use borrow.Author.Needs.{needs}
-use lib.Dec.{eqb}
 use lib.ListN.{length, getD}
 use Rattle.refusal.specs.Sizes.{noId}
-use Rattle.trie.specs.Trie.{Trie, partsOf}
-use Rattle.unigram.specs.Merge.{partId, Run, Merged}
+use Rattle.trie.specs.Trie.{partsOf}
+use Rattle.unigram.specs.Merge.{partId}
 use Rattle.refusal.proofs.Lists.{place-inside}
 use Rattle.unigram.proofs.Placing.{Going, going-first, next-end, going-more, going-end, waits}
 use Rattle.unigram.proofs.runs.merge.Statement.{statement}

@@ -1,7 +1,6 @@
 -- `unigram::runs::run_after` meets its contract. Assumes nothing.
 use mathlib.Core.Path.{sym, ap}
 use mathlib.Core.Bool.{Bool, cond}
-use Prim.Native.Nat.{ℕ}
 use borrow.Author.Tests.{eq-eqb, ne-eqb}
 use Rattle.unigram.proofs.runs.run_after.Statement.{statement}
 use Rattle.unigram.proofs.runs.run_after.Tie as tie

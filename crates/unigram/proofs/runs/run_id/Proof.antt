@@ -1,9 +1,5 @@
 -- `unigram::runs::run_id` meets its contract: the second look-up, of the whole run's bytes. Assumes nothing.
-use mathlib.Core.Path.{_≡_, refl, sym, ap, subst, _∙_}
-use mathlib.Core.List.{List, [], _∷_, _++_}
-use Prim.Native.Nat.{ℕ, _+_, _<_}
-use native.Mathlib.Omega.{arith}
-use lib.ListN.{length}
+use mathlib.Core.Path.{sym, ap, _∙_}
 use Rattle.trie.specs.Trie.{Trie, partsOf}
 use Rattle.trie.specs.Walks.{idIn}
 use Rattle.unigram.specs.Merge.{partId}

@@ -1,11 +1,10 @@
 -- `unigram::runs::stand` meets its contract: nothing for the unknown id, else the run's id and the piece's. Assumes nothing.
-use mathlib.Core.Path.{_≡_, refl, sym, ap, subst, _∙_}
-use mathlib.Core.List.{List, [], _∷_, _++_}
-use Prim.Native.Nat.{ℕ, _+_, _<_}
+use mathlib.Core.Path.{_≡_, sym}
+use Prim.Native.Nat.{_<_}
 use native.Mathlib.Omega.{arith}
 use lib.ListN.{length}
 use Rattle.trie.specs.Trie.{Trie, partsOf}
-use Rattle.unigram.specs.Merge.{partId, waiting, runIds, closing, Placed}
+use Rattle.unigram.specs.Merge.{partId}
 use Rattle.unigram.proofs.Placing.{placed-none, placed-as, placed-more, closes, closes-not, waits, ids-length}
 use borrow.Author.Needs.{needs}
 use Rattle.unigram.proofs.runs.stand.Statement.{statement}
