@@ -172,7 +172,7 @@ fn lay_out(root: &Path, folder: &Path, cases: &str) {
             Command::new("cp").arg("-r").arg(root.join("target").join(part)).arg(folder.join("target")).status();
         assert!(copied.is_ok_and(|s| s.success()), "target/{part} is there once the crates are proved");
     }
-    let below = "refusal text doubles trie rows build cutting unigram wordpiece pack worked";
+    let below = "refusal text doubles trie rows build cutting unigram wordpiece coder pack worked";
     fs::write(folder.join("crates.txt"), format!("{crates}\ntrial: {below}\n")).unwrap();
     fs::write(folder.join("crates/trial/src/lib.rt"), "// The definitions tried against the Rust.\n").unwrap();
     fs::write(folder.join("crates/trial/proofs/Lib.antt"), "pub mod Trial\npub mod Cases\n").unwrap();

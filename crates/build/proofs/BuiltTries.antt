@@ -3,7 +3,7 @@
 -- finite. Assumes nothing.
 use mathlib.Core.Path.{_≡_, refl, sym, ap, _∙_, subst}
 use mathlib.Core.Bool.{Bool, true, false}
-use mathlib.Core.List.{List, [], map}
+use mathlib.Core.List.{List, []}
 use mathlib.Core.Option.{Option, none, some}
 use Prim.Native.Nat.{ℕ, _-_, _≤_, _<_}
 use native.Mathlib.Omega.{arith}
@@ -29,7 +29,7 @@ use Rattle.build.specs.Grown.{Bytes}
 use Rattle.build.specs.Parts.{trieOf}
 use Rattle.build.specs.Rules.{tokensOf, firstRow, lastId, scoreOf, scoresOf, nodeScore, unigramTrie, unigramScores, wordpieceTrie}
 use Rattle.build.specs.Memory.{Memory, holding}
-use Rattle.build.specs.Core.{nodesOf}
+use Rattle.build.specs.Checked.{nodesOf}
 use Rattle.build.specs.Promise.{trieIn, scoresIn, Told, built, Promised}
 use Rattle.build.proofs.Laid.{getD-map-of}
 use Rattle.build.proofs.Sounds.{sound-built, length-edgeAt, length-edgeN, length-id, length-byte, length-to}

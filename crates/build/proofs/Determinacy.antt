@@ -6,7 +6,7 @@ use Prim.Native.Nat.{ℕ}
 use Rattle.rows.specs.Rows.{Row}
 use Rattle.build.specs.declared.Built.{Built}
 use Rattle.build.specs.Memory.{Memory}
-use Rattle.build.specs.Core.{BuiltOf}
+use Rattle.build.specs.Checked.{BuiltOf}
 
 module _ (first : Bool) (tab : List ℕ) (rows : List Row) (room : ℕ) (before after after′ : Memory) (answer answer′ : Built)
     (p : BuiltOf first tab rows room before after answer) (q : BuiltOf first tab rows room before after′ answer′) where

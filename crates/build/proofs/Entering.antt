@@ -6,8 +6,8 @@ use mathlib.Core.Option.{Option, some}
 use Prim.Native.Nat.{ℕ, suc, _+_, _≤_, _<_}
 use native.Mathlib.Omega.{arith}
 use native.Mathlib.Numerals.{add-one}
-use lib.ListN.{length, getD, take, drop, length-take, length-drop}
-use lib.Seq.{take-suc, drop-cons, take-length, drop-length, getD-take, getD-drop}
+use lib.ListN.{length, getD, take, drop}
+use lib.Seq.{take-suc, drop-cons, take-length, drop-length}
 use Rattle.build.specs.Names.{place, prefixes, add, enter}
 use Rattle.build.specs.Held.{Held, Roomy, Enterable, Done}
 use Rattle.build.proofs.Places.{place-below}

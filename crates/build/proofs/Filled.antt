@@ -24,7 +24,7 @@ use Rattle.build.specs.Given.{rulesFrom, noRule, trieGiven}
 use Rattle.build.specs.Held.{ZeroFrom, Identified, Roomy, RowDone, Ready}
 use Rattle.build.specs.Laying.{bytesOf, targetsOf, allEdges, countsOf, AllReady, AllDone, OutReady, OutDone}
 use Rattle.build.specs.Memory.{Memory, memory, cleared, holding}
-use Rattle.build.specs.Core.{RoomFor, nodesOf, BuiltOf, Finishable}
+use Rattle.build.specs.Checked.{RoomFor, nodesOf, BuiltOf, Finishable}
 use Rattle.build.proofs.Grown.{List², grown-distinct, grown-some}
 use Rattle.build.proofs.Laid.{getD-map-of, length-starts}
 use Rattle.build.proofs.Counted.{count-names}

@@ -9,10 +9,11 @@ use native.Mathlib.Omega.{arith}
 use native.Mathlib.Decide.{decLt}
 use lib.ListN.{length, getD, List·getD-append}
 use lib.Seq.{getD-append-seam}
-use Rattle.build.specs.Names.{place, prefixes, add, enter, names}
+use Rattle.refusal.proofs.Lists.{zero-one, none-some}
+use Rattle.build.specs.Names.{place, prefixes, add, enter}
 use Rattle.build.specs.Grown.{Grown, root, more, Bytes}
 use Rattle.build.proofs.Strings.{snoc-nil, snoc-front, snoc-last, snoc-append, same-refl}
-use Rattle.build.proofs.Places.{none-some, found?, place-empty, missing, place-hit, place-below}
+use Rattle.build.proofs.Places.{found?, place-empty, missing, place-hit, place-below}
 use Rattle.build.proofs.Places.{place-kept, place-end, place-other, place-more, add-there, add-new, length-more}
 
 abbrev pub List² : Type 0
@@ -159,7 +160,7 @@ pub enter-has : (s p q : List ℕ) (ns : List²) (j : ℕ) → place ns p ≡ so
 unfolding enter prefixes
 enter-has s p [] ns j e r d =
     (j, ap (place (enter ns (prefixes p s))) (append-nil p) ∙ enter-keeps (prefixes p s) ns p j e)
-enter-has [] p (b ∷ q) ns j e r d = let z : _≡_ {A = ℕ} 0 1 = cc in absurd (omega arith)
+enter-has [] p (b ∷ q) ns j e r d = absurd (zero-one cc)
 enter-has (c ∷ s) p (b ∷ q) ns j e r d =
     let t = p ++ (c ∷ []) in
     let same-byte : c ≡ b = cc in

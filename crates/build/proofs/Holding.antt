@@ -7,11 +7,12 @@ use Prim.Native.Nat.{ℕ, suc, _+_, _*_, _≤_, _<_}
 use native.Mathlib.Omega.{arith}
 use lib.ListN.{length, getD, set, length-set}
 use lib.Seq.{getD-set-same, getD-set-other}
+use Rattle.refusal.proofs.Lists.{none-some}
 use Rattle.refusal.specs.Sizes.{noId}
 use Rattle.build.specs.Names.{place, add}
 use Rattle.build.specs.Links.{Slot, Linked, Spelled, linkedWork}
 use Rattle.build.specs.Held.{Held, Roomy, Done}
-use Rattle.build.proofs.Places.{none-some, missing, place-below, place-kept, place-end, place-more, add-there, add-new, length-more}
+use Rattle.build.proofs.Places.{missing, place-below, place-kept, place-end, place-more, add-there, add-new, length-more}
 use Rattle.build.proofs.Grown.{List²}
 use Rattle.build.proofs.Linking.{linked-more, spelled-more}
 use Rattle.build.proofs.Seeking.{seek-none, seek-least, seek-byte}

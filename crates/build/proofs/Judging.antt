@@ -1,7 +1,7 @@
 -- Rows that were judged: what the core asks of them follows where no fault was found, and the rows that it is given are those of the
 -- columns. Assumes nothing.
-use mathlib.Core.Path.{_≡_, refl, sym, ap, _∙_, subst}
-use mathlib.Core.Bool.{Bool, true, false, cond}
+use mathlib.Core.Path.{_≡_, refl, sym, ap, _∙_}
+use mathlib.Core.Bool.{Bool, false, cond}
 use mathlib.Core.List.{List, [], _∷_, map}
 use mathlib.Core.Option.{none}
 use Prim.Native.Nat.{ℕ, zero, suc, _+_, _≤_, _<_}
@@ -11,7 +11,6 @@ use lib.ListN.{length, getD}
 use Rattle.refusal.specs.Sizes.{noId}
 use Rattle.refusal.proofs.Tests.{passed}
 use Rattle.doubles.specs.Double.{plusZero}
-use Rattle.trie.specs.Trie.{Trie}
 use Rattle.rows.specs.declared.Kind.{Kind}
 use Rattle.rows.specs.declared.Kind.the-variants.{Unigram, WordPiece}
 use Rattle.rows.specs.Rows.{Row, score, id, tokenOf, firstBad}
@@ -27,7 +26,7 @@ use Rattle.build.specs.Parts.{trieOf}
 use Rattle.build.specs.Given.{rowGiven, givenFrom, given, firstOf, trieGiven}
 use Rattle.build.specs.Held.{Judged}
 use Rattle.build.specs.Memory.{Memory, cleared, holding}
-use Rattle.build.specs.Core.{nodesOf, builtAnswer, BuiltOf}
+use Rattle.build.specs.Checked.{nodesOf, builtAnswer, BuiltOf}
 use Rattle.build.proofs.Grown.{List²}
 use Rattle.build.proofs.Lookups.{noRow}
 use Rattle.build.proofs.Rooms.{nodes-few}

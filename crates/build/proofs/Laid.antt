@@ -12,13 +12,14 @@ use borrow.Author.Tests.{eq-eqb, ne-eqb}
 use lib.Dec.{eqb}
 use lib.ListN.{length, getD, drop, length-append, length-map}
 use lib.Seq.{drop-append-seam}
+use Rattle.refusal.proofs.Lists.{zero-one, none-some}
 use Rattle.refusal.specs.Sizes.{noId}
 use Rattle.trie.specs.Trie.{seek, step, walk, idAt, idFrom, idOf}
 use Rattle.build.specs.Names.{place}
 use Rattle.build.specs.Grown.{Grown}
 use Rattle.build.specs.Parts.{Edge, edgesOf, starts, lay}
 use Rattle.build.proofs.Strings.{snoc-append}
-use Rattle.build.proofs.Places.{found?, missing, none-some, place-below, place-at}
+use Rattle.build.proofs.Places.{found?, missing, place-below, place-at}
 use Rattle.build.proofs.Grown.{List², grown-root, grown-parent, grown-begins}
 use Rattle.build.proofs.Edges.{target, target-of, target-no-byte}
 
@@ -31,14 +32,14 @@ getD-map-of f (x ∷ l) (suc k) d z h = getD-map-of f l k d z (omega arith)
 
 -- what stands at `at`, and after it
 pub drop-head : (l : List Edge) (at : ℕ) (x : Edge) (r : List Edge) → drop at l ≡ x ∷ r → drop (suc at) l ≡ r
-drop-head [] zero x r e = let z : _≡_ {A = ℕ} 0 1 = cc in absurd (omega arith)
-drop-head [] (suc at) x r e = let z : _≡_ {A = ℕ} 0 1 = cc in absurd (omega arith)
+drop-head [] zero x r e = absurd (zero-one cc)
+drop-head [] (suc at) x r e = absurd (zero-one cc)
 drop-head (y ∷ l) zero x r e = cc
 drop-head (y ∷ l) (suc at) x r e = drop-head l at x r e
 
 pub map-head : (f : Edge → ℕ) (l : List Edge) (at : ℕ) (x : Edge) (r : List Edge) → drop at l ≡ x ∷ r → getD (map f l) at 0 ≡ f x
-map-head f [] zero x r e = let z : _≡_ {A = ℕ} 0 1 = cc in absurd (omega arith)
-map-head f [] (suc at) x r e = let z : _≡_ {A = ℕ} 0 1 = cc in absurd (omega arith)
+map-head f [] zero x r e = absurd (zero-one cc)
+map-head f [] (suc at) x r e = absurd (zero-one cc)
 map-head f (y ∷ l) zero x r e = let p : y ≡ x = cc in ap f p
 map-head f (y ∷ l) (suc at) x r e = map-head f l at x r e
 

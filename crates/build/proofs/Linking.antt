@@ -9,11 +9,12 @@ use native.Mathlib.Omega.{arith}
 use native.Mathlib.Decide.{decLt}
 use lib.ListN.{length, getD, set, length-set}
 use lib.Seq.{getD-set-same, getD-set-other}
+use Rattle.refusal.proofs.Lists.{none-some}
 use Rattle.build.specs.Names.{place}
 use Rattle.build.specs.Grown.{more}
 use Rattle.build.specs.Links.{Clear, Least, First, Slot, of-first, of-next, Linked, Spelled, linkedWork}
 use Rattle.build.proofs.Strings.{snoc-front, snoc-last, snoc-longer, equal?}
-use Rattle.build.proofs.Places.{none-some, place-below, place-one, place-kept, place-end, place-other, place-more, length-more}
+use Rattle.build.proofs.Places.{place-below, place-one, place-kept, place-end, place-other, place-more, length-more}
 use Rattle.build.proofs.Grown.{List², grown-none}
 use Rattle.build.proofs.Laid.{same?}
 

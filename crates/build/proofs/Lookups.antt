@@ -8,6 +8,7 @@ use Prim.Native.Nat.{ℕ, suc, _+_, _≤_, _<_}
 use native.Mathlib.Omega.{arith}
 use lib.ListN.{length, getD, drop, length-map, length-take, length-drop}
 use lib.Seq.{getD-take, getD-drop}
+use Rattle.refusal.proofs.Lists.{none-some}
 use Rattle.refusal.specs.Sizes.{noId}
 use Rattle.trie.specs.Trie.{idOf}
 use Rattle.text.specs.Span.{spanOf}
@@ -17,7 +18,7 @@ use Rattle.build.specs.Grown.{Bytes}
 use Rattle.build.specs.Parts.{trieOf}
 use Rattle.build.specs.Rules.{firstRow, idOfWorth, tokensOf, unigramTrie, lastOf, lastId, wordpieceTrie}
 use Rattle.build.proofs.Strings.{same-eq}
-use Rattle.build.proofs.Places.{either, none-some, found?, missing, place-below}
+use Rattle.build.proofs.Places.{either, found?, missing, place-below}
 use Rattle.build.proofs.Grown.{List²}
 use Rattle.build.proofs.Named.{AllBytes, grown-names, begins-name, token-name}
 use Rattle.build.proofs.Laid.{getD-map-of, lookup-built}

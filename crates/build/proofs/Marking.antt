@@ -10,12 +10,13 @@ use borrow.Author.Tests.{eq-eqb, ne-eqb}
 use lib.Dec.{eqb}
 use lib.ListN.{length, getD, set, length-set}
 use lib.Seq.{getD-set-same, getD-set-other}
+use Rattle.refusal.proofs.Lists.{none-some}
 use Rattle.refusal.specs.Sizes.{noId}
 use Rattle.build.specs.Names.{place, prefixes, enter}
 use Rattle.build.specs.Given.{kept, marked}
 use Rattle.build.specs.Held.{Identified, Held, Done, markedIds, Unmarked, RowDone, RowEntered}
 use Rattle.build.proofs.Strings.{equal?}
-use Rattle.build.proofs.Places.{none-some, place-below, place-one, place-same}
+use Rattle.build.proofs.Places.{place-below, place-one, place-same}
 use Rattle.build.proofs.Grown.{List²}
 use Rattle.build.proofs.Ruled.{marked-nil, marked-self, marked-other}
 use Rattle.build.proofs.Entering.{prefixes-none}

@@ -7,10 +7,11 @@ use mathlib.Core.Option.{some}
 use Prim.Native.Nat.{ℕ, zero, suc, _+_, _*_, _≤_, _<_}
 use native.Mathlib.Omega.{arith}
 use lib.ListN.{length, getD}
+use Rattle.refusal.proofs.Lists.{zero-one, none-some}
 use Rattle.build.specs.Names.{place, prefixes, add, enter, names}
 use Rattle.build.specs.Grown.{Grown, root, Bytes}
 use Rattle.build.proofs.Strings.{snoc-append}
-use Rattle.build.proofs.Places.{none-some, found?, place-empty, place-other, place-more, place-at, add-there, add-new}
+use Rattle.build.proofs.Places.{found?, place-empty, place-other, place-more, place-at, add-there, add-new}
 use Rattle.build.proofs.Grown.{List², grown-root, grown-enter, enter-keeps, enter-has, enter-grows, enter-few, enter-append, length-prefixes}
 
 -- every token is made of bytes
@@ -31,20 +32,9 @@ pub entered-one : (ns : List²) (t : List ℕ) (ts : List²) → entered ns (t �
 unfolding flatMap
 entered-one ns t ts = enter-append (prefixes [] t) (flatMap (prefixes []) ts) ns
 
-pub entered-append : (ns : List²) (ts us : List²) → entered ns (ts ++ us) ≡ entered (entered ns ts) us
-entered-append ns [] us = ap (λ (l : List²). entered l us) (sym (entered-none ns))
-entered-append ns (t ∷ ts) us =
-    entered-one ns t (ts ++ us) ∙ entered-append (enter ns (prefixes [] t)) ts us ∙ ap (λ (l : List²). entered l us) (sym (entered-one ns t ts))
-
 pub names-are : (tokens : List²) → names tokens ≡ entered ([] ∷ []) tokens
 unfolding names
 names-are tokens = refl
-
--- one row more: its prefixes are entered after all others
-pub names-more : (tokens : List²) (t : List ℕ) → names (tokens ++ (t ∷ [])) ≡ enter (names tokens) (prefixes [] t)
-unfolding names
-names-more tokens t =
-    entered-append ([] ∷ []) tokens (t ∷ []) ∙ entered-one (entered ([] ∷ []) tokens) t [] ∙ entered-none (enter (names tokens) (prefixes [] t))
 
 -- ---- they grew
 
@@ -115,7 +105,7 @@ name-begins tokens s k e =
   where
     nil-or : (s : List ℕ) → (s ≡ [] → ⊥) ⊎ ([] ≡ s)
     nil-or [] = inr refl
-    nil-or (b ∷ s) = inl (λ q. let z : _≡_ {A = ℕ} 0 1 = cc in omega arith)
+    nil-or (b ∷ s) = inl (λ q. zero-one cc)
 
     no-place : {s : List ℕ} → (j : ℕ) × (place ([] ∷ []) s ≡ some j) → (s ≡ [] → ⊥) → ⊥
     no-place {s} w v = none-some (sym (place-other [] [] s v ∙ place-empty s) ∙ w .1)

@@ -6,11 +6,12 @@ use Prim.Native.Nat.{ℕ, _≤_}
 use native.Mathlib.Omega.{arith}
 use borrow.Author.Tests.{ltb-false}
 use lib.Dec.{ltb}
+use Rattle.refusal.proofs.Lists.{zero-one}
 use Rattle.rows.specs.Rows.{Row}
 use Rattle.build.specs.declared.Built.{Built}
 use Rattle.build.specs.declared.Built.the-variants.{Nodes, NoRoom}
 use Rattle.build.specs.Memory.{Memory}
-use Rattle.build.specs.Core.{nodesOf, BuiltOf}
+use Rattle.build.specs.Checked.{nodesOf, BuiltOf}
 
 module _ {b : Bool} {tab : List ℕ} {rows : List Row} {room : ℕ} {before after : Memory} {answer : Built}
     (d : BuiltOf b tab rows room before after answer)
@@ -26,8 +27,7 @@ module _ {b : Bool} {tab : List ℕ} {rows : List Row} {room : ℕ} {before afte
         go true p = refl
         go false p =
             let z : NoRoom ≡ Nodes nodes = sym e ∙ d .answered ∙ ap (λ (t : Bool). cond t NoRoom (Nodes nodes)) p in
-            let y : _≡_ {A = ℕ} 0 1 = cc in
-            absurd (omega arith)
+            absurd (zero-one cc)
 
     -- a number of nodes is answered where they fit, and it is theirs
     pub core-fits : {n : ℕ} → answer ≡ Nodes n → (ltb room nodes ≡ false) × (n ≡ nodes)
@@ -36,8 +36,7 @@ module _ {b : Bool} {tab : List ℕ} {rows : List Row} {room : ℕ} {before afte
         go : (t : Bool) → ltb room nodes ≡ t → (t ≡ false) × (n ≡ nodes)
         go true p =
             let z : Nodes n ≡ NoRoom = sym e ∙ d .answered ∙ ap (λ (t : Bool). cond t NoRoom (Nodes nodes)) p in
-            let y : _≡_ {A = ℕ} 0 1 = cc in
-            absurd (omega arith)
+            absurd (zero-one cc)
         go false p =
             let z : Nodes n ≡ Nodes nodes = sym e ∙ d .answered ∙ ap (λ (t : Bool). cond t NoRoom (Nodes nodes)) p in
             (refl, cc)

@@ -8,15 +8,13 @@ use mathlib.Core.Option.{Option, none, some}
 use Prim.Native.Nat.{ℕ, zero, suc, _<_}
 use native.Mathlib.Omega.{arith}
 use lib.ListN.{length, getD, length-append}
+use Rattle.refusal.proofs.Lists.{none-some}
 use Rattle.build.specs.Names.{same, later, place, add}
 use Rattle.build.proofs.Strings.{same-refl, same-eq, same-ne, equal?}
 
 pub either : (b : Bool) → (b ≡ true) ⊎ (b ≡ false)
 either true = inl refl
 either false = inr refl
-
-pub none-some : {A : Type 0} {k : ℕ} → none ≡ some k → A
-none-some e = let z : _≡_ {A = ℕ} 0 1 = cc in absurd (omega arith)
 
 -- a value is missing or there
 pub found? : (o : Option ℕ) → (o ≡ none) ⊎ ((k : ℕ) × (o ≡ some k))

@@ -7,8 +7,8 @@ use mathlib.Core.List.{List, []}
 use mathlib.Core.Logic.{_↔_}
 use mathlib.Core.Option.{Option, none, some}
 use Prim.Native.Nat.{ℕ}
-use native.Mathlib.Omega.{arith}
 use lib.Dec.{ltb, eqb}
+use Rattle.refusal.proofs.Lists.{zero-one}
 use Rattle.doubles.specs.Double.{Double, plusZero}
 use Rattle.refusal.specs.declared.Fault.the-variants as fault
 use Rattle.refusal.specs.declared.Reason.{Reason}
@@ -24,7 +24,7 @@ use Rattle.build.specs.declared.Built.{Built}
 use Rattle.build.specs.declared.Built.the-variants.{Nodes, NoRoom}
 use Rattle.build.specs.Given.{firstOf, trieGiven}
 use Rattle.build.specs.Memory.{Memory, withScores, cleared, holding, zeroScores, leaves}
-use Rattle.build.specs.Core.{nodesOf, BuiltOf}
+use Rattle.build.specs.Checked.{nodesOf, BuiltOf}
 use Rattle.build.specs.Promise.{trieIn, scoresIn, buildFault, Told, built, refused, toldFor, Promised}
 use Rattle.build.proofs.Outcomes.{core-full, core-fits}
 
@@ -62,10 +62,10 @@ module _ (judged : Option Reason) (short : Bool) where
           (o : Option Reason) → judged ≡ o → (b : Bool) → short ≡ b → buildFault judged short ≡ some room-is-short
           → (judged ≡ none) × (short ≡ true)
       says none p true q e = (p, q)
-      says none p false q e = let z = sym (fault-left p q) ∙ e in absurd (let y : _≡_ {A = ℕ} 0 1 = cc in omega arith)
+      says none p false q e = let z = sym (fault-left p q) ∙ e in absurd (zero-one cc)
       says (some r) p b q e =
           let z : true ≡ false = other room-is-short (p ∙ sym (fault-found p) ∙ e) in
-          absurd (let y : _≡_ {A = ℕ} 0 1 = cc in omega arith)
+          absurd (zero-one cc)
 
 -- ---- the promise, in each case
 
@@ -159,13 +159,13 @@ module _ {A : Type 0} {kind : Kind} {tab : List ℕ} {rows : List Row} {judged :
   module _ {answer : Told A} {after : Memory} (p : Promised kind tab rows judged short summary m answer after) where
     says-refused : {r : Reason} (o : Option Reason) → toldFor o summary ≡ refused r → o ≡ some r
     unfolding toldFor
-    says-refused none e = absurd (let z : _≡_ {A = ℕ} 0 1 = cc in omega arith)
+    says-refused none e = absurd (zero-one cc)
     says-refused {r = r} (some q) e = let same : q ≡ r = cc in ap some same
 
     says-built : {s : A} (o : Option Reason) → toldFor o summary ≡ built s → (o ≡ none) × (s ≡ summary)
     unfolding toldFor
     says-built none e = (refl, cc)
-    says-built (some q) e = absurd (let z : _≡_ {A = ℕ} 0 1 = cc in omega arith)
+    says-built (some q) e = absurd (zero-one cc)
 
     -- refused with r exactly when r is the fault, and accepted exactly when there is none
     pub refused-exactly : (r : Reason) → (answer ≡ refused r) ↔ (buildFault judged short ≡ some r)

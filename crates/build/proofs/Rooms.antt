@@ -10,6 +10,7 @@ use native.Mathlib.Decide.{decLt}
 use borrow.Author.Tests.{lt-ltb, le-ltb, ltb-false}
 use lib.Dec.{ltb}
 use lib.ListN.{length, getD}
+use Rattle.refusal.proofs.Lists.{zero-one}
 use Rattle.doubles.specs.Double.{Double}
 use Rattle.refusal.specs.Sizes.{maxRows, maxToken}
 use Rattle.rows.specs.declared.Kind.{Kind}
@@ -19,7 +20,7 @@ use Rattle.refusal.proofs.Tests.{neither-says}
 use Rattle.rows.proofs.FirstBad.{none-bad-says}
 use Rattle.build.specs.Rules.{tokensOf}
 use Rattle.build.specs.Memory.{Memory, withScores, anyBelow, noRoom, noScoredRoom}
-use Rattle.build.specs.Core.{roomOf, RoomFor, nodesOf}
+use Rattle.build.specs.Checked.{roomOf, RoomFor, nodesOf}
 use Rattle.build.proofs.Named.{names-are, names-few, bytes-few, entered-grows}
 use Rattle.build.proofs.Lookups.{noRow, token-at, length-tokens}
 
@@ -127,8 +128,7 @@ no-room m n some-node small = go (noRoom n m) refl
         short (yes h) = h
         short (no h) =
             let z : true ≡ false = sym e ∙ fits-all m n (room-for m n (omega arith)) in
-            let y : _≡_ {A = ℕ} 0 1 = cc in
-            absurd (omega arith)
+            absurd (zero-one cc)
 
 -- 7 with a score column: the lesser of the two decides
 lesser-below : (a b n : ℕ) → (ltb a n || ltb b n) ≡ ltb (min a b) n

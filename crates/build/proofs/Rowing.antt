@@ -10,6 +10,7 @@ use native.Mathlib.Omega.{arith}
 use native.Mathlib.Numerals.{add-one}
 use lib.ListN.{length, getD, set, length-set}
 use lib.Seq.{getD-set-same, getD-set-other}
+use Rattle.refusal.proofs.Lists.{zero-one, none-some}
 use Rattle.refusal.specs.Sizes.{noId, maxRows}
 use Rattle.rows.specs.Rows.{Row, tokenOf}
 use Rattle.build.specs.Names.{place, prefixes, enter, names}
@@ -18,7 +19,7 @@ use Rattle.build.specs.Rules.{idOfWorth, tokensOf}
 use Rattle.build.specs.Given.{rowGiven, givenFrom, given, valueOf, kept, marked, rulesFrom, noRule}
 use Rattle.build.specs.Held.{ZeroFrom, Held, Roomy, Enterable, Unmarked, RowDone, valueGiven, Ready, Planted}
 use Rattle.build.proofs.Strings.{snoc-nil, equal?}
-use Rattle.build.proofs.Places.{none-some, place-empty, place-other, place-below, place-at}
+use Rattle.build.proofs.Places.{place-empty, place-other, place-below, place-at}
 use Rattle.build.proofs.Grown.{List², grown-root}
 use Rattle.build.proofs.Named.{entered, entered-none, entered-one, entered-grows, names-are}
 use Rattle.build.proofs.Ruled.{marked-hit, marked-other, marked-empty}
@@ -121,7 +122,7 @@ marked-low t i rule h (b ∷ s) j e =
 value-first : (first : Bool) (i : ℕ) (row : Row) → first ≡ true → valueOf first i row ≡ i
 unfolding valueOf
 value-first true i row e = refl
-value-first false i row e = let z : _≡_ {A = ℕ} 0 1 = cc in absurd (omega arith)
+value-first false i row e = absurd (zero-one cc)
 
 module _ (first : Bool) (tab : List ℕ) (rows : List Row) where
   pub rowed-start : (edgeN id work : List ℕ) → Held ([] ∷ []) noRule edgeN id work → Rowed first tab rows rows 0 edgeN id work 1

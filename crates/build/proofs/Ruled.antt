@@ -1,64 +1,21 @@
 -- Which row's id a string has: the first of its rows, or the last, as rows are entered one by one. Assumes nothing.
 use mathlib.Core.Path.{_≡_, refl, sym, ap, _∙_, fun-ext}
 use mathlib.Core.Bool.{Bool, true, false, cond}
-use mathlib.Core.List.{List, [], _∷_, _++_, map}
+use mathlib.Core.List.{List, [], _∷_, map}
 use mathlib.Core.Logic.{⊎-elim}
 use mathlib.Core.Option.{Option, none, some}
 use Prim.Native.Nat.{ℕ, suc, _+_}
 use native.Mathlib.Omega.{arith}
-use lib.ListN.{length}
-use Rattle.rows.specs.Rows.{Row, id, tokenOf}
+use Rattle.rows.specs.Rows.{Row, tokenOf}
 use Rattle.build.specs.Names.{same, later, place}
 use Rattle.build.specs.Parts.{trieOf}
 use Rattle.build.specs.Rules.{firstRow, idOfWorth, tokensOf, unigramTrie, lastOf, lastId, wordpieceTrie}
 use Rattle.build.specs.Given.{valueOf, kept, marked, rulesFrom, noRule, trieGiven}
 use Rattle.build.proofs.Strings.{same-refl, same-eq, same-ne, same-false}
-use Rattle.build.proofs.Places.{either, none-some, place-hit, place-miss, place-empty, place-kept, place-end, place-other}
+use Rattle.build.proofs.Places.{either, place-hit, place-miss, place-empty}
 use Rattle.build.proofs.Grown.{List²}
 
 -- ---- one row more
-
-pub first-kept :
-    (tokens : List²) (t s : List ℕ) (i : ℕ) → firstRow tokens s ≡ some i → firstRow (tokens ++ (t ∷ [])) s ≡ some i
-unfolding firstRow
-first-kept tokens t [] i e = none-some e
-first-kept tokens t (b ∷ s) i e = place-kept tokens (t ∷ []) (b ∷ s) i e
-
-pub first-new :
-    (tokens : List²) (b : ℕ) (s : List ℕ) → firstRow tokens (b ∷ s) ≡ none
-    → firstRow (tokens ++ ((b ∷ s) ∷ [])) (b ∷ s) ≡ some (length tokens)
-unfolding firstRow
-first-new tokens b s e = place-end tokens (b ∷ s) e
-
-pub first-other : (tokens : List²) (t s : List ℕ) → (s ≡ t → ⊥) → firstRow (tokens ++ (t ∷ [])) s ≡ firstRow tokens s
-unfolding firstRow
-first-other tokens t [] h = refl
-first-other tokens t (b ∷ s) h = place-other tokens t (b ∷ s) h
-
-last-hit : (tab : List ℕ) (rows : List Row) (r : Row) (s : List ℕ) → same s (tokenOf tab r) ≡ true → lastOf tab (rows ++ (r ∷ [])) s ≡ some (idOfWorth (r .worth))
-unfolding lastOf
-last-hit tab [] r s e = rw e
-last-hit tab (q ∷ qs) r s e = rw (last-hit tab qs r s e, lastOf)
-
-last-miss : (tab : List ℕ) (rows : List Row) (r : Row) (s : List ℕ) → same s (tokenOf tab r) ≡ false → lastOf tab (rows ++ (r ∷ [])) s ≡ lastOf tab rows s
-unfolding lastOf
-last-miss tab [] r s e = rw e
-last-miss tab (q ∷ qs) r s e = rw (last-miss tab qs r s e, lastOf)
-
--- the last of the rows with a token gives its id
-pub last-more :
-    (tab : List ℕ) (rows : List Row) (r : Row) (b : ℕ) (s : List ℕ)
-    → lastId tab (rows ++ (r ∷ [])) (b ∷ s) ≡ cond (same (b ∷ s) (tokenOf tab r)) (some (idOfWorth (r .worth))) (lastId tab rows (b ∷ s))
-unfolding lastId
-last-more tab rows r b s =
-    ⊎-elim (λ e. last-hit tab rows r (b ∷ s) e ∙ sym (yes-cond (b ∷ s) e)) (λ e. last-miss tab rows r (b ∷ s) e ∙ sym (no-cond (b ∷ s) e))
-    (either (same (b ∷ s) (tokenOf tab r)))
-  where
-    yes-cond : (t : List ℕ) → same t (tokenOf tab r) ≡ true → cond (same t (tokenOf tab r)) (some (idOfWorth (r .worth))) (lastOf tab rows t) ≡ some (idOfWorth (r .worth))
-    yes-cond t e = rw e
-
-    no-cond : (t : List ℕ) → same t (tokenOf tab r) ≡ false → cond (same t (tokenOf tab r)) (some (idOfWorth (r .worth))) (lastOf tab rows t) ≡ lastOf tab rows t
-    no-cond t e = rw e
 
 -- ---- `marked`
 

@@ -8,12 +8,9 @@ use Prim.Native.Nat.{ℕ, suc}
 use native.Mathlib.Omega.{arith}
 use borrow.Author.Tests.{eq-eqb, eqb-true}
 use lib.Dec.{eqb}
-use lib.ListN.{length, getD, length-append}
-use lib.Seq.{getD-append-seam}
+use lib.ListN.{length, length-append}
+use Rattle.refusal.proofs.Lists.{false-true}
 use Rattle.build.specs.Names.{same}
-
-pub false-true : {A : Type 0} → false ≡ true → A
-false-true e = let z : _≡_ {A = ℕ} 0 1 = cc in absurd (omega arith)
 
 pub and-left : (a b : Bool) → (a && b) ≡ true → a ≡ true
 and-left true b e = refl

@@ -8,5 +8,5 @@ pub mod Given
 pub mod Held
 pub mod Laying
 pub mod Memory
-pub mod Core
+pub mod Checked
 pub mod Promise

@@ -1,5 +1,5 @@
 // The core of both builds: tokens entered in lent columns, their children linked in lent work places, laid out as trie parts.
-pub mod core;
+pub mod checked;
 mod lay;
 mod links;
 pub mod steps;

@@ -1,8 +1,7 @@
 // The children of a node, linked by rising byte. Work place 2k has the first child of node k and place 2k + 1 its next sibling, 0 for none:
 use refusal::NO_ID;
 // the root is nobody's child. While tokens are entered, a node's own byte stands in its `edge_n` place.
-ghost use mathlib.Core.Path.{_≡_};
-ghost use Prim.Native.Nat.{_+_, _*_, _≤_, _<_};
+ghost use Prim.Native.Nat.{_+_, _*_};
 ghost use Rattle.build.specs.Held.{Chained, Sought, Linkable, NodeLinked, Enterable, ByteEntered};
 ghost use Rattle.refusal.specs.Lent.{is, was};
 

@@ -12,7 +12,7 @@ ghost use lib.ListN.{length, set};
 ghost use Rattle.refusal.specs.Sizes.{noId};
 ghost use Rattle.build.specs.Held.{Roomy, Started};
 ghost use Rattle.build.specs.Memory.{memoryIs, memoryNow, memoryWas};
-ghost use Rattle.build.specs.Core.{Finishable, Finished};
+ghost use Rattle.build.specs.Checked.{Finishable, Finished};
 ghost use Rattle.refusal.specs.Lent.{is, was};
 
 // The root, alone: it has no id and no child.

@@ -2,7 +2,7 @@
 use crate::Coder;
 use refusal::CodeAnswer;
 ghost use mathlib.Core.Path.{_≡_};
-ghost use Rattle.unigram.specs.Core.{scratchIs, scratchWas};
+ghost use Rattle.unigram.specs.Checked.{scratchIs, scratchWas};
 ghost use Rattle.coder.specs.Vocabulary.{soundIn, CodedIn};
 ghost use Rattle.coder.specs.Columns.{vocabulary, vocabularyNow};
 ghost use Rattle.refusal.specs.Lent.{was};

@@ -17,8 +17,8 @@ use Rattle.doubles.proofs.Sums.{sum-number, sum-mono, never-minus-zero}
 use Rattle.cutting.specs.Cuttings.{Piece, Rule, Slot, nth, Cutting, empty, then, total, Through, whole, Best}
 use Rattle.cutting.specs.Records.{offered, candidate, offeredAll, best, standsAt}
 use Rattle.cutting.proofs.Laws.{keeps, takes}
-use Rattle.refusal.proofs.Lists.{below-or}
-use Rattle.cutting.proofs.Working.{Pieces, no-piece, some-same, true-false, looked}
+use Rattle.refusal.proofs.Lists.{none-some, true-false, below-or}
+use Rattle.cutting.proofs.Working.{Pieces, some-same, looked}
 use Rattle.cutting.proofs.Working.{worked, passed, none-before, stands-first, stands-record, record-stands}
 
 pub is-true : (t : Bool) → T t → t ≡ true
@@ -237,7 +237,7 @@ module _ {end : ℕ} {rule : Rule} (g : Pieces end rule) where
       later i m j o
       (λ k y l f.
       let there : m + (k - m) ≡ k = omega arith in
-      no-piece (sym (rest (k - m)) ∙ ap (nth (rule .pieces i j)) there ∙ f .is))
+      none-some (sym (rest (k - m)) ∙ ap (nth (rule .pieces i j)) there ∙ f .is))
       s
   turns i j x e m (p ∷ ps) o rest s =
       turns i j x e (suc m) ps (cond (rule .counts (sum x (p .score))) (some (offered o (candidate x i p))) o)
@@ -249,7 +249,7 @@ module _ {end : ℕ} {rule : Rule} (g : Pieces end rule) where
   status (suc i) j =
       ⊎-elim
       (λ (e : standsAt rule i ≡ none).
-      subst (Status (suc i) 0 j) (sym (passed rule i j e)) (later i 0 j (best rule i j) (λ k y l f. no-piece (sym e ∙ f .stands)) (status i j)))
+      subst (Status (suc i) 0 j) (sym (passed rule i j e)) (later i 0 j (best rule i j) (λ k y l f. none-some (sym e ∙ f .stands)) (status i j)))
       (λ (w : (x : Double) × (standsAt rule i ≡ some x)).
       subst (Status (suc i) 0 j) (sym (worked rule i j (w .0) (w .1)))
       (turns i j (w .0) (w .1) 0 (rule .pieces i j) (best rule i j) (λ k. ap (nth (rule .pieces i j)) (zero-add k)) (status i j)))
@@ -258,7 +258,7 @@ module _ {end : ℕ} {rule : Rule} (g : Pieces end rule) where
   -- ---- positions that are reached
 
   pub stood : (from j : ℕ) (r : Slot) → best rule from j ≡ some r → Standing from 0 j r
-  stood from j r e = ⊎-elim (λ v. absurd (no-piece (sym (v .0) ∙ e))) (λ v. subst (Standing from 0 j) (some-same (sym (v .1) ∙ e)) (v .2)) (status from j)
+  stood from j r e = ⊎-elim (λ v. absurd (none-some (sym (v .0) ∙ e))) (λ v. subst (Standing from 0 j) (some-same (sym (v .1) ∙ e)) (v .2)) (status from j)
 
   -- a position after the first has a record where something stands
   pub filled : (j : ℕ) (x : Double) → 0 < j → standsAt rule j ≡ some x → (r : Slot) × (best rule j j ≡ some r) × (r .score ≡ x) × Standing j 0 j r

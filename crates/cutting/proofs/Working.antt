@@ -2,7 +2,7 @@
 -- its pieces, in their order, to the record where they end; a piece goes forward, so a record at or below the start is settled.
 -- Assumes nothing.
 use mathlib.Core.Path.{_≡_, refl, sym, ap, _∙_}
-use mathlib.Core.Bool.{Bool, true, false}
+use mathlib.Core.Bool.{Bool}
 use mathlib.Core.List.{List, [], _∷_}
 use mathlib.Core.Option.{Option, none, some}
 use mathlib.Core.Logic.{_⊎_, inl, inr, ⊎-elim}
@@ -12,7 +12,7 @@ use lib.Dec.{T}
 use Rattle.doubles.specs.Double.{Double, plusZero, sum, atMost, isNumber, isFinite}
 use Rattle.cutting.specs.Cuttings.{Piece, Rule, Slot, nth}
 use Rattle.cutting.specs.Records.{offeredAll, standing, best, standsAt}
-use Rattle.refusal.proofs.Lists.{below-or}
+use Rattle.refusal.proofs.Lists.{none-some, below-or}
 
 -- What is asked of a rule. A piece is not empty, ends within the text and has a finite score. A sum that counts is a number,
 -- one that is at least as great counts too, and so does what it was added to.
@@ -25,16 +25,8 @@ pub record Pieces (end : ℕ) (rule : Rule) : Type 0 where
   pub up : (x y : Double) → T (rule .counts x) → T (atMost x y) → T (rule .counts y)
   pub back : (x y : Double) → T (isFinite y) → T (rule .counts (sum x y)) → T (rule .counts x)
 
--- nothing is not something
-pub no-piece : {A : Type 0} {x : A} → none ≡ some x → ⊥
-no-piece e = let z : _≡_ {A = ℕ} 0 1 = cc in omega arith
-
--- and one thing is one thing
 pub some-same : {A : Type 0} {x y : A} → some x ≡ some y → x ≡ y
 some-same e = cc
-
-pub true-false : {b : Bool} → b ≡ true → b ≡ false → ⊥
-true-false p q = let z : _≡_ {A = ℕ} 0 1 = cc in omega arith
 
 -- there is one, or there is none
 pub looked : {A : Type 0} (o : Option A) → (o ≡ none) ⊎ ((x : A) × (o ≡ some x))
@@ -98,7 +90,7 @@ module _ (rule : Rule) where
   record-stands (suc j) x l e = by-record (best rule (suc j) (suc j)) refl
     where
       by-record : (o : Option Slot) → best rule (suc j) (suc j) ≡ o → (r : Slot) × (best rule (suc j) (suc j) ≡ some r) × (r .score ≡ x)
-      by-record none h = absurd (no-piece (sym (ap (standing (suc j)) h) ∙ e))
+      by-record none h = absurd (none-some (sym (ap (standing (suc j)) h) ∙ e))
       by-record (some r) h = (r, h, let same : some (r .score) ≡ some x = sym (ap (standing (suc j)) h) ∙ e in let one : r .score ≡ x = cc in one)
 
 -- records at or below the start come to are settled

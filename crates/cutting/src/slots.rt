@@ -1,10 +1,9 @@
-// A slot by value, read from and written to the three lent columns. A slot is empty where its start is the mark.
+// A slot by value, read from and written to the three lent columns. "empty (start and id 4,294,967,295, score 0)": a slot is empty
+// where its start is the mark.
+use refusal::NO_ID;
 ghost use mathlib.Core.Path.{_≡_};
 ghost use Rattle.cutting.specs.Cuttings.{Slot};
 ghost use Rattle.cutting.specs.Slots.{slotAt, held, Inside, PutAt, Cleared, taken, slotsIs, slotsWas};
-
-// "empty (start and id 4,294,967,295, score 0)"
-const EMPTY: u32 = 4_294_967_295;
 
 // Where the last piece starts, its id, and the score of the cutting that it ends.
 pub struct Slot {
@@ -45,7 +44,7 @@ pub fn offer(start: &mut [u32], slot_id: &mut [u32], slot_score: &mut [f64], j: 
         (slotsIs start «slot_id» «slot_score»)) ⌝ }
 {
     let standing = slot_at(start, slot_id, slot_score, j);
-    if standing.start == EMPTY {
+    if standing.start == NO_ID {
         put(start, slot_id, slot_score, j, q);
         return;
     }
@@ -67,8 +66,8 @@ pub fn clear(start: &mut [u32], slot_id: &mut [u32], slot_score: &mut [f64], n: 
             slot_score,
             j,
             Slot {
-                start: EMPTY,
-                id: EMPTY,
+                start: NO_ID,
+                id: NO_ID,
                 score: 0.0,
             },
         );

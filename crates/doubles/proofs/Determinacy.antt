@@ -1,14 +1,13 @@
 -- Each promise of this crate fixes its answer. A sum, a lower double and a score are promised by their units, and the format has one value for
 -- each double; a number has one pattern. What the format holds is asked of the answers: every `f64` is so. Assumes nothing.
 use mathlib.Core.Path.{_≡_, refl, sym, ap, ap₂, _∙_, subst}
-use Prim.Native.Nat.{ℕ, _^_, _<_}
-use native.Mathlib.Omega.{arith}
-use mathlib.Core.Bool.{Bool, true, _&&_}
+use Prim.Native.Nat.{_^_, _<_}
+use mathlib.Core.Bool.{Bool, true}
 use mathlib.Core.List.{List, [], _∷_, map}
 use lib.Dec.{T}
 use lib.Ieee.{Float}
 use lib.Ieee.Fits.{and-l, and-r}
-use Rattle.doubles.specs.Double.{Double, notANumber, infinite, isNumber, isFinite, ofPattern}
+use Rattle.doubles.specs.Double.{Double, notANumber, infinite, isNumber, isFinite}
 use Rattle.doubles.specs.Units.{units, held, allHeld}
 use Rattle.doubles.specs.Pattern.{Reads, Written}
 use Rattle.doubles.specs.declared.Pattern.{Pattern}

@@ -17,7 +17,7 @@ use lib.Ieee.Nearest.{closest, closest-same}
 use lib.Ieee.Bits.{ofBits-toBits}
 use lib.Ieee.Scale
 use borrow.Author.Tests.{lt-ltb}
-use Rattle.doubles.specs.Double.{Double, notANumber, infinite, finite, one, rounded, round, sumFinite, sum, less, same, atMost, isNumber, isFinite, isDouble}
+use Rattle.doubles.specs.Double.{Double, notANumber, infinite, finite, one, rounded, round, sumFinite, sum, less, same, atMost, isNumber, isDouble}
 use Rattle.doubles.specs.Units.{units}
 use Rattle.doubles.proofs.Rounding.{drop, rounded-is, short-kept}
 use Rattle.doubles.proofs.Order.{same-test}
@@ -277,15 +277,3 @@ unfolding isNan units isNumber
 nan-is-no-number nan = refl
 nan-is-no-number (inf s) = refl
 nan-is-no-number (fin s m e) = refl
-
-pub finite-is-finite : (x : Float) → Scale.finite x ≡ isFinite (units x)
-unfolding units isFinite
-finite-is-finite nan = refl
-finite-is-finite (inf s) = refl
-finite-is-finite (fin s m e) = refl
-
-pub infinity-is-infinite : (x : Float) (s : Bool) → units x ≡ infinite s → x ≡ inf s
-unfolding units isNumber isFinite
-infinity-is-infinite nan s e = absurd (subst (λ (d : Double). T (isNumber d)) (sym e) tt)
-infinity-is-infinite (inf t) s e = ap inf (cc)
-infinity-is-infinite (fin t m k) s e = absurd (subst (λ (d : Double). T (not (isFinite d))) (sym e) tt)

@@ -3,7 +3,7 @@
 use mathlib.Core.Path.{_≡_, refl, sym, ap, ap₂, _∙_, subst}
 use mathlib.Core.Logic.{_⊎_, inl, inr}
 use Prim.Native.Nat.{ℕ, suc, _+_, _-_, _≤_, _<_}
-use native.Mathlib.Nat.{le-trans, le-of-eq, le-of-lt, lt-of-lt-of-le, lt-of-le-of-lt, lt-irrefl, le-antisymm, eq-or-lt-of-le, not-le-of-lt}
+use native.Mathlib.Nat.{le-trans, le-of-eq, le-of-lt, lt-of-le-of-lt, le-antisymm, eq-or-lt-of-le, not-le-of-lt}
 use native.Mathlib.Omega.{arith}
 use mathlib.Core.Bool.{Bool, true, false, not, _&&_, _||_, Bool·beq, cond}
 use lib.Dec.{T, leb, ltb, eqb, leb→le, le→leb, ltb→lt, lt→ltb, nltb→le, eqb→eq, not-T}
@@ -181,13 +181,6 @@ three a b c p q r = go (magnitude a) (magnitude b) (magnitude c)
     go : (x y z : ℕ) → (T (isNumber a) × (x < suc (x + y + z))) × (T (isNumber b) × (y < suc (x + y + z))) × (T (isNumber c) × (z < suc (x + y + z)))
     go x y z = ((p, omega arith), (q, omega arith), (r, omega arith))
 
-pub less-irrefl : (a : Double) → T (less a a) → ⊥
-less-irrefl a t =
-    let p = less-numbers a a t .0 in
-    let B = bound a a a in
-    let h = three a a a p p p .0 in
-    lt-irrefl (height B a) (less→lt B a a h h t)
-
 pub less-at-most : (a b : Double) → T (less a b) → T (atMost a b)
 unfolding atMost
 less-at-most a b t = or-l (less a b) (same a b) t
@@ -209,13 +202,6 @@ at-most-not-less a b t =
     let u = three a b b (n .0) (n .1) (n .1) in
     not-T (less b a) (λ l. not-le-of-lt (less→lt B b a (u .1) (u .0) l) (at-most→le B a b (u .0) (u .1) t))
 
-pub at-most-total : (a b : Double) → T (isNumber a) → T (isNumber b) → T (atMost a b) ⊎ T (atMost b a)
-at-most-total a b p q = go (less a b) (less-at-most a b) (not-less-at-most a b p q)
-  where
-    go : (t : Bool) → (T t → T (atMost a b)) → (T (not t) → T (atMost b a)) → T (atMost a b) ⊎ T (atMost b a)
-    go true f g = inl (f tt)
-    go false f g = inr (g tt)
-
 pub at-most-antisymm : (a b : Double) → T (atMost a b) → T (atMost b a) → T (same a b)
 at-most-antisymm a b t u =
     let n = at-most-numbers a b t in
@@ -230,22 +216,12 @@ at-most-trans a b c t u =
     let w = three a b c (at-most-numbers a b t .0) (n .0) (n .1) in
     le→at-most B a c (w .0) (w .2) (le-trans (at-most→le B a b (w .0) (w .1) t) (at-most→le B b c (w .1) (w .2) u))
 
-pub less-at-most-trans : (a b c : Double) → T (less a b) → T (atMost b c) → T (less a c)
-less-at-most-trans a b c t u =
-    let n = at-most-numbers b c u in
-    let B = bound a b c in
-    let w = three a b c (less-numbers a b t .0) (n .0) (n .1) in
-    lt→less B a c (w .0) (w .2) (lt-of-lt-of-le (less→lt B a b (w .0) (w .1) t) (at-most→le B b c (w .1) (w .2) u))
-
 pub at-most-less-trans : (a b c : Double) → T (atMost a b) → T (less b c) → T (less a c)
 at-most-less-trans a b c t u =
     let n = less-numbers b c u in
     let B = bound a b c in
     let w = three a b c (at-most-numbers a b t .0) (n .0) (n .1) in
     lt→less B a c (w .0) (w .2) (lt-of-le-of-lt (at-most→le B a b (w .0) (w .1) t) (less→lt B b c (w .1) (w .2) u))
-
-pub less-trans : (a b c : Double) → T (less a b) → T (less b c) → T (less a c)
-less-trans a b c t u = less-at-most-trans a b c t (less-at-most b c u)
 
 -- ---- equal numbers are one and the same, but for the two zeros
 

@@ -3,11 +3,11 @@
 use mathlib.Core.Path.{_≡_, refl, sym, ap, _∙_, subst}
 use mathlib.Core.Logic.{_⊎_, inl, inr}
 use Prim.Native.Nat.{ℕ, zero, suc, _+_, _-_, _*_, _/_, _%_, _^_, _≤_, _<_, zero-le, compare, Ordering, Ordering·lt, Ordering·eq, Ordering·gt}
-use native.Mathlib.Nat.{le-trans, le-of-eq, le-of-lt, lt-of-le-of-lt, eq-or-lt-of-le, add-zero, suc-mul, mod-lt, mul-assoc, mul-one, mul-le-mul-right, div-one, mod-one, div-add-mod', le-div-iff-mul-le, pow-succ'}
+use native.Mathlib.Nat.{le-trans, le-of-eq, le-of-lt, lt-of-le-of-lt, eq-or-lt-of-le, add-zero, suc-mul, mod-lt, mul-assoc, mul-one, mul-le-mul-right, div-one, mod-one, div-add-mod', le-div-iff-mul-le}
 use native.Mathlib.Numerals.{add-one}
 use native.Mathlib.Omega.{arith}
 use mathlib.Core.Bool.{Bool, true, false, not}
-use lib.Dec.{T, leb, isLe, isEq, leb→le, nleb→lt, eqb→eq, lit<}
+use lib.Dec.{T, leb, isLe, isEq, leb→le, nleb→lt, eqb→eq}
 use lib.Pow.{pow-add, pow-pos, pow-mono, shl-lt}
 use lib.Ieee.{size, nearest}
 use lib.Ieee.Digits.{size-lt, size-le, size-reaches}
@@ -112,16 +112,6 @@ pub short-kept : (q j : ℕ) → q < 2 ^ 53 → rounded (q * 2 ^ j) ≡ q * 2 ^ 
 short-kept q j h =
     let n = q * 2 ^ j in
     exact n (q * 2 ^ (j - drop n)) (split q j (drop n) (spare (size n) j (size-le n (53 + j) (shl-lt 53 j h))))
-
-at-most-kept : (q j : ℕ) → q ≤ 2 ^ 53 → rounded (q * 2 ^ j) ≡ q * 2 ^ j
-at-most-kept q j h =
-    elim (eq-or-lt-of-le h) [
-      | inl e ↦ subst (λ (x : ℕ). rounded x ≡ x) (sym (ap (λ (x : ℕ). x * 2 ^ j) e ∙ mul-assoc (2 ^ 52) 2 (2 ^ j) ∙ ap (λ (x : ℕ). 2 ^ 52 * x) (sym (pow-succ' 2 j)))) (short-kept (2 ^ 52) (suc j) (lit< tt))
-      | inr l ↦ short-kept q j l
-    ]
-
-pub rounded-idem : (n : ℕ) → rounded (rounded n) ≡ rounded n
-rounded-idem n = subst (λ (x : ℕ). rounded x ≡ x) (sym (rounded-is n)) (at-most-kept (closest n (2 ^ drop n)) (drop n) (kept-le n))
 
 -- ---- how far rounding goes
 

@@ -2,13 +2,12 @@
 -- the sum. What comes out is a double, since rounding twice is rounding once. Assumes nothing.
 use mathlib.Core.Path.{_≡_, refl, sym, ap, _∙_, subst}
 use Prim.Native.Nat.{ℕ, zero, suc, _+_, _-_, _*_, _^_, _≤_, _<_, zero-le, suc-le-suc}
-use native.Mathlib.Nat.{le-refl, add-comm, add-le-add}
+use native.Mathlib.Nat.{le-refl, add-le-add}
 use native.Mathlib.Omega.{arith}
-use mathlib.Core.Bool.{Bool, true, false, not, Bool·beq, cond, true≢false}
-use lib.Dec.{T, ltb, eqb, ltb→lt, lt→ltb, nltb→le, lit<}
-use lib.Ieee.Fits.{eq→eqb, and-i}
-use Rattle.doubles.specs.Double.{Double, notANumber, infinite, finite, one, rounded, round, sumFinite, sum, atMost, isNumber, isFinite, isDouble}
-use Rattle.doubles.proofs.Rounding.{rounded-mono, rounded-idem, short-kept}
+use mathlib.Core.Bool.{Bool, true, false, not, cond, true≢false}
+use lib.Dec.{T, ltb, ltb→lt, nltb→le, lit<}
+use Rattle.doubles.specs.Double.{Double, notANumber, infinite, finite, one, rounded, round, sumFinite, sum, atMost, isNumber, isFinite}
+use Rattle.doubles.proofs.Rounding.{rounded-mono, short-kept}
 use Rattle.doubles.proofs.Order.{upper, lower, at-most-finite, minus-plus, plus-plus, minus-minus, zeros-level}
 
 -- ---- a rounded number with a sign
@@ -113,12 +112,6 @@ rounds-number (minus x a) = by-size (λ (d : Double). T (isNumber d)) true x (λ
 sum-finite-number : (s : Bool) (m : ℕ) (t : Bool) (n : ℕ) → T (isNumber (sumFinite s m t n))
 sum-finite-number s m t n = rounds-number (sum-rounds s m t n)
 
-pub finite-is-number : (a : Double) → T (isFinite a) → T (isNumber a)
-unfolding isFinite isNumber
-finite-is-number notANumber h = absurd h
-finite-is-number (infinite s) h = absurd h
-finite-is-number (finite s n) h = tt
-
 -- a number plus a finite is a number
 pub sum-number : (a s : Double) → T (isNumber a) → T (isFinite s) → T (isNumber (sum a s))
 unfolding sum isNumber isFinite
@@ -154,57 +147,7 @@ sum-mono a b (finite u k) f h = add-mono u k a b h
 
 -- ---- the order of the two does not matter
 
-sum-finite-comm : (s : Bool) (m : ℕ) (t : Bool) (n : ℕ) → sumFinite s m t n ≡ sumFinite t n s m
-unfolding sumFinite
-sum-finite-comm false m false n = ap (round false) (add-comm m n)
-sum-finite-comm true m true n = ap (round true) (add-comm m n)
-sum-finite-comm false m true n = refl
-sum-finite-comm true m false n = refl
-
-pub sum-comm : (a b : Double) → sum a b ≡ sum b a
-unfolding sum
-sum-comm notANumber notANumber = refl
-sum-comm notANumber (infinite t) = refl
-sum-comm notANumber (finite t n) = refl
-sum-comm (infinite s) notANumber = refl
-sum-comm (infinite true) (infinite true) = refl
-sum-comm (infinite true) (infinite false) = refl
-sum-comm (infinite false) (infinite true) = refl
-sum-comm (infinite false) (infinite false) = refl
-sum-comm (infinite s) (finite t n) = refl
-sum-comm (finite s m) notANumber = refl
-sum-comm (finite s m) (infinite t) = refl
-sum-comm (finite s m) (finite t n) = sum-finite-comm s m t n
-
 -- ---- a sum is a double
-
-round-is-double : (s : Bool) (n : ℕ) → T (isDouble (round s n))
-unfolding isDouble limit
-round-is-double s n =
-    by-size (λ (d : Double). T (isDouble d)) s n
-    (λ h. and-i (eqb (rounded (rounded n)) (rounded n)) (ltb (rounded n) limit) (eq→eqb (rounded-idem n)) (lt→ltb (rounded n) limit h))
-    (λ _. tt)
-
-rounds-double : {d : Double} {p q : ℕ} → Rounds d p q → T (isDouble d)
-rounds-double (plus x a) = round-is-double false x
-rounds-double (minus x a) = round-is-double true x
-
-infinities-double : (s t : Bool) → T (isDouble (cond (Bool·beq s t) (infinite s) notANumber))
-unfolding isDouble
-infinities-double true true = tt
-infinities-double true false = tt
-infinities-double false true = tt
-infinities-double false false = tt
-
-pub sum-is-double : (a b : Double) → T (isDouble (sum a b))
-unfolding sum isDouble
-sum-is-double notANumber b = tt
-sum-is-double (infinite s) notANumber = tt
-sum-is-double (infinite s) (infinite t) = infinities-double s t
-sum-is-double (infinite s) (finite t n) = tt
-sum-is-double (finite s m) notANumber = tt
-sum-is-double (finite s m) (infinite t) = tt
-sum-is-double (finite s m) (finite t n) = rounds-double (sum-rounds s m t n)
 
 -- ---- -0 is no sum but of -0
 

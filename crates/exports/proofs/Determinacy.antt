@@ -18,7 +18,7 @@ use Rattle.build.proofs.Promises.{promised-once}
 use Rattle.scored.specs.Build.{Report}
 use Rattle.unigram.specs.Pieces.{Model}
 use Rattle.unigram.specs.Segment.{Scratch}
-use Rattle.unigram.specs.Core.{scratchOf, Cut}
+use Rattle.unigram.specs.Checked.{scratchOf, Cut}
 use Rattle.unigram.proofs.Determinacy.{scratch-once, cut-once}
 use Rattle.wordpiece.proofs.Determinacy as words
 use Rattle.pack.specs.Build as packs

@@ -20,7 +20,7 @@ ghost use Rattle.trie.specs.Trie.{idOf, parts, partsNow};
 ghost use Rattle.trie.specs.Sound.{sound, soundScored};
 ghost use Rattle.trie.specs.Lookup.{lookupFault, lookupAnswer};
 ghost use Rattle.unigram.specs.Work.{model, modelNow};
-ghost use Rattle.unigram.specs.Core.{Prepared, Cut, scratchIs, scratchWas};
+ghost use Rattle.unigram.specs.Checked.{Prepared, Cut, scratchIs, scratchWas};
 ghost use Rattle.wordpiece.specs.Pieces.{idsOf};
 ghost use Rattle.wordpiece.specs.Checked.{Ready};
 ghost use Rattle.refusal.specs.Places.{overlay};

@@ -1,7 +1,7 @@
 -- What is printed of a pack that was judged: the refusal of one that has a fault, and else the lines in the trie that its build left in the first places
 -- of the lent columns, which is the pack's. Assumes nothing.
 use mathlib.Core.Path.{_≡_, refl, sym, ap, ap₂, _∙_, subst}
-use mathlib.Core.Bool.{Bool, true, false, not, _&&_}
+use mathlib.Core.Bool.{Bool, true, false, _&&_}
 use mathlib.Core.List.{List, [], _∷_, map}
 use mathlib.Core.Option.{Option, none, some}
 use Prim.Native.Nat.{ℕ, zero, suc, _+_, _-_, _*_, _≤_, _<_}
@@ -15,14 +15,13 @@ use Rattle.doubles.specs.Units.{units}
 use Rattle.refusal.specs.declared.Fault.{Fault}
 use Rattle.refusal.specs.declared.Fault.the-variants as fault
 use Rattle.refusal.specs.declared.Reason.{Reason}
-use Rattle.refusal.specs.Sizes.{maxTable}
 use Rattle.refusal.specs.Refusal.{faultOf}
-use Rattle.refusal.proofs.Tests.{neither-says, not-found}
+use Rattle.refusal.proofs.Tests.{neither-says}
 use Rattle.text.specs.Ascii.{ascii}
 use Rattle.text.specs.Text.{wellFormed}
 use Rattle.text.proofs.Spans.{fault-part, part-inside, text-fine}
 use Rattle.text.specs.Span.{spanOf, spanFault, givenFor}
-use Rattle.trie.specs.Trie.{Trie, partsOf}
+use Rattle.trie.specs.Trie.{partsOf}
 use Rattle.trie.proofs.Every.{first, second}
 use Rattle.rows.specs.declared.Kind.{Kind}
 use Rattle.rows.specs.declared.Kind.the-variants.{Unigram, WordPiece}

@@ -2,7 +2,7 @@
 -- than the line has bytes. Assumes nothing.
 use mathlib.Core.Path.{_≡_, sym, ap, _∙_}
 use mathlib.Core.List.{List, []}
-use mathlib.Core.Option.{Option, none}
+use mathlib.Core.Option.{Option}
 use Prim.Native.Nat.{ℕ, _≤_}
 use native.Mathlib.Omega.{arith}
 use lib.Ieee.{Float}
@@ -14,10 +14,9 @@ use Rattle.refusal.specs.declared.CodeAnswer.{CodeAnswer}
 use Rattle.refusal.specs.declared.CodeAnswer.the-variants.{Ids, Refused}
 use Rattle.refusal.specs.Places.{overlay}
 use Rattle.refusal.proofs.Codings.{refused-exactly, told-ids}
-use Rattle.text.specs.Text.{characters}
 use Rattle.text.proofs.Boundaries.{characters-le}
 use Rattle.unigram.specs.Segment.{Scratch, Lengths, lengthsOf}
-use Rattle.unigram.specs.Core.{scratchOf, lengths}
+use Rattle.unigram.specs.Checked.{scratchOf, lengths}
 use Rattle.coder.specs.Vocabulary.{Vocabulary, faultIn, idsIn, CodedIn}
 use Rattle.coder.proofs.Codes.{ids-few, places-enough, ids-stand}
 use Rattle.output.specs.Lines.{printedIds, printedRefusal}

@@ -1,11 +1,10 @@
 -- What is printed as a whole: too much input prints its refusal alone, and else the lines print one after the other. Assumes nothing.
-use mathlib.Core.Path.{_≡_, refl, sym, ap, _∙_}
+use mathlib.Core.Path.{_≡_, sym, ap}
 use mathlib.Core.Bool.{Bool, true, false}
 use mathlib.Core.List.{List, flatMap}
 use Prim.Native.Nat.{ℕ, _≤_, _<_}
 use native.Mathlib.Omega.{arith}
 use borrow.Author.Tests.{lt-ltb, le-ltb}
-use lib.Dec.{ltb}
 use lib.ListN.{length, take, length-take}
 use Rattle.refusal.specs.declared.Fault.the-variants as fault
 use Rattle.text.specs.Ascii.{ascii}

@@ -1,7 +1,7 @@
 -- What the program `ids` prints: a function of the bytes of `vocab.pack` and of standard input. Definitions only; assumes nothing.
 use Prim.Native.Nat.{ℕ, _+_, _*_}
-use mathlib.Core.Bool.{true, false, cond}
-use mathlib.Core.List.{List, [], _∷_, _++_, flatMap}
+use mathlib.Core.Bool.{true, false}
+use mathlib.Core.List.{List, [], flatMap}
 use mathlib.Core.Option.{Option, none, some}
 use lib.ListN.{length, replicate}
 use Rattle.doubles.specs.Double.{Double, plusZero}
@@ -15,7 +15,7 @@ use Rattle.rows.specs.declared.Kind.the-variants.{Unigram, WordPiece}
 use Rattle.build.specs.Memory.{Memory, memory, withScores}
 use Rattle.build.specs.Promise.{trieIn}
 use Rattle.unigram.specs.Segment.{Lengths}
-use Rattle.unigram.specs.Core.{lengths}
+use Rattle.unigram.specs.Checked.{lengths}
 use Rattle.coder.specs.Vocabulary.{Vocabulary, unigramOf, wordpieceOf, faultIn, idsIn}
 use Rattle.pack.specs.Pack.{headerOf, rowsOf, stringsOf, prefixOf}
 use Rattle.pack.specs.Build.{packFault, theKind, modelOf}

@@ -9,7 +9,7 @@ ghost use mathlib.Core.List.{flatMap};
 ghost use Prim.Native.Nat.{_+_, _*_, _≤_};
 ghost use lib.ListN.{length};
 ghost use Rattle.unigram.specs.Segment.{lengthsOf};
-ghost use Rattle.unigram.specs.Core.{scratchNow};
+ghost use Rattle.unigram.specs.Checked.{scratchNow};
 ghost use Rattle.coder.specs.Vocabulary.{soundIn};
 ghost use Rattle.coder.specs.Columns.{vocabulary, vocabularyNow};
 ghost use Rattle.output.specs.Lines.{lines};

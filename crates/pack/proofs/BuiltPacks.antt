@@ -2,23 +2,23 @@
 -- sound, so `segment` and `encode` never refuse them with 8. The cut is the trie since N nodes have N places of each node column and N - 1
 -- edges, and the rest of each column is behind them. Assumes nothing.
 use mathlib.Core.Path.{_≡_, refl, sym, ap, _∙_, subst}
-use mathlib.Core.Bool.{Bool, true, false}
+use mathlib.Core.Bool.{true}
 use mathlib.Core.List.{List}
 use mathlib.Core.Option.{Option, none, some}
-use Prim.Native.Nat.{ℕ, _+_, _≤_, _<_}
+use Prim.Native.Nat.{ℕ, _+_, _≤_}
 use native.Mathlib.Omega.{arith}
 use lib.Dec.{T}
 use lib.Ieee.{Float, binary64, ofBits}
 use lib.Ieee.Bits.{ofBits-fits}
-use lib.ListN.{length, getD, take, drop, length-drop}
+use lib.ListN.{length, take, drop, length-drop}
 use lib.Seq.{getD-drop}
-use Rattle.doubles.specs.Double.{Double, plusZero, isDouble, ofPattern}
+use Rattle.refusal.proofs.Lists.{zero-one}
+use Rattle.doubles.specs.Double.{Double, isDouble, ofPattern}
 use Rattle.doubles.specs.Units.{units}
 use Rattle.doubles.proofs.Floats.{units-is-double}
 use Rattle.doubles.proofs.Patterns.{pattern-is-double}
 use Rattle.refusal.specs.declared.Fault.the-variants as fault
 use Rattle.refusal.specs.declared.Reason.the-variants as reason
-use Rattle.refusal.specs.Sizes.{maxPrefix}
 use Rattle.text.specs.Text.{wellFormed}
 use Rattle.text.specs.Span.{spanOf}
 use Rattle.trie.specs.Trie.{Trie}
@@ -42,10 +42,9 @@ use Rattle.wordpiece.proofs.BuiltTries as words
 use Rattle.pack.specs.declared.header.Header as code-header
 use Rattle.pack.specs.declared.PackAnswer.the-variants as answer-is
 use Rattle.pack.specs.Pack.{headerOf, kindOf, rowsOf, stringsOf, prefixOf}
-use Rattle.pack.specs.Build.{nodesOf, contentFault, packJudged, packFault, Report, unigram, wordpiece, told, reportOf, theKind, modelOf, PackBuilt}
+use Rattle.pack.specs.Build.{nodesOf, contentFault, packJudged, packFault, unigram, wordpiece, told, reportOf, theKind, modelOf, PackBuilt}
 use Rattle.pack.specs.Reading.{headerIs, PackFine}
-use Rattle.pack.proofs.Headers.{short-prefix}
-use Rattle.pack.proofs.Faults.{judged-wrong, judged-laid, not-large, rows-fine, prefix-inside, prefix-text}
+use Rattle.pack.proofs.Faults.{judged-wrong, judged-laid, rows-fine, prefix-inside, prefix-text}
 use Rattle.pack.proofs.Scoring.{scores-length, scores-at}
 use Rattle.pack.proofs.Promised.{few-rows}
 
@@ -142,8 +141,7 @@ told-unigram bytes {n = n} {u = u} {d = d} e = go (theKind bytes) refl
         let h = headerOf bytes in
         let t : unigram n u d ≡ wordpiece (nodesOf WordPiece bytes) (h .unknown) (h .maxChars) (h .prefixOff) (h .prefixLen) =
         e ∙ ap (λ (x : Kind). reportOf x bytes) p in
-        let z : _≡_ {A = ℕ} 0 1 = cc in
-        absurd (omega arith)
+        absurd (zero-one cc)
 
 record ToldWordPiece (bytes : List ℕ) (n u c off len : ℕ) : Type 0 where
   kind : theKind bytes ≡ WordPiece
@@ -166,8 +164,7 @@ told-wordpiece bytes {n = n} {u = u} {c = c} {off = off} {len = len} e = go (the
     go Unigram p =
         let t : wordpiece n u c off len ≡ unigram (nodesOf Unigram bytes) (headerOf bytes .unknown) (unknownScore (scoresOf (rowsOf Unigram bytes))) =
         e ∙ ap (λ (x : Kind). reportOf x bytes) p in
-        let z : _≡_ {A = ℕ} 0 1 = cc in
-        absurd (omega arith)
+        absurd (zero-one cc)
 
 -- of a Unigram pack
 module _ (bytes : List ℕ) (m after : Memory) (n unknown : ℕ) (lowest : Float) (good : Bytes bytes) (b : PackBuilt bytes m (answer-is.Unigram n unknown lowest) after) where
@@ -280,9 +277,6 @@ module _ (bytes : List ℕ) (m after : Memory) (n unknown most off len : ℕ) (g
 
   pub wordpiece-prefix-inside : off + len ≤ length (stringsOf bytes)
   wordpiece-prefix-inside = omega (arith, spoke .start, spoke .size, prefix-inside WordPiece bytes nothing-wrong)
-
-  pub wordpiece-prefix-short : len ≤ maxPrefix
-  wordpiece-prefix-short = omega (arith, spoke .size, short-prefix (headerOf bytes) (not-large WordPiece bytes nothing-wrong))
 
   pub wordpiece-prefix-text : wellFormed (prefixOf bytes) ≡ true
   wordpiece-prefix-text = prefix-text WordPiece bytes nothing-wrong

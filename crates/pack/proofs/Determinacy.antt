@@ -1,14 +1,14 @@
 -- The promise of a build from a pack fixes what it answers and what it leaves: each field is an equation with a value of the inputs. Scores are
 -- promised as doubles, of which the format has one value each. And it is refused with r exactly where r is the pack's fault. Assumes nothing.
-use mathlib.Core.Path.{_≡_, refl, ap}
+use mathlib.Core.Path.{_≡_, ap}
 use mathlib.Core.Logic.{_↔_}
 use mathlib.Core.Bool.{Bool, true}
 use mathlib.Core.List.{List, [], map}
 use mathlib.Core.Option.{none, some}
 use Prim.Native.Nat.{ℕ}
-use native.Mathlib.Omega.{arith}
 use lib.Dec.{T}
 use lib.Ieee.{Float}
+use Rattle.refusal.proofs.Lists.{zero-one}
 use Rattle.doubles.specs.Units.{units, held, allHeld}
 use Rattle.doubles.proofs.Floats.{units-injective}
 use Rattle.doubles.proofs.Determinacy.{column-once}
@@ -60,8 +60,8 @@ module _ (bytes : List ℕ) (m m₁ m₂ : Memory) (a b : PackAnswer) (x₁ x₂
 -- an answer that says a reason is that refusal
 told-refused : (a : PackAnswer) (r : Reason) → told a ≡ refused r → a ≡ answer-is.Refused r
 unfolding told
-told-refused (answer-is.Unigram n u x) r e = absurd (let z : _≡_ {A = ℕ} 0 1 = cc in omega arith)
-told-refused (answer-is.WordPiece n u c off len) r e = absurd (let z : _≡_ {A = ℕ} 0 1 = cc in omega arith)
+told-refused (answer-is.Unigram n u x) r e = absurd (zero-one cc)
+told-refused (answer-is.WordPiece n u c off len) r e = absurd (zero-one cc)
 told-refused (answer-is.Refused q) r e = let same : q ≡ r = cc in ap answer-is.Refused same
 
 -- "exactly when", both ways: refused with r exactly where r is the fault, and what the pack gives is told exactly where there is none

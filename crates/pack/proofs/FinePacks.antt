@@ -6,6 +6,7 @@ use Prim.Native.Nat.{ℕ, _-_, _≤_}
 use native.Mathlib.Omega.{arith}
 use lib.Ieee.{Float}
 use lib.ListN.{length, take, drop}
+use Rattle.refusal.proofs.Lists.{zero-one}
 use Rattle.doubles.specs.Double.{Double}
 use Rattle.doubles.specs.Units.{units}
 use Rattle.rows.specs.declared.Kind.{Kind}
@@ -102,13 +103,13 @@ module _ {bytes : List ℕ} {kind : Kind} {h : code-header.Header} (f : PackFine
   left-scored {ids = ids} {n = n} {before = before} k e =
       record {
         scored = λ p. e ∙ ap (λ rows. filledScores (scoresOf rows) (take n ids) before) (rows-read Unigram);
-        bare = λ p. let z : Unigram ≡ WordPiece = sym k ∙ p in let y : _≡_ {A = ℕ} 0 1 = cc in absurd (omega arith);
+        bare = λ p. let z : Unigram ≡ WordPiece = sym k ∙ p in absurd (zero-one cc);
       }
 
   pub left-bare :
       {ids : List ℕ} {n : ℕ} {before after : List Double} → kind ≡ WordPiece → after ≡ zeroScores before → ScoresLeft bytes kind ids n before after
   left-bare k e =
       record {
-        scored = λ p. let z : Unigram ≡ WordPiece = sym p ∙ k in let y : _≡_ {A = ℕ} 0 1 = cc in absurd (omega arith);
+        scored = λ p. let z : Unigram ≡ WordPiece = sym p ∙ k in absurd (zero-one cc);
         bare = λ p. e;
       }

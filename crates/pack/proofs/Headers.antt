@@ -5,8 +5,8 @@ use mathlib.Core.List.{List}
 use mathlib.Core.Option.{none, some}
 use Prim.Native.Nat.{ℕ, _+_, _*_, _≤_, _<_}
 use native.Mathlib.Omega.{arith}
-use borrow.Author.Tests.{le-leb, eq-eqb, ne-eqb, eqb-true, lt-leb, ltb-false}
-use lib.Dec.{leb, eqb, ltb}
+use borrow.Author.Tests.{le-leb, eq-eqb, ne-eqb, eqb-true, lt-leb}
+use lib.Dec.{leb, eqb}
 use lib.ListN.{length}
 use Rattle.refusal.specs.Sizes.{maxRows, maxTable, maxPrefix, above}
 use Rattle.refusal.proofs.Tests.{or-left, neither-says}
@@ -128,6 +128,3 @@ module _ (h : Header) where
 
     pub small-table : h .stringsLen ≤ maxTable
     small-table = within-limits (h .rows) (h .stringsLen) (tested .0) .1
-
-    pub short-prefix : h .prefixLen ≤ maxPrefix
-    short-prefix = ltb-false maxPrefix (h .prefixLen) (tested .1)

@@ -19,18 +19,15 @@ use Rattle.rows.specs.declared.Kind.the-variants.{Unigram, WordPiece}
 use Rattle.rows.specs.Rows.{Row}
 use Rattle.build.specs.declared.Built as core
 use Rattle.build.specs.declared.Built.the-variants.{Nodes, NoRoom}
-use Rattle.build.specs.Rules.{scoresOf}
 use Rattle.build.specs.Given.{firstOf}
 use Rattle.build.specs.Memory.{Memory, withScores, noScoredRoom, holding, zeroScores}
-use Rattle.build.specs.Core.{roomOf, RoomFor, BuiltOf}
+use Rattle.build.specs.Checked.{roomOf, RoomFor, BuiltOf}
 use Rattle.build.specs.Promise.{trieIn, scoresIn, Told, built, refused, Promised}
 use Rattle.build.proofs.Rooms.{scored-room-for, scores-roomy, scored-decides, nodes-some, nodes-few}
 use Rattle.build.proofs.Outcomes.{core-fits, core-room}
 use Rattle.build.proofs.Promises.{built-bad, core-short, core-left, core-held}
-use Rattle.scored.specs.NodeScores.{filledScores}
 use Rattle.scored.proofs.Builds.{scores-filled}
 use Rattle.pack.specs.declared.header.Header as code-header
-use Rattle.pack.specs.declared.PackAnswer.{PackAnswer}
 use Rattle.pack.specs.declared.PackAnswer.the-variants as answer-is
 use Rattle.pack.specs.Pack.{rowsFrom, rowsOf, stringsOf}
 use Rattle.pack.specs.Build.{nodesOf, packJudged, Report, told, reportOf, theKind, PackBuilt}

@@ -4,9 +4,9 @@ use mathlib.Core.Bool.{Bool, true, false, not}
 use mathlib.Core.List.{List}
 use mathlib.Core.Option.{none}
 use Prim.Native.Nat.{ℕ, _+_}
-use native.Mathlib.Omega.{arith}
 use lib.Dec.{T}
 use lib.Ieee.{Float, ofBits, binary64}
+use Rattle.refusal.proofs.Lists.{zero-one}
 use Rattle.doubles.specs.Double.{Double, notANumber, infinite, isFinite, ofPattern}
 use Rattle.doubles.specs.Units.{units}
 use Rattle.doubles.specs.Pattern.{Reads}
@@ -39,14 +39,14 @@ score-finite {d = d} x r e =
     let read : (units x ≡ d) × T (isFinite d) = subst (λ (q : Pattern). Reads q d) e r in
     record {
       very = λ f. read .0;
-      endless = λ f. let z : _≡_ {A = ℕ} 0 1 = cc (true-of (isFinite d) (read .1)) in absurd (omega arith);
+      endless = λ f. absurd (zero-one (cc (true-of (isFinite d) (read .1))));
     }
 
 endless-read : {x d : Double} → isFinite d ≡ false → x ≡ infinite false → ScoreRead x d
 unfolding isFinite
 endless-read {x = x} {d = d} n e =
     record {
-      very = λ f. let z : _≡_ {A = ℕ} 0 1 = cc in absurd (omega arith);
+      very = λ f. absurd (zero-one cc);
       endless = λ f. ap isFinite e;
     }
 

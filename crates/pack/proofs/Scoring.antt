@@ -4,7 +4,7 @@ use mathlib.Core.List.{List, map}
 use Prim.Native.Nat.{ℕ, suc, _+_, _-_, _≤_, _<_}
 use native.Mathlib.Omega.{arith}
 use lib.ListN.{length, getD, length-map, List·getD-eq-default}
-use Rattle.doubles.specs.Double.{Double, plusZero, minusTen, sum, isFinite, lowerOf}
+use Rattle.doubles.specs.Double.{Double, plusZero, isFinite, lowerOf}
 use Rattle.rows.specs.declared.Kind.the-variants.{Unigram}
 use Rattle.rows.specs.Rows.{Row, score}
 use Rattle.rows.specs.Scores.{lowest, lowestOf}

@@ -18,7 +18,7 @@ use Rattle.rows.specs.Rows.{firstBad}
 use Rattle.rows.specs.Columns.{tooLarge}
 use Rattle.rows.specs.Scores.{unknownScore}
 use Rattle.build.specs.Rules.{scoresOf}
-use Rattle.build.specs.Core as builds
+use Rattle.build.specs.Checked as builds
 use Rattle.build.specs.Memory.{Memory, noScoredRoom}
 use Rattle.build.specs.Promise.{trieIn, scoresIn, buildFault, Told, built, refused, Promised}
 use Rattle.unigram.specs.Pieces.{Model}

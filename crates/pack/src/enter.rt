@@ -17,7 +17,7 @@ ghost use Rattle.build.specs.Rules.{tokensOf};
 ghost use Rattle.build.specs.Given.{firstOf, valueOf, rulesFrom, noRule};
 ghost use Rattle.build.specs.Held.{Roomy, Planted, RowEntered, RowDone};
 ghost use Rattle.build.specs.Memory.{memoryIs, memoryNow, memoryWas};
-ghost use Rattle.build.specs.Core.{RoomFor, BuiltOf};
+ghost use Rattle.build.specs.Checked.{RoomFor, BuiltOf};
 ghost use Rattle.pack.specs.Pack.{rowAt, rowsFrom};
 ghost use Rattle.pack.specs.Reading.{rowStart, FineRows, valueIn, RowReady};
 ghost use Rattle.refusal.specs.Lent.{is, was};

@@ -2,8 +2,8 @@
 use crate::judge::Found;
 use refusal::Reason;
 
+mod checked;
 mod enter;
-mod fine;
 pub mod header;
 mod judge;
 mod row;
@@ -51,7 +51,7 @@ pub fn build(
     let found = judge::judge(bytes);
     match found {
         Found::Refused(r) => PackAnswer::Refused(r),
-        Found::Fine(kind, h) => fine::build_fine(
+        Found::Fine(kind, h) => checked::build_fine(
             kind,
             h,
             bytes,

@@ -3,6 +3,7 @@ use mathlib.Core.Path.{_≡_, refl, ap}
 use mathlib.Core.Bool.{Bool, true, false}
 use mathlib.Core.List.{List, [], _∷_, map}
 use mathlib.Core.Logic.{_⊎_, inl, inr}
+use mathlib.Core.Option.{none, some}
 use Prim.Native.Nat.{ℕ, zero, suc, _≤_, _<_}
 use native.Mathlib.Omega.{arith}
 use borrow.Author.Tests.{leb-true, leb-false}
@@ -12,6 +13,16 @@ use lib.ListN.{length, getD, set}
 -- what would make 0 and 1 equal can't be
 pub zero-one : _≡_ {A = ℕ} 0 1 → ⊥
 zero-one e = omega (arith, e)
+
+-- nothing is not something, and false is not true: from there anything follows
+pub none-some {ℓ} : {A : Type 0} {B : Type ℓ} {x : A} → none ≡ some x → B
+none-some e = absurd (zero-one cc)
+
+pub false-true {ℓ} : {B : Type ℓ} → false ≡ true → B
+false-true e = absurd (zero-one cc)
+
+pub true-false : {b : Bool} → b ≡ true → b ≡ false → ⊥
+true-false p q = zero-one cc
 
 -- one number below the other, or not
 pub below-or : (i j : ℕ) → (i < j) ⊎ (j ≤ i)

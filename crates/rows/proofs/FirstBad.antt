@@ -7,6 +7,7 @@ use mathlib.Core.Option.{Option, none, some}
 use Prim.Native.Nat.{ℕ, zero, suc, _+_, _-_, _≤_, _<_}
 use native.Mathlib.Omega.{arith}
 use lib.ListN.{length, getD}
+use Rattle.refusal.proofs.Lists.{zero-one}
 use Rattle.refusal.specs.declared.Fault.{Fault}
 use Rattle.refusal.specs.declared.Reason.{Reason}
 use Rattle.refusal.specs.declared.Reason.the-variants as reason
@@ -94,7 +95,7 @@ module _ (kind : Kind) (tab : List ℕ) where
         (n : ℕ) (rs : List Row) (w : Reason)
         → firstBad kind tab n rs ≡ some w → (f : Fault) × (k : ℕ) × (w ≡ reason.Row f (n + k)) × IsFirstBad kind tab d rs f k
     unfolding firstBad
-    first-bad-says n [] w e = let z : _≡_ {A = ℕ} 0 1 = cc in absurd (omega arith)
+    first-bad-says n [] w e = absurd (zero-one cc)
     first-bad-says n (r ∷ rs) w e = go (λ a. first-bad-says (suc n) rs w a) (rowFault kind tab r) refl
       where
         go : (firstBad kind tab (suc n) rs ≡ some w → Found (suc n) rs w) → (o : Option Fault) → rowFault kind tab r ≡ o → Found n (r ∷ rs) w

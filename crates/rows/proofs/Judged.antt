@@ -9,6 +9,7 @@ use Prim.Native.Nat.{ℕ, _+_, _<_}
 use native.Mathlib.Omega.{arith}
 use borrow.Author.Tests.{ltb-true, ltb-false, lt-ltb}
 use lib.ListN.{length}
+use Rattle.refusal.proofs.Lists.{zero-one}
 use Rattle.refusal.specs.declared.Fault.{Fault}
 use Rattle.refusal.specs.declared.Fault.the-variants as fault
 use Rattle.refusal.specs.declared.Reason.{Reason}
@@ -57,8 +58,7 @@ module _ (kind : Kind) (tab : List ℕ) (c : Columns) (f : Fault) (i : ℕ) wher
     where
       go : (t : Bool) → size kind tab c ≡ t → Sized tab c × IsBadRow kind tab c f i
       go true p =
-          let z : _≡_ {A = ℕ} 0 1 = cc (sizes-first kind tab c ∙ found (size kind tab c) (reason.Call fault.Size) (rows-left kind tab c) p) in
-          absurd (omega arith)
+          absurd (zero-one (cc (sizes-first kind tab c ∙ found (size kind tab c) (reason.Call fault.Size) (rows-left kind tab c) p)))
       go false p =
           let s = unsized kind tab c p in
           (s, from-rows (first-bad-exactly kind tab (rowAt c 0) (rowsOf c) f i .0 (sym (within kind tab c s) ∙ e)))
@@ -87,8 +87,7 @@ module _ (kind : Kind) (tab : List ℕ) (c : Columns) where
           record { few = ltb-false maxRows (length (c .off)) p; small = ltb-false maxTable (length tab) q; flat = r } in
           let w = first-bad-says kind tab (rowAt c 0) 0 (rowsOf c) (reason.Call fault.Size) (sym (within kind tab c fits) ∙ e) in
           let named : reason.Call fault.Size ≡ reason.Row (w .0) (0 + w .1) = w .2 in
-          let z : _≡_ {A = ℕ} 0 1 = cc in
-          absurd (omega arith)
+          absurd (zero-one cc)
 
   pub size-found : Oversized tab c → columnsFault kind tab c ≡ some (reason.Call fault.Size)
   size-found o =

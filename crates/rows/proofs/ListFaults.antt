@@ -1,38 +1,29 @@
 -- A row list as a whole: 1 for its sizes, then the first bad row. A list without a fault is within its sizes and each of its rows is fine, so its
 -- tokens are short text inside the table and its worths are finite scores, or real ids. Assumes nothing.
-use mathlib.Core.Path.{_≡_, refl, sym, ap, _∙_, subst}
+use mathlib.Core.Path.{_≡_, refl, sym, ap, _∙_}
 use mathlib.Core.Bool.{Bool, true, false, not, _||_, cond}
-use mathlib.Core.List.{List, map}
+use mathlib.Core.List.{List}
 use mathlib.Core.Logic.{_↔_}
 use mathlib.Core.Option.{Option, none, some}
 use Prim.Native.Nat.{ℕ, _+_, _≤_, _<_}
 use native.Mathlib.Omega.{arith}
 use borrow.Author.Tests.{lt-ltb, le-ltb, ltb-false, not-false}
-use lib.Dec.{T}
-use lib.Ieee.{Float, nan, binary64, fits}
-use lib.ListN.{length, getD, replicate, length-map, length-replicate, getD-replicate}
+use lib.ListN.{length, getD, replicate, length-replicate, getD-replicate}
 use lib.Seq.{ext-getD}
-use Rattle.doubles.specs.Double.{Double, plusZero, isFinite, isDouble}
-use Rattle.doubles.specs.Units.{units}
-use Rattle.doubles.proofs.Floats.{units-is-double}
+use Rattle.doubles.specs.Double.{Double, plusZero, isFinite}
 use Rattle.refusal.specs.declared.Fault.the-variants as fault
 use Rattle.refusal.specs.declared.Reason.{Reason}
 use Rattle.refusal.specs.declared.Reason.the-variants as reason
-use Rattle.refusal.specs.Sizes.{maxRows, maxTable, maxToken, noId, above}
+use Rattle.refusal.specs.Sizes.{maxRows, maxTable, noId, above}
 use Rattle.refusal.specs.Refusal.{refuse}
-use Rattle.text.specs.Text.{wellFormed}
-use Rattle.text.specs.Span.{spanOf}
 use Rattle.rows.specs.declared.Kind.{Kind}
 use Rattle.rows.specs.declared.Kind.the-variants.{Unigram, WordPiece}
 use Rattle.rows.specs.Rows.{score, id, rowFault, firstBad}
 use Rattle.rows.specs.Columns.{Columns, rowAt, rowsOf, tooLarge, level, columnsFault}
-use Rattle.rows.specs.Scores.{unknownScore}
-use Rattle.rows.specs.Answers.{columns, Level}
 use Rattle.refusal.proofs.Tests.{or-left, or-right, neither, neither-says, passed, found, not-found}
-use Rattle.rows.proofs.RowFaults.{fine-inside, fine-short, fine-token-length, fine-text, fine-worth, fine-score, fine-id}
-use Rattle.rows.proofs.RowLists.{rows-length, rows-at, level-scored, level-score, lists-level, getD-map-inside}
+use Rattle.rows.proofs.RowFaults.{fine-inside, fine-worth, fine-score, fine-id}
+use Rattle.rows.proofs.RowLists.{rows-length, rows-at, level-scored}
 use Rattle.rows.proofs.FirstBad.{none-bad-says, none-bad-found}
-use Rattle.rows.proofs.LowestScores.{Scored, unknown-finite}
 
 -- ---- which fault
 
@@ -127,9 +118,6 @@ module _ (kind : Kind) (tab : List ℕ) (c : Columns) where
     pub rows-few : length (c .off) ≤ maxRows
     rows-few = none-says fine .sized .few
 
-    pub table-small : length tab ≤ maxTable
-    table-small = none-says fine .sized .small
-
     pub columns-level : level c ≡ true
     columns-level = none-says fine .sized .flat
 
@@ -141,18 +129,6 @@ module _ (kind : Kind) (tab : List ℕ) (c : Columns) where
       pub row-inside : getD (c .off) i 0 + getD (c .len) i 0 ≤ length tab
       unfolding rowAt
       row-inside = fine-inside kind tab (rowAt c i) row-has-none
-
-      pub row-short : getD (c .len) i 0 ≤ maxToken
-      unfolding rowAt
-      row-short = fine-short kind tab (rowAt c i) row-has-none
-
-      pub row-token-length : length (spanOf tab (getD (c .off) i 0) (getD (c .len) i 0)) ≡ getD (c .len) i 0
-      unfolding rowAt
-      row-token-length = fine-token-length kind tab (rowAt c i) row-has-none
-
-      pub row-text : wellFormed (spanOf tab (getD (c .off) i 0) (getD (c .len) i 0)) ≡ true
-      unfolding rowAt
-      row-text = fine-text kind tab (rowAt c i) row-has-none
 
 -- a worth picked by a bool that is a score, or an id
 picked-score : (t : Bool) (x : Double) (n : ℕ) (y : Double) → cond t (score x) (id n) ≡ score y → (t ≡ true) × (x ≡ y)
@@ -176,9 +152,6 @@ module _ (tab : List ℕ) (c : Columns) (i : ℕ) (h : i < length (c .off)) wher
     pub unigram-scored : getD (c .scored) i false ≡ true
     unigram-scored = unigram-worth .0
 
-    pub unigram-finite : isFinite (getD (c .score) i plusZero) ≡ true
-    unigram-finite = unigram-worth .1
-
     pub unigram-row : rowAt c i .worth ≡ score (getD (c .score) i plusZero)
     unfolding rowAt
     unigram-row = rw unigram-scored
@@ -195,13 +168,6 @@ module _ (tab : List ℕ) (c : Columns) (i : ℕ) (h : i < length (c .off)) wher
     pub wordpiece-numbered : getD (c .scored) i false ≡ false
     wordpiece-numbered = wordpiece-worth .0
 
-    pub wordpiece-id : getD (c .id) i 0 ≡ noId → ⊥
-    wordpiece-id = wordpiece-worth .1
-
-    pub wordpiece-row : rowAt c i .worth ≡ id (getD (c .id) i 0)
-    unfolding rowAt
-    wordpiece-row = rw wordpiece-numbered
-
 -- so the column of kinds of a Unigram list without a fault says of every row that it has a score
 pub all-scored : (tab : List ℕ) (c : Columns) → columnsFault Unigram tab c ≡ none → c .scored ≡ replicate (length (c .off)) true
 all-scored tab c fine =
@@ -211,28 +177,3 @@ all-scored tab c fine =
     (λ i h. let k : i < n = omega (arith, long) in unigram-scored tab c i k fine ∙ sym (getD-replicate n i true false k))
 
 -- ---- what it says of the lent lists
-
--- they have one length, as the functions of `checked` ask
-pub lists-fine :
-    (kind : Kind) (tab off len : List ℕ) (scored : List Bool) (scores : List Float) (ids : List ℕ)
-    → columnsFault kind tab (columns off len scored scores ids) ≡ none → Level off len scored scores ids
-lists-fine kind tab off len scored scores ids fine =
-    lists-level off len scored scores ids (columns-level kind tab (columns off len scored scores ids) fine)
-
--- the unknown score of a Unigram list without a fault is finite
-module _
-    (tab off len : List ℕ) (scored : List Bool) (scores : List Float) (ids : List ℕ)
-    (fine : columnsFault Unigram tab (columns off len scored scores ids) ≡ none)
-    (good : (k : ℕ) → k < length scores → T (fits binary64 (getD scores k nan)))
-  where
-    each : (k : ℕ) → k < length (map units scores) → Scored (getD (map units scores) k plusZero)
-    each k h =
-        let c = columns off len scored scores ids in
-        let inside : k < length scores = omega (arith, length-map scores units) in
-        let row : k < length off = omega (arith, level-score c (columns-level Unigram tab c fine)) in (
-          subst (λ (x : Double). T (isDouble x)) (sym (getD-map-inside units scores k nan plusZero inside)) (units-is-double (getD scores k nan) (good k inside)),
-          subst T (sym (unigram-finite tab c k row fine)) tt,
-        )
-
-    pub unknown-fine : T (isFinite (unknownScore (map units scores)))
-    unknown-fine = unknown-finite (map units scores) each

@@ -6,16 +6,14 @@ use mathlib.Core.Logic.{⊎-elim}
 use Prim.Native.Nat.{ℕ, zero, suc, _-_, _≤_, _<_}
 use native.Mathlib.Omega.{arith}
 use lib.Dec.{T}
-use lib.Ieee.{Float, nan, binary64, fits}
-use lib.ListN.{length, getD, take, drop, drop-of-length-le, length-map}
+use lib.Ieee.{Float, nan}
+use lib.ListN.{length, getD, take, drop, drop-of-length-le}
 use lib.Seq.{drop-cons, take-all}
 use Rattle.doubles.specs.Double.{Double, plusZero, minusTen, sum, atMost, isNumber, isFinite, isDouble, lowerOf}
 use Rattle.doubles.specs.Units.{units}
 use Rattle.doubles.proofs.Order.{lower-is-one, lower-at-most, at-most-refl, at-most-trans}
 use Rattle.doubles.proofs.Largest.{minus-ten-finite}
-use Rattle.doubles.proofs.Floats.{units-is-double}
 use Rattle.rows.specs.Scores.{lowest, lowestOf, unknownScore}
-use Rattle.rows.proofs.RowLists.{getD-map-inside}
 
 -- ---- a loop over the scores: the lowest of the first and the rest is that of what was found and what is left
 
@@ -101,16 +99,3 @@ unknown-finite [] h = tt
 unknown-finite (x ∷ xs) h =
     let s : Scored (lowest x xs) = lowest-in Scored x xs (h 0 (omega arith)) (λ k l. h (suc k) (omega arith)) in
     minus-ten-finite (lowest x xs) (s .0) (s .1)
-
--- of a lent column of finite scores
-pub unknown-finite-floats :
-    (score : List Float)
-    → ((k : ℕ) → k < length score → T (fits binary64 (getD score k nan)))
-    → ((k : ℕ) → k < length score → T (isFinite (units (getD score k nan))))
-    → T (isFinite (unknownScore (map units score)))
-unknown-finite-floats score good fine =
-    unknown-finite (map units score)
-    (λ k h.
-    let inside : k < length score = omega (arith, length-map score units) in
-    subst Scored (sym (getD-map-inside units score k nan plusZero inside))
-    (units-is-double (getD score k nan) (good k inside), fine k inside))

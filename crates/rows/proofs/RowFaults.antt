@@ -1,15 +1,16 @@
 -- One row: which test gives which fault, and what a row without a fault says. The first test that finds a fault decides, so a fault of a
 -- later test is given only where each test before it found nothing. Assumes nothing.
-use mathlib.Core.Path.{_≡_, refl, ap, _∙_}
-use mathlib.Core.Bool.{Bool, true, false, not}
+use mathlib.Core.Path.{_≡_, refl, _∙_}
+use mathlib.Core.Bool.{true, false}
 use mathlib.Core.List.{List}
-use mathlib.Core.Option.{Option, none, some}
+use mathlib.Core.Option.{none, some}
 use Prim.Native.Nat.{ℕ, _+_, _≤_, _<_}
 use native.Mathlib.Omega.{arith}
 use borrow.Author.Tests.{lt-ltb, le-ltb, ltb-false, eq-eqb, ne-eqb, eqb-false, not-false}
 use lib.Dec.{ltb}
 use lib.Ieee.{Float}
 use lib.ListN.{length, length-take, length-drop}
+use Rattle.refusal.proofs.Lists.{zero-one}
 use Rattle.doubles.specs.Double.{Double, isFinite}
 use Rattle.doubles.specs.Units.{units}
 use Rattle.refusal.specs.declared.Fault.{Fault}
@@ -58,12 +59,12 @@ module _ {w : code-worth.Worth} where
 pub fine-score : (w : Worth) → worthFault Unigram w ≡ none → (x : Double) × (w ≡ score x) × (isFinite x ≡ true)
 unfolding worthFault
 fine-score (score x) e = (x, refl, not-false (isFinite x) (passed _ _ _ e .0))
-fine-score (id i) e = let z : _≡_ {A = ℕ} 0 1 = cc in absurd (omega arith)
+fine-score (id i) e = absurd (zero-one cc)
 
 -- of a WordPiece row an id that is not the mark for none
 pub fine-id : (w : Worth) → worthFault WordPiece w ≡ none → (i : ℕ) × (w ≡ id i) × (i ≡ noId → ⊥)
 unfolding worthFault
-fine-id (score x) e = let z : _≡_ {A = ℕ} 0 1 = cc in absurd (omega arith)
+fine-id (score x) e = absurd (zero-one cc)
 fine-id (id i) e = (i, refl, eqb-false i noId (passed _ _ _ e .0))
 
 -- ---- the row

@@ -30,7 +30,7 @@ use Rattle.build.specs.Parts.{lay, trieOf}
 use Rattle.build.specs.Rules.{tokensOf, firstRow, scoreOf, scoresOf, nodeScore, unigramTrie, unigramScores}
 use Rattle.build.specs.Given.{given}
 use Rattle.build.specs.Memory.{Memory, withScores, noScoredRoom, holding, zeroScores}
-use Rattle.build.specs.Core.{roomOf, nodesOf, BuiltOf}
+use Rattle.build.specs.Checked.{roomOf, nodesOf, BuiltOf}
 use Rattle.build.specs.Promise.{trieIn, scoresIn, Told, built, Promised}
 use Rattle.build.proofs.Rooms.{scored-room-for, scores-roomy, scored-decides, nodes-some}
 use Rattle.build.proofs.Outcomes.{core-fits, core-room}

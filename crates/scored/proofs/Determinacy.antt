@@ -1,14 +1,14 @@
 -- The promise of `build` fixes what it answers and what it leaves. Scores are promised as doubles, of which the format has one value each, so that the
 -- answer and the score column themselves are fixed too.
-use mathlib.Core.Path.{_≡_, refl, ap, ap₂}
+use mathlib.Core.Path.{_≡_, ap, ap₂}
 use mathlib.Core.Bool.{Bool, true}
 use mathlib.Core.Logic.{_↔_}
-use mathlib.Core.Option.{Option, none, some}
+use mathlib.Core.Option.{none, some}
 use Prim.Native.Nat.{ℕ}
-use native.Mathlib.Omega.{arith}
 use mathlib.Core.List.{List, [], map}
 use lib.Dec.{T}
 use lib.Ieee.{Float}
+use Rattle.refusal.proofs.Lists.{zero-one}
 use Rattle.refusal.specs.declared.Reason.{Reason}
 use Rattle.doubles.specs.Double.{Double}
 use Rattle.doubles.specs.Units.{units, held, allHeld}
@@ -17,7 +17,7 @@ use Rattle.doubles.proofs.Determinacy.{column-once}
 use Rattle.rows.specs.declared.Kind.the-variants.{Unigram}
 use Rattle.rows.specs.Columns.{Columns, rowsOf, columnsFault}
 use Rattle.build.specs.Memory.{Memory, withScores, noScoredRoom}
-use Rattle.build.specs.Core.{nodesOf}
+use Rattle.build.specs.Checked.{nodesOf}
 use Rattle.build.specs.Promise.{Told, built, refused, buildFault}
 use Rattle.build.proofs.Promises.{promised-once, refused-exactly, accepted-exactly}
 use Rattle.scored.specs.declared.BuildAnswer.{BuildAnswer}
@@ -67,13 +67,10 @@ unfolding told
 told-refused b r = (λ e. ap told e, says b)
   where
     says : (b : BuildAnswer) → told b ≡ refused r → b ≡ answer-is.Refused r
-    says (answer-is.Built s) e = absurd (let z : _≡_ {A = ℕ} 0 1 = cc in omega arith)
+    says (answer-is.Built s) e = absurd (zero-one cc)
     says (answer-is.Refused q) e = let same : q ≡ r = cc in ap answer-is.Refused same
 
 module _ (tab : List ℕ) (c : Columns) (m : Memory) (answer : BuildAnswer) (after : Memory) (p : Built tab c m answer after) where
-  abbrev found : Option Reason
-  found = buildFault (columnsFault Unigram tab c) (noScoredRoom (nodesOf tab (rowsOf c)) m)
-
   pub build-refused-exactly : (r : Reason) → (answer ≡ answer-is.Refused r) ↔ (buildFault (columnsFault Unigram tab c) (noScoredRoom (nodesOf tab (rowsOf c)) m) ≡ some r)
   build-refused-exactly r =
       let one = told-refused answer r in

@@ -8,7 +8,7 @@ use Rattle.rows.specs.Rows.{Row}
 use Rattle.rows.specs.Columns.{Columns, rowsOf, columnsFault}
 use Rattle.rows.specs.Scores.{unknownScore}
 use Rattle.build.specs.Rules.{scoresOf}
-use Rattle.build.specs.Core.{nodesOf}
+use Rattle.build.specs.Checked.{nodesOf}
 use Rattle.build.specs.Memory.{Memory, noScoredRoom}
 use Rattle.build.specs.Promise.{Told, built, refused, Promised}
 use Rattle.scored.specs.declared.BuildAnswer.{BuildAnswer}

@@ -3,7 +3,7 @@ use refusal::Reason;
 use rows::Kind;
 use rows::columns::RowsAnswer;
 
-pub mod fine;
+pub mod checked;
 pub mod scores;
 
 ghost use Rattle.rows.specs.Answers.{columnsWas};
@@ -49,7 +49,7 @@ pub fn build(
     let found = rows::columns::judge(Kind::Unigram, tab, off, len, scored, score, id);
     match found {
         RowsAnswer::Refused(r) => BuildAnswer::Refused(r),
-        RowsAnswer::Fine => fine::build_rows(
+        RowsAnswer::Fine => checked::build_rows(
             tab,
             off,
             len,

@@ -11,17 +11,17 @@ use lib.Dec.{ltb, eqb}
 use lib.Ieee.{Float}
 use lib.ListN.{length, getD, take, replicate, length-map, length-replicate, getD-replicate}
 use lib.Seq.{sets, sets-eq, length-sets, take-append-seam, ext-getD}
+use Rattle.refusal.proofs.Lists.{zero-one}
 use Rattle.doubles.specs.Double.{Double, plusZero}
 use Rattle.doubles.specs.Units.{units}
 use Rattle.refusal.specs.declared.Fault.the-variants as fault
 use Rattle.refusal.specs.declared.Reason.{Reason}
 use Rattle.refusal.specs.declared.Reason.the-variants as reason
-use Rattle.refusal.specs.Sizes.{maxRows, maxTable, above}
 use Rattle.refusal.specs.Refusal.{numberOf, refuse}
 use Rattle.refusal.specs.Places.{zeroed}
 use Rattle.refusal.proofs.Tests.{neither-says, passed}
 use Rattle.rows.specs.declared.Kind.the-variants.{Unigram}
-use Rattle.rows.specs.Rows.{Row, Worth, score, id, worthFault, rowFault, firstBad}
+use Rattle.rows.specs.Rows.{Row, Worth, score, id, worthFault, firstBad}
 use Rattle.rows.specs.Columns.{Columns, rowAt, rowsOf, tooLarge, level, columnsFault}
 use Rattle.rows.proofs.FirstBad.{none-bad-says}
 use Rattle.rows.proofs.RowFaults.{fine-worth}
@@ -29,7 +29,7 @@ use Rattle.rows.proofs.NeverRoom.{bad-not-room, sized-not-room}
 use Rattle.rows.proofs.RowLists.{rows-length, rows-at, getD-map-inside}
 use Rattle.rows.proofs.ListFaults.{within-sizes}
 use Rattle.build.specs.Rules.{scoreOf}
-use Rattle.build.specs.Core.{nodesOf}
+use Rattle.build.specs.Checked.{nodesOf}
 use Rattle.build.specs.Memory.{Memory, anyBelow, noScoredRoom, cleared, zeroScores, leaves}
 use Rattle.build.specs.Promise.{buildFault, Promised}
 use Rattle.build.proofs.Promises.{fault-found, fault-left, built-bad, built-short, refused-moved}
@@ -164,7 +164,7 @@ module _ (rs : List Row) (off len : List ℕ) (scores : List Float) (start : Row
 worth-scored : (w : Worth) → worthFault Unigram w ≡ none → score (scoreOf w) ≡ w
 unfolding worthFault scoreOf
 worth-scored (score x) e = refl
-worth-scored (id i) e = absurd (let z : _≡_ {A = ℕ} 0 1 = cc in omega arith)
+worth-scored (id i) e = absurd (zero-one cc)
 
 noRow : Row
 noRow = record { off = 0; len = 0; worth = id 0 }

@@ -17,7 +17,7 @@ use Rattle.refusal.specs.Places.{zeroed}
 use Rattle.rows.specs.declared.Kind.the-variants as kind
 use Rattle.rows.specs.Rows.{Row, firstBad}
 use Rattle.rows.specs.Columns.{tooLarge}
-use Rattle.build.specs.Core.{nodesOf}
+use Rattle.build.specs.Checked.{nodesOf}
 use Rattle.build.specs.Memory.{Memory, anyBelow, noScoredRoom, zeroScores, leaves}
 use Rattle.build.specs.Promise.{buildFault, Promised}
 use Rattle.scored.specs.declared.BuildAnswer.{BuildAnswer}

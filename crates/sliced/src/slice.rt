@@ -8,7 +8,7 @@ use rows::Row;
 use rows::Worth;
 use rows::columns::RowsAnswer;
 use scored::BuildAnswer;
-use scored::fine;
+use scored::checked;
 ghost use mathlib.Core.Path.{_≡_};
 ghost use mathlib.Core.Bool.{false};
 ghost use mathlib.Core.List.{[], _∷_, map};
@@ -155,7 +155,7 @@ fn build_first(
         (scoredMemoryIs «edge_at» «edge_n» «node_id» «node_score» byte to work) ⌝ }
 {
     let first = &off[..n];
-    fine::build_rows(
+    checked::build_rows(
         tab,
         first,
         &len[..n],

@@ -1,20 +1,21 @@
 -- Boundaries and characters of a well-formed text, end to end. A text cut at a boundary is two texts (`cut`), so what holds of the first
 -- character of a text holds of the one at any boundary. Assumes nothing.
 use mathlib.Core.Path.{_≡_, refl, sym, ap, _∙_}
-use mathlib.Core.Bool.{Bool, true, false, not, cond}
+use mathlib.Core.Bool.{Bool, true, false, cond}
 use mathlib.Core.List.{List, [], _∷_, _++_}
 use Prim.Native.Nat.{ℕ, zero, suc, _+_, _-_, _≤_, _<_}
 use native.Mathlib.Nat.{zero-add, add-zero}
 use native.Mathlib.Omega.{arith}
 use borrow.Author.Tests.{leb-true, leb-false}
 use lib.Dec.{leb}
-use lib.ListN.{length, getD, take, drop, length-drop, take-append-drop}
-use lib.Seq.{take-add, take-length, getD-drop, drop-drop}
-use Rattle.text.specs.Text.{tail, lengthOf, wellFormed, boundary, next, characters, part}
-use Rattle.text.proofs.Characters.{Front, one, two, three, four, false-true, second-tail, lead-no-tail}
-use Rattle.text.proofs.Characters.{front-positive, front-at-most-four, front-inside, front-lead, front-take, front-boundary, front-no-boundary}
+use lib.ListN.{length, getD, take, drop, length-drop}
+use lib.Seq.{take-add, getD-drop, drop-drop}
+use Rattle.refusal.proofs.Lists.{false-true}
+use Rattle.text.specs.Text.{tail, lengthOf, wellFormed, boundary, next, characters}
+use Rattle.text.proofs.Characters.{Front, one, two, three, four, second-tail, lead-no-tail}
+use Rattle.text.proofs.Characters.{front-positive, front-inside, front-lead, front-take, front-boundary, front-no-boundary}
 use Rattle.text.proofs.Reading.{at-most-one}
-use Rattle.text.proofs.Valid.{Chars, end, more, drop-of-take, chars-well, well-chars, chars-rest}
+use Rattle.text.proofs.Valid.{Chars, end, more, drop-of-take, well-chars}
 
 -- ---- a position past a prefix
 
@@ -93,13 +94,6 @@ module _ (s : List ℕ) (well : wellFormed s ≡ true) where
   pub boundary-zero : boundary s 0 ≡ true
   boundary-zero = chars-boundary (well-chars s well)
 
-  -- a prefix up to a boundary and what follows it are well-formed
-  pub well-prefix : (i : ℕ) → boundary s i ≡ true → wellFormed (take i s) ≡ true
-  well-prefix i at = chars-well (cut (well-chars s well) i at .0)
-
-  pub well-suffix : (i : ℕ) → boundary s i ≡ true → wellFormed (drop i s) ≡ true
-  well-suffix i at = chars-well (cut (well-chars s well) i at .1)
-
   -- at a boundary below the end stands a character
   module _ (i : ℕ) (at : boundary s i ≡ true) (below : i < length s) where
     lead-byte : getD (drop i s) 0 0 ≡ getD s i 0
@@ -111,9 +105,6 @@ module _ (s : List ℕ) (well : wellFormed s ≡ true) where
     -- of one to four bytes
     pub length-positive : 1 ≤ lengthOf (getD s i 0)
     length-positive = front-positive front-at
-
-    pub length-at-most-four : lengthOf (getD s i 0) ≤ 4
-    length-at-most-four = front-at-most-four front-at
 
     -- it ends above i, inside the text, at a boundary, and there is none in between
     pub next-above : i < next s i
@@ -132,23 +123,6 @@ module _ (s : List ℕ) (well : wellFormed s ≡ true) where
         let e : i + (j - i) ≡ j = omega arith in
         ap (boundary s) (sym e) ∙ boundary-drop i s (j - i) (omega arith) ∙ front-no-boundary front-at (j - i) (omega arith) (omega arith)
 
-  -- a part between two boundaries is well-formed
-  pub part-well : (i j : ℕ) → boundary s i ≡ true → boundary s j ≡ true → i ≤ j → wellFormed (part s i j) ≡ true
-  part-well i j p q h =
-      let e : i + (j - i) ≡ j = omega arith in
-      let shifted : boundary (drop i s) (j - i) ≡ true = sym (boundary-drop i s (j - i) (boundary-le s i p)) ∙ ap (boundary s) e ∙ q in
-      chars-well (cut (cut (well-chars s well) i p .1) (j - i) shifted .0)
-
-  -- and a well-formed part that starts at a boundary ends at one
-  pub part-ends : (i j : ℕ) → boundary s i ≡ true → i ≤ j → j ≤ length s → wellFormed (part s i j) ≡ true → boundary s j ≡ true
-  part-ends i j p h inside w =
-      let e : i + (j - i) ≡ j = omega arith in
-      let whole : Chars (take (j - i) (drop i s) ++ drop (j - i) (drop i s)) =
-      rw (take-append-drop (j - i) (drop i s)) (cut (well-chars s well) i p .1)
-      in
-      let later : Chars (drop (j - i) (drop i s)) = chars-rest (well-chars (part s i j) w) (drop (j - i) (drop i s)) whole in
-      ap (boundary s) (sym (add-zero j)) ∙ boundary-drop j s 0 inside ∙ (rw (drop-drop (j - i) i s, e) at (chars-boundary later))
-
 -- ---- counting
 
 -- how many of the numbers below n pass the test
@@ -165,20 +139,6 @@ pub characters-append : (s t : List ℕ) → characters (s ++ t) ≡ characters 
 unfolding characters
 characters-append [] t = sym (zero-add (characters t))
 characters-append (b ∷ s) t = omega (arith, characters-append s t)
-
-one-or-none : (t : Bool) → _≡_ {A = ℕ} (cond (not t) 1 0) (cond t 0 1)
-one-or-none true = refl
-one-or-none false = refl
-
--- the boundaries below i are the characters before i, those below the end all of them
-pub boundaries-before : (s : List ℕ) (i : ℕ) → i ≤ length s → count (boundary s) i ≡ characters (take i s)
-unfolding boundary characters
-boundaries-before s zero h = refl
-boundaries-before [] (suc i) h = absurd (omega arith)
-boundaries-before (b ∷ s) (suc i) h = omega (arith, one-or-none (tail b), boundaries-before s i (omega arith))
-
-pub boundaries-characters : (s : List ℕ) → count (boundary s) (length s) ≡ characters s
-boundaries-characters s = boundaries-before s (length s) (omega arith) ∙ ap characters (take-length s)
 
 -- a character counts one
 front-one : {s : List ℕ} {k : ℕ} → Front s k → characters (take k s) ≡ 1

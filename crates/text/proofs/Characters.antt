@@ -5,9 +5,10 @@ use mathlib.Core.Bool.{Bool, true, false, _&&_, cond}
 use mathlib.Core.List.{List, [], _∷_, _++_}
 use Prim.Native.Nat.{ℕ, zero, suc, _≤_, _<_}
 use native.Mathlib.Omega.{arith}
-use borrow.Author.Tests.{leb-true, le-leb, lt-leb}
+use borrow.Author.Tests.{leb-true, le-leb}
 use lib.Dec.{leb, lit≤}
 use lib.ListN.{length, getD, take}
+use Rattle.refusal.proofs.Lists.{zero-one, false-true}
 use Rattle.text.specs.Text.{within, tail, tails, lengthOf, secondLow, secondHigh, rest, character, boundary}
 use Rattle.text.proofs.Entries.{length-le-four, length-low, low-above, high-below}
 
@@ -19,7 +20,7 @@ and-left false b e = e
 
 and-right : (a b : Bool) → (a && b) ≡ true → b ≡ true
 and-right true b e = e
-and-right false b e = let z : _≡_ {A = ℕ} 0 1 = cc in absurd (omega arith)
+and-right false b e = absurd (zero-one cc)
 
 pub within-low : (lo hi x : ℕ) → within lo hi x ≡ true → lo ≤ x
 within-low lo hi x e = leb-true lo x (and-left (leb lo x) (leb x hi) e)
@@ -29,12 +30,6 @@ within-high lo hi x e = leb-true x hi (and-right (leb lo x) (leb x hi) e)
 
 pub within-of : (lo hi x : ℕ) → lo ≤ x → x ≤ hi → within lo hi x ≡ true
 within-of lo hi x p q = simp (le-leb lo x p, le-leb x hi q)
-
-pub below-within : (lo hi x : ℕ) → x < lo → within lo hi x ≡ false
-below-within lo hi x p = simp (lt-leb lo x p)
-
-pub above-within : (lo hi x : ℕ) → lo ≤ x → hi < x → within lo hi x ≡ false
-above-within lo hi x p q = simp (le-leb lo x p, lt-leb x hi q)
 
 -- x is in the range of the second byte after the lead byte b
 abbrev pub second : ℕ → ℕ → Bool
@@ -75,9 +70,6 @@ front-character (one {b = b} e) = rw e
 front-character (two {b = b} e w) = rw (e, w)
 front-character (three e w y) = rw (e, w, y)
 front-character (four e w y z) = rw (e, w, y, z)
-
-pub false-true : {A : Type 0} → false ≡ true → A
-false-true e = let z : _≡_ {A = ℕ} 0 1 = cc in absurd (omega arith)
 
 rest-front : (b n : ℕ) (s : List ℕ) → lengthOf b ≡ n → n ≤ 4 → rest b n s ≡ true → Front (b ∷ s) n
 unfolding rest tails
@@ -123,12 +115,6 @@ front-positive (one e) = lit≤ tt
 front-positive (two e w) = lit≤ tt
 front-positive (three e w y) = lit≤ tt
 front-positive (four e w y z) = lit≤ tt
-
-pub front-at-most-four : {s : List ℕ} {k : ℕ} → Front s k → k ≤ 4
-front-at-most-four (one e) = lit≤ tt
-front-at-most-four (two e w) = lit≤ tt
-front-at-most-four (three e w y) = lit≤ tt
-front-at-most-four (four e w y z) = lit≤ tt
 
 pub front-inside : {s : List ℕ} {k : ℕ} → Front s k → k ≤ length s
 front-inside (one e) = omega arith

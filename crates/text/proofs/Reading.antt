@@ -10,7 +10,8 @@ use borrow.Author.Tests.{eq-eqb, ne-eqb}
 use lib.Dec.{eqb, eqb·suc-zero, eqb·suc-suc}
 use lib.ListN.{length, getD, drop, length-drop, drop-of-length-le}
 use lib.Seq.{drop-cons}
-use Rattle.text.specs.Text.{tail, tails, lengthOf, rest, character, boundary, characters}
+use Rattle.refusal.proofs.Lists.{zero-one}
+use Rattle.text.specs.Text.{tail, tails, lengthOf, rest, character, boundary}
 use Rattle.text.proofs.Characters.{second, within-low, within-high, within-of, Found, none, here, found, front-lead, front-inside}
 
 -- the byte is a tail exactly where its upper two bits are 10
@@ -23,8 +24,7 @@ tail-quarter b e = omega (arith, within-low 0x80 0xBF b e, within-high 0x80 0xBF
 pub no-tail-quarter : (b : ℕ) → tail b ≡ false → b / 64 ≡ 2 → ⊥
 no-tail-quarter b e q =
     let inside : tail b ≡ true = quarter-tail b q in
-    let z : _≡_ {A = ℕ} 0 1 = cc in
-    omega arith
+    zero-one cc
 
 pub tail-by-quarter : (b : ℕ) → eqb (b / 64) 2 ≡ tail b
 tail-by-quarter b = go (tail b) refl
@@ -130,10 +130,6 @@ module _ (s : List ℕ) (i : ℕ) where
         second (getD s i 0) (getD s (i + 1) 0) ≡ true → tails (lengthOf (getD s i 0) - 2) (drop (i + 2) s) ≡ true
         → character (drop i s) ≡ lengthOf (getD s i 0)
     character-whole e f = character-long h two ∙ rw (e, f)
-
-  pub characters-past : length s ≤ i → characters (drop i s) ≡ 0
-  unfolding characters
-  characters-past h = rw (drop-of-length-le s h)
 
   -- ---- positions
 

@@ -1,7 +1,7 @@
 -- The span check: which test gives which fault, and that its two calls are determined. The first test that finds a fault decides; an
 -- answer is the fault's and a part is the answer's, so both follow from the inputs. Assumes nothing.
-use mathlib.Core.Path.{_≡_, refl, sym, ap, _∙_}
-use mathlib.Core.Bool.{Bool, true, false, not}
+use mathlib.Core.Path.{_≡_, sym, ap, _∙_}
+use mathlib.Core.Bool.{true, false, not}
 use mathlib.Core.List.{List, []}
 use mathlib.Core.Logic.{_↔_}
 use mathlib.Core.Option.{Option, none, some}
@@ -9,7 +9,7 @@ use Prim.Native.Nat.{ℕ, _+_, _-_, _≤_, _<_}
 use native.Mathlib.Nat.{add-zero}
 use native.Mathlib.Omega.{arith}
 use borrow.Author.Tests.{lt-ltb, le-ltb, ltb-false, eq-eqb, ne-eqb, not-false}
-use lib.ListN.{length, take, drop, length-take, length-drop}
+use lib.ListN.{length, take, drop}
 use denote.Ref.{RefT}
 use Rattle.refusal.specs.declared.Fault.{Fault}
 use Rattle.refusal.specs.declared.Fault.the-variants.{Size, Span, Text}
@@ -51,9 +51,6 @@ unfolding textFault
 text-not k n s = refused-so (Not k) _ Text none n (nothing-so (Not k))
 
 module _ (tab : List ℕ) (off len : ℕ) where
-  pub span-length : off + len ≤ length tab → length (spanOf tab off len) ≡ len
-  span-length inside = simp (length-take, length-drop) (omega arith)
-
   pub fault-size : maxTable < length tab → spanFault tab off len ≡ some Size
   unfolding spanFault
   fault-size h = found _ Size _ (lt-ltb maxTable (length tab) h)

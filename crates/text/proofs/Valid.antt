@@ -1,13 +1,13 @@
 -- A well-formed text is characters, end to end: `Chars s`. It holds exactly where `wellFormed` does. Characters in front pass through
 -- `validUpTo` (`valid-over`), from which come concatenation, the longest prefix, and the turns of the loop that finds it. Assumes nothing.
 use mathlib.Core.Path.{_≡_, refl, sym, ap, _∙_}
-use mathlib.Core.Bool.{true, false}
-use mathlib.Core.List.{List, [], _++_, append-nil}
+use mathlib.Core.Bool.{true}
+use mathlib.Core.List.{List, [], _++_}
 use Prim.Native.Nat.{ℕ, zero, suc, _+_, _≤_, _<_}
 use native.Mathlib.Omega.{arith}
-use borrow.Author.Tests.{eq-eqb, ne-eqb, eqb-true}
-use lib.Dec.{eqb, eqb·suc-zero}
-use lib.ListN.{length, take, drop, length-append, length-drop, take-append-drop, drop-of-length-le}
+use borrow.Author.Tests.{eqb-true}
+use lib.Dec.{eqb·suc-zero}
+use lib.ListN.{length, take, drop, length-drop, take-append-drop, drop-of-length-le}
 use lib.Seq.{take-add, take-length, drop-at, drop-append-le, drop-drop, length-take-le}
 use Rattle.text.specs.Text.{character, validIn, validUpTo, wellFormed}
 use Rattle.text.proofs.Characters.{Front, Found, none, here, found, character-front, front-character, front-positive, front-inside, front-append, front-take}
@@ -134,62 +134,14 @@ valid-over (more {s = s} {k = k} f c) t =
 
 -- ---- well-formed
 
-pub chars-valid : {s : List ℕ} → Chars s → validUpTo s ≡ length s
-unfolding validUpTo validIn
-chars-valid {s} c = omega (arith, rw append-nil at (valid-over c []))
-
-pub chars-well : {s : List ℕ} → Chars s → wellFormed s ≡ true
-unfolding wellFormed
-chars-well {s} c = eq-eqb (validUpTo s) (length s) (chars-valid c)
-
--- as a call that has `validUpTo` tests it
-pub well-by-valid : (s : List ℕ) → wellFormed s ≡ eqb (validUpTo s) (length s)
-unfolding wellFormed
-well-by-valid s = refl
-
 pub well-valid : (s : List ℕ) → wellFormed s ≡ true → validUpTo s ≡ length s
 unfolding wellFormed
 well-valid s e = eqb-true (validUpTo s) (length s) e
-
--- valid up to less than the end, or up to the end
-pub short-ill : (s : List ℕ) → validUpTo s < length s → wellFormed s ≡ false
-short-ill s h = well-by-valid s ∙ ne-eqb (validUpTo s) (length s) (λ e. omega arith)
-
-pub whole-well : (s : List ℕ) → length s ≤ validUpTo s → wellFormed s ≡ true
-whole-well s h =
-    let e : validUpTo s ≡ length s = omega (arith, valid-le s) in
-    well-by-valid s ∙ eq-eqb (validUpTo s) (length s) e
 
 pub well-chars : (s : List ℕ) → wellFormed s ≡ true → Chars s
 well-chars s e = rw (well-valid s e, take-length) at (valid-prefix s)
 
 -- ---- the laws
-
-pub well-nil : wellFormed [] ≡ true
-well-nil = chars-well end
-
--- a concatenation of well-formed texts is well-formed
-pub chars-append : {s t : List ℕ} → Chars s → Chars t → Chars (s ++ t)
-chars-append end d = d
-chars-append {t = t} (more {s = s} {k = k} f c) d =
-    more (front-append f t) (rw (drop-append-le k s t (front-inside f)) (chars-append c d))
-
-pub well-append : (s t : List ℕ) → wellFormed s ≡ true → wellFormed t ≡ true → wellFormed (s ++ t) ≡ true
-well-append s t p q = chars-well (chars-append (well-chars s p) (well-chars t q))
-
--- well-formed text taken off the front of a well-formed one leaves one
-pub chars-rest : {s : List ℕ} → Chars s → (t : List ℕ) → Chars (s ++ t) → Chars t
-chars-rest {s} c t d =
-    let e : length s + validUpTo t ≡ length s + length t = sym (valid-over c t) ∙ chars-valid d ∙ length-append s t in
-    let whole : validUpTo t ≡ length t = omega arith in
-    rw (whole, take-length) at (valid-prefix t)
-
-pub well-rest : (s t : List ℕ) → wellFormed s ≡ true → wellFormed (s ++ t) ≡ true → wellFormed t ≡ true
-well-rest s t p q = chars-well (chars-rest (well-chars s p) t (well-chars (s ++ t) q))
-
--- the prefix that `validUpTo` measures is well-formed, and no longer one is
-pub valid-prefix-well : (s : List ℕ) → wellFormed (take (validUpTo s) s) ≡ true
-valid-prefix-well s = chars-well (valid-prefix s)
 
 pub valid-longest : (s : List ℕ) (n : ℕ) → n ≤ length s → wellFormed (take n s) ≡ true → n ≤ validUpTo s
 valid-longest s n h p =

@@ -9,9 +9,10 @@ use mathlib.Core.Logic.{⊎-elim}
 use Prim.Native.Nat.{ℕ, zero, suc, _+_, _-_, _*_, _/_, _≤_, _<_}
 use native.Mathlib.Nat.{eq-or-lt-of-le}
 use native.Mathlib.Omega.{arith}
-use borrow.Author.Tests.{eq-eqb, ne-eqb, eqb-true, eqb-false, leb-true, leb-false}
+use borrow.Author.Tests.{eq-eqb, ne-eqb, eqb-true, leb-true, leb-false}
 use lib.Dec.{leb, eqb}
 use lib.ListN.{getD}
+use Rattle.refusal.proofs.Lists.{none-some}
 use Rattle.trie.specs.Trie.{seek}
 
 -- the byte b stands nowhere from `at` up to `end`
@@ -27,9 +28,6 @@ pub record Holds (bytes tos : List ℕ) (b at n j : ℕ) : Type 0 where
   pub target : getD tos edge 0 ≡ j
 
 -- nothing is not something
-pub not-some : {j : ℕ} → none ≡ some j → ⊥
-not-some e = let z : _≡_ {A = ℕ} 0 1 = cc in omega arith
-
 -- ---- the scan
 
 module _ (bytes tos : List ℕ) (b : ℕ) where
@@ -87,7 +85,7 @@ module _ (bytes tos : List ℕ) (b : ℕ) where
 
   pub seek-found : (n at : ℕ) {j : ℕ} → seek bytes tos b at n ≡ some j → Holds bytes tos b at n j
   unfolding seek
-  seek-found zero at e = absurd (not-some e)
+  seek-found zero at e = none-some e
   seek-found (suc n) at {j} e = go (eqb (getD bytes at 0) b) refl (seek-found n (suc at)) e
     where
       later : Holds bytes tos b (suc at) n j → Holds bytes tos b at (suc n) j
@@ -99,21 +97,6 @@ module _ (bytes tos : List ℕ) (b : ℕ) where
       go true p rest q =
           record { edge = at; from = omega arith; below = omega arith; byte = eqb-true (getD bytes at 0) b p; target = cc }
       go false p rest q = later (rest q)
-
-  pub seek-clear : (n at : ℕ) → seek bytes tos b at n ≡ none → Clear bytes b at (at + n)
-  unfolding seek
-  seek-clear zero at e k p q same = omega arith
-  seek-clear (suc n) at e k p q same = go (eqb (getD bytes at 0) b) refl (seek-clear n (suc at)) e
-    where
-      go :
-          (t : Bool) → eqb (getD bytes at 0) b ≡ t → (seek bytes tos b (suc at) n ≡ none → Clear bytes b (suc at) (suc at + n))
-          → cond t (some (getD tos at 0)) (seek bytes tos b (suc at) n) ≡ none → ⊥
-      go true f rest g = not-some (sym g)
-      go false f rest g =
-          ⊎-elim
-          (λ here. eqb-false (getD bytes at 0) b f (ap (λ (i : ℕ). getD bytes i 0) here ∙ same))
-          (λ m. rest g k m (omega arith) same)
-          (eq-or-lt-of-le p)
 
   -- ---- by quarters
 
@@ -137,16 +120,6 @@ module _ (bytes tos : List ℕ) (b : ℕ) where
     later-above k j p q r =
         let e : k + suc (j - suc k) ≡ j = omega arith in
         rw e at (far-above (j - suc k) k p (omega arith))
-
-    -- the edge with the byte is the only one, so it is what is found
-    pub seek-at : (e : ℕ) → at ≤ e → e < at + n → getD bytes e 0 ≡ b → seek bytes tos b at n ≡ some (getD tos e 0)
-    seek-at e p q same =
-        let whole : n ≡ (e - at) + suc (at + n - suc e) = omega arith in
-        let here : at + (e - at) ≡ e = omega arith in
-        ap (seek bytes tos b at) whole
-        ∙ seek-skip (e - at) at (suc (at + n - suc e))
-        (λ k l m other. omega (arith, later-above k e (omega arith) (omega arith) (omega arith)))
-        ∙ rw here (seek-here e (at + n - suc e) same)
 
     -- of the `left` edges from `low` on
     module _ (low left : ℕ) (from : at ≤ low) (to : low + left ≤ at + n) where

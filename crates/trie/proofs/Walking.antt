@@ -1,20 +1,19 @@
 -- Steps and walks. A walk is its first step and the walk after it, so walks compose, each law an induction on the string. In sound parts
 -- every target is a node, so a step, and then a walk, from a node leads to a node. Neither looks at the ids. Assumes nothing.
 use mathlib.Core.Path.{_≡_, refl, sym, ap, _∙_}
-use mathlib.Core.Bool.{Bool, true, false, cond}
 use mathlib.Core.List.{List, [], _∷_, _++_}
 use mathlib.Core.Option.{Option, none, some, bind}
 use Prim.Native.Nat.{ℕ, zero, suc, _+_, _≤_, _<_}
 use native.Mathlib.Numerals.{add-one}
 use native.Mathlib.Omega.{arith}
 use borrow.Author.Tests.{eq-eqb, ne-eqb}
-use lib.Dec.{eqb}
 use lib.ListN.{length, getD, drop, drop-of-length-le}
 use lib.Seq.{drop-cons}
+use Rattle.refusal.proofs.Lists.{none-some}
 use Rattle.refusal.specs.Sizes.{noId}
-use Rattle.trie.specs.Trie.{Trie, partsOf, seek, step, walk, idAt, idFrom, idOf}
+use Rattle.trie.specs.Trie.{Trie, step, walk, idAt, idFrom, idOf}
 use Rattle.trie.specs.Sound.{Sound}
-use Rattle.trie.proofs.Seeking.{not-some, seek-found}
+use Rattle.trie.proofs.Seeking.{seek-found}
 
 -- ---- one step more
 
@@ -51,10 +50,6 @@ module _ (t : Trie) where
           → elim o [ none ↦ none | some j ↦ walk t j (s ++ u) ] ≡ bind (elim o [ none ↦ none | some j ↦ walk t j s ]) (λ i. walk t i u)
       go none all = refl
       go (some j) all = all j
-
-  pub walk-append-to : (k : ℕ) (s u : List ℕ) {j : ℕ} → walk t k s ≡ some j → walk t k (s ++ u) ≡ walk t j u
-  unfolding bind
-  walk-append-to k s u e = walk-append k s u ∙ ap (λ (o : Option ℕ). bind o (λ j. walk t j u)) e
 
   pub walk-append-none : (k : ℕ) (s u : List ℕ) → walk t k s ≡ none → walk t k (s ++ u) ≡ none
   unfolding bind
@@ -141,26 +136,6 @@ id-of t s = refl
 
 -- ---- steps and walks look at no ids
 
-module _ (edgeAt edgeN byte to ids others : List ℕ) where
-  pub step-ids : (k b : ℕ) → step (partsOf edgeAt edgeN ids byte to) k b ≡ step (partsOf edgeAt edgeN others byte to) k b
-  unfolding step
-  step-ids k b = refl
-
-  pub walk-ids : (k : ℕ) (s : List ℕ) → walk (partsOf edgeAt edgeN ids byte to) k s ≡ walk (partsOf edgeAt edgeN others byte to) k s
-  unfolding step bind
-  walk-ids k [] = walk-nil _ k ∙ sym (walk-nil _ k)
-  walk-ids k (b ∷ s) =
-      walk-cons (partsOf edgeAt edgeN ids byte to) k b s
-      ∙ go (step (partsOf edgeAt edgeN ids byte to) k b) (λ j. walk-ids j s)
-      ∙ sym (walk-cons (partsOf edgeAt edgeN others byte to) k b s)
-    where
-      go :
-          (o : Option ℕ)
-          → ((j : ℕ) → walk (partsOf edgeAt edgeN ids byte to) j s ≡ walk (partsOf edgeAt edgeN others byte to) j s)
-          → bind o (λ j. walk (partsOf edgeAt edgeN ids byte to) j s) ≡ bind o (λ j. walk (partsOf edgeAt edgeN others byte to) j s)
-      go none all = refl
-      go (some j) all = all j
-
 -- ---- in sound parts
 
 module _ {t : Trie} (sound : Sound t) where
@@ -178,5 +153,5 @@ module _ {t : Trie} (sound : Sound t) where
       go :
           (o : Option ℕ) → ((i : ℕ) → o ≡ some i → i < length (t .edgeAt)) → ((i : ℕ) → i < length (t .edgeAt) → walk t i s ≡ some j → j < length (t .edgeAt))
           → elim o [ none ↦ none | some i ↦ walk t i s ] ≡ some j → j < length (t .edgeAt)
-      go none p q h = absurd (not-some h)
+      go none p q h = none-some h
       go (some i) p q h = q i (p i refl) h

@@ -3,7 +3,7 @@
 -- the first row with that token, with that row's score. The cut is the trie since N nodes have N places of each node column and N - 1 edges,
 -- and the rest of each column is behind them. Assumes nothing.
 use mathlib.Core.Path.{_≡_, refl, sym, ap, _∙_, subst}
-use mathlib.Core.Bool.{true, false, not}
+use mathlib.Core.Bool.{true, false}
 use mathlib.Core.List.{List, [], _∷_, map}
 use mathlib.Core.Logic.{_↔_, ⊎-elim}
 use mathlib.Core.Option.{Option, none, some}
@@ -15,7 +15,6 @@ use lib.ListN.{length, getD, take, length-map}
 use Rattle.doubles.specs.Double.{Double, plusZero, isDouble}
 use Rattle.doubles.specs.Units.{units}
 use Rattle.doubles.proofs.Floats.{units-is-double}
-use Rattle.refusal.specs.declared.Fault.{Fault}
 use Rattle.refusal.specs.declared.Fault.the-variants as fault
 use Rattle.refusal.specs.declared.CodeAnswer.the-variants.{Refused}
 use Rattle.refusal.proofs.Codings.{refused-exactly}
@@ -31,10 +30,10 @@ use Rattle.build.specs.Grown.{Bytes}
 use Rattle.build.specs.Parts.{trieOf}
 use Rattle.build.specs.Rules.{tokensOf, firstRow, scoresOf, nodeScore, unigramTrie, unigramScores}
 use Rattle.build.specs.Memory.{Memory}
-use Rattle.build.specs.Core.{nodesOf}
+use Rattle.build.specs.Checked.{nodesOf}
 use Rattle.build.specs.Promise.{trieIn}
 use Rattle.build.proofs.Strings.{same-refl}
-use Rattle.build.proofs.Places.{either, none-some, found?, place-empty, place-hit, place-miss, place-below, place-at, place-nowhere}
+use Rattle.build.proofs.Places.{either, found?, place-empty, place-hit, place-miss, place-below, place-at, place-nowhere}
 use Rattle.build.proofs.Named.{grown-names}
 use Rattle.build.proofs.Laid.{walk-built}
 use Rattle.build.proofs.Lookups.{tokens-bytes, unigram-lookup}
@@ -47,7 +46,7 @@ use Rattle.scored.specs.declared.BuildAnswer.the-variants as answer-is
 use Rattle.scored.specs.Build.{Report, reportOf, told, Built}
 use Rattle.scored.proofs.Builds.{scores-are}
 use Rattle.cutting.specs.Cuttings.{Piece}
-use Rattle.refusal.proofs.Lists.{zero-one, below-or}
+use Rattle.refusal.proofs.Lists.{zero-one, none-some, below-or}
 use Rattle.unigram.specs.Work.{pieceWith}
 use Rattle.unigram.specs.Pieces.{Model, pieceAt, known}
 use Rattle.unigram.specs.Segment.{Scratch, Lengths, lengthsOf, segmentFault, soundModel, Segmented}

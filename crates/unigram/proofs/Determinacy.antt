@@ -18,7 +18,7 @@ use Rattle.refusal.proofs.Codings as codings
 use Rattle.refusal.proofs.Codings.{coded-once}
 use Rattle.unigram.specs.Pieces.{Model, idsOf}
 use Rattle.unigram.specs.Segment.{Scratch, lengthsOf, segmentFault, soundModel, Segmented}
-use Rattle.unigram.specs.Core.{scratchOf, Cut}
+use Rattle.unigram.specs.Checked.{scratchOf, Cut}
 
 pub segmented-once :
     {m : Model} {s : List ℕ} {b : Scratch} {a₁ a₂ : CodeAnswer} {b₁ b₂ : Scratch} → Segmented m s b a₁ b₁ → Segmented m s b a₂ b₂

@@ -22,8 +22,8 @@ use Rattle.trie.proofs.Every.{both}
 use Rattle.cutting.specs.Cuttings.{Piece, nth}
 use Rattle.cutting.specs.Records.{best, standsAt}
 use Rattle.unigram.specs.Pieces.{Model, pieceAt, known, pieceHere, pieceOf, listed, rule}
-use Rattle.refusal.proofs.Lists.{below-or}
-use Rattle.cutting.proofs.Working.{Pieces, no-piece, true-false, absent, none-before, unchanged}
+use Rattle.refusal.proofs.Lists.{none-some, true-false, below-or}
+use Rattle.cutting.proofs.Working.{Pieces, absent, none-before, unchanged}
 use Rattle.cutting.proofs.Best.{of-true, zero-number, total-number}
 use Rattle.cutting.proofs.Reaching.{Reach, all-stand}
 
@@ -51,16 +51,16 @@ module _ (m : Model) (s : List ℕ) (i j : ℕ) where
           (a b c : Bool) → ltb i j ≡ a → boundary s i ≡ b → boundary s j ≡ c
           → elim (a && (b && c)) [ true ↦ pieceHere (known m (part s i j)) (eqb j (next s i)) (m .unknown) | false ↦ none ] ≡ some p → Between p
       by-tests true true true a b c e = record { forward = ltb-true i j a; from = b; to = c; here = e }
-      by-tests true true false a b c e = absurd (no-piece e)
-      by-tests true false c' a b c e = absurd (no-piece e)
-      by-tests false b' c' a b c e = absurd (no-piece e)
+      by-tests true true false a b c e = none-some e
+      by-tests true false c' a b c e = none-some e
+      by-tests false b' c' a b c e = none-some e
 
 -- what a piece is where it is
 pub here-known : (o : Option Piece) (one : Bool) (u p : Piece) → pieceHere o one u ≡ some p → (o ≡ some p) ⊎ ((o ≡ none) × (one ≡ true) × (u ≡ p))
 unfolding pieceHere
 here-known (some q) one u p e = inl e
 here-known none true u p e = inr (refl, refl, let same : u ≡ p = cc in same)
-here-known none false u p e = absurd (no-piece e)
+here-known none false u p e = none-some e
 
 -- a known piece is that of the node where its walk ends
 pub known-node : (m : Model) (s : List ℕ) (p : Piece) → known m s ≡ some p → (k : ℕ) × (walk (m .trie) 0 s ≡ some k) × (p .score ≡ getD (m .score) k plusZero)
@@ -68,11 +68,11 @@ unfolding known pieceAt
 known-node m s p = by-walk (walk (m .trie) 0 s) refl
   where
     at-node : (k : ℕ) (o : Option ℕ) → walk (m .trie) 0 s ≡ some k → elim o [ none ↦ none | some i ↦ some (record { id = i; score = getD (m .score) k plusZero }) ] ≡ some p → (n : ℕ) × (walk (m .trie) 0 s ≡ some n) × (p .score ≡ getD (m .score) n plusZero)
-    at-node k none w e = absurd (no-piece e)
+    at-node k none w e = none-some e
     at-node k (some i) w e = (k, w, ap (λ (x : Option Piece). elim x [ none ↦ p .score | some q ↦ q .score ]) (sym e))
 
     by-walk : (o : Option ℕ) → walk (m .trie) 0 s ≡ o → elim o [ none ↦ none | some k ↦ pieceAt m k ] ≡ some p → (k : ℕ) × (walk (m .trie) 0 s ≡ some k) × (p .score ≡ getD (m .score) k plusZero)
-    by-walk none w e = absurd (no-piece e)
+    by-walk none w e = none-some e
     by-walk (some k) w e = at-node k (idAt (m .trie) k) w e
 
 pub one-there : (o : Option Piece) (u : Piece) → (p : Piece) × (pieceHere o true u ≡ some p)
@@ -83,9 +83,9 @@ one-there (some p) u = (p, refl)
 -- what a list of at most one piece has
 listed-has : (o : Option Piece) (k : ℕ) (p : Piece) → nth (listed o) k ≡ some p → o ≡ some p
 unfolding nth listed
-listed-has none k p e = absurd (no-piece e)
+listed-has none k p e = none-some e
 listed-has (some q) zero p e = e
-listed-has (some q) (suc k) p e = absurd (no-piece e)
+listed-has (some q) (suc k) p e = none-some e
 
 listed-first : (o : Option Piece) (p : Piece) → o ≡ some p → nth (listed o) 0 ≡ some p
 unfolding nth listed

@@ -25,8 +25,8 @@ use Rattle.unigram.specs.Pieces.{Model, pieceAt, known, pieceHere, piece
 use Rattle.cutting.specs.Slots.{Slots, slotAt, PutAt, taken, afterOffer, afterOffers}
 use Rattle.cutting.specs.Law.{Holds}
 use Rattle.unigram.specs.Work.{isSome, endsHere, Ended, knownTo, KnownOffered, Ready, Worked}
-use Rattle.refusal.proofs.Lists.{below-or}
-use Rattle.cutting.proofs.Working.{Pieces, true-false, looked}
+use Rattle.refusal.proofs.Lists.{true-false, below-or}
+use Rattle.cutting.proofs.Working.{Pieces, looked}
 use Rattle.cutting.proofs.Best.{is-true, stands-counts}
 use Rattle.cutting.proofs.Holding.{AllOffered, best-held, stands-held, offered-past, holds-more, holds-jumped}
 use Rattle.unigram.proofs.Given.{given, boundary-stands, starts-on, piece-between, between}

@@ -18,7 +18,7 @@ use Rattle.refusal.specs.declared.CodeAnswer.the-variants.{Ids, Refused}
 use Rattle.refusal.specs.Refusal.{refuse}
 use Rattle.refusal.proofs.Tests.{found, not-found, found-first, none-first, passed, both-passed, Not, refused-so, first-so, nothing-so}
 use Rattle.refusal.proofs.Codings.{coded-refused, coded-ids}
-use Rattle.refusal.proofs.Lists.{zero-one, below-or}
+use Rattle.refusal.proofs.Lists.{zero-one, true-false, below-or}
 use Rattle.text.specs.Text.{characters, part}
 use Rattle.text.proofs.Boundaries.{characters-le}
 use Rattle.trie.specs.Trie.{idOf}
@@ -29,8 +29,7 @@ use Rattle.build.specs.Memory.{anyBelow}
 use Rattle.unigram.specs.Pieces.{Model, piecesOf, idsOf}
 use Rattle.unigram.specs.Segment.{Scratch, Lengths, lengthsOf, slotsIn, shortScratch, segmentFault, soundModel, written, writes, Segmented}
 use Rattle.unigram.specs.Work.{Ready}
-use Rattle.unigram.specs.Core.{scratchOf, lengths, Prepared, Cut}
-use Rattle.cutting.proofs.Working.{true-false}
+use Rattle.unigram.specs.Checked.{scratchOf, lengths, Prepared, Cut}
 use Rattle.unigram.proofs.Merging.{merged-few}
 use Rattle.unigram.proofs.Segmenting.{pieces-few, law-held}
 

@@ -31,7 +31,7 @@ use Rattle.unigram.specs.Pieces.{Model, rule, piecesOf, idsOf}
 use Rattle.unigram.specs.Work.{Ready, Recorded, BestCutting}
 use Rattle.unigram.specs.Merge.{partId, Mergeable, Merged}
 use Rattle.unigram.specs.Segment.{Scratch, written, writes}
-use Rattle.unigram.specs.Core.{scratchOf, Cut}
+use Rattle.unigram.specs.Checked.{scratchOf, Cut}
 use Rattle.unigram.proofs.Given.{given, boundary-stands, piece-rises}
 
 module _ {m : Model} {s : List ℕ} (ready : Ready m s) where

@@ -4,4 +4,4 @@ pub mod Pieces
 pub mod Work
 pub mod Merge
 pub mod Segment
-pub mod Core
+pub mod Checked

@@ -12,7 +12,7 @@ ghost use Rattle.refusal.specs.Refusal.{faultIn};
 ghost use Rattle.build.specs.Memory.{anyBelow};
 ghost use Rattle.unigram.specs.Segment.{segmentFault, soundModel, Segmented};
 ghost use Rattle.unigram.specs.Work.{model, modelNow};
-ghost use Rattle.unigram.specs.Core.{Prepared, Cut, lengths, scratchIs, scratchWas};
+ghost use Rattle.unigram.specs.Checked.{Prepared, Cut, lengths, scratchIs, scratchWas};
 ghost use Rattle.refusal.specs.Lent.{was};
 
 // Nothing is refused here: the parts are sound, the text is well-formed and within the limit, and there are enough places. The

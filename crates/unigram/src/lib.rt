@@ -7,7 +7,7 @@ mod runs;
 
 ghost use Rattle.unigram.specs.Work.{model};
 ghost use Rattle.unigram.specs.Segment.{Segmented};
-ghost use Rattle.unigram.specs.Core.{scratchIs, scratchWas};
+ghost use Rattle.unigram.specs.Checked.{scratchIs, scratchWas};
 ghost use Rattle.refusal.specs.Lent.{was};
 
 // The ids of the text's cutting with the highest sum of scores. Refused are, in this order, a text above the limit, parts that are not sound, an

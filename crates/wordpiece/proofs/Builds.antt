@@ -4,13 +4,12 @@ use mathlib.Core.Path.{_≡_, refl, sym, ap, _∙_}
 use mathlib.Core.Bool.{Bool, false}
 use mathlib.Core.List.{List, []}
 use mathlib.Core.Option.{none}
-use Prim.Native.Nat.{ℕ, _≤_}
+use Prim.Native.Nat.{ℕ}
 use native.Mathlib.Omega.{arith}
 use lib.Dec.{ltb}
 use lib.Ieee.{Float}
 use Rattle.refusal.specs.declared.Fault.the-variants as fault
 use Rattle.refusal.specs.declared.Reason.the-variants as reason
-use Rattle.doubles.specs.Double.{plusZero}
 use Rattle.rows.specs.declared.Kind.the-variants.{WordPiece}
 use Rattle.rows.specs.Rows.{Row}
 use Rattle.rows.specs.Columns.{Columns, rowsOf, columnsFault}
@@ -19,7 +18,7 @@ use Rattle.build.specs.declared.Built as core
 use Rattle.build.specs.declared.Built.the-variants.{Nodes, NoRoom}
 use Rattle.build.specs.Given.{given}
 use Rattle.build.specs.Memory.{Memory, withScores, noRoom}
-use Rattle.build.specs.Core.{roomOf, nodesOf, BuiltOf}
+use Rattle.build.specs.Checked.{roomOf, nodesOf, BuiltOf}
 use Rattle.build.specs.Promise.{scoresIn, built}
 use Rattle.build.proofs.Rooms.{no-room, nodes-some}
 use Rattle.build.proofs.Outcomes.{core-fits}

@@ -2,13 +2,11 @@
 -- never refuses it with 8; looking a string up in it is looking it up in the row list; and so the ids of a word are those over
 -- the row list. The cut is the trie since N nodes have N places of each node column and N - 1 edges, and the rest of each
 -- column is behind them. Assumes nothing.
-use mathlib.Core.Path.{_≡_, refl, sym, ap, _∙_}
-use mathlib.Core.Bool.{true, false, not}
+use mathlib.Core.Path.{_≡_, refl, ap, _∙_}
+use mathlib.Core.Bool.{true, false}
 use mathlib.Core.List.{List}
 use mathlib.Core.Option.{none, some}
 use Prim.Native.Nat.{ℕ}
-use native.Mathlib.Omega.{arith}
-use Rattle.refusal.specs.declared.Fault.{Fault}
 use Rattle.refusal.specs.declared.Fault.the-variants as fault
 use Rattle.refusal.proofs.Lists.{zero-one}
 use Rattle.trie.specs.Trie.{Trie, idOf}

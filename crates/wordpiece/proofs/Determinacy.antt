@@ -16,7 +16,7 @@ use Rattle.trie.specs.Sound.{sound}
 use Rattle.rows.specs.declared.Kind.the-variants.{WordPiece}
 use Rattle.rows.specs.Columns.{Columns, rowsOf, columnsFault}
 use Rattle.build.specs.Memory.{Memory, noRoom}
-use Rattle.build.specs.Core.{nodesOf}
+use Rattle.build.specs.Checked.{nodesOf}
 use Rattle.build.specs.Promise.{buildFault}
 use Rattle.build.proofs.Promises as builds
 use Rattle.build.proofs.Promises.{promised-once}

@@ -11,6 +11,7 @@ use borrow.Author.Tests.{lt-ltb, le-ltb, ltb-true, eqb-true, eqb-false, eq-eqb, 
 use lib.Dec.{ltb, eqb}
 use lib.ListN.{length, getD, take, drop, length-drop}
 use lib.Seq.{take-suc, take-add, drop-drop, getD-drop}
+use Rattle.refusal.proofs.Lists.{zero-one, none-some}
 use Rattle.refusal.specs.Sizes.{noId}
 use Rattle.text.specs.Text.{boundary, part}
 use Rattle.trie.specs.Trie.{Trie, walk, step, idAt, idFrom}
@@ -18,9 +19,6 @@ use Rattle.trie.proofs.Every.{first, second}
 use Rattle.trie.proofs.Walking.{walk-snoc, walk-append-none, from-none, from-some, id-none, id-some}
 use Rattle.wordpiece.specs.Pieces.{Found, pieceTo, longestTo}
 use Rattle.wordpiece.specs.Checked.{pick, foundIf, foundSince, endAt}
-
-pub none-some : {A : Type 0} {x : A} → _≡_ {A = Option A} none (some x) → ⊥
-none-some e = let z : _≡_ {A = ℕ} 0 1 = cc in omega arith
 
 -- ---- parts of a word
 
@@ -57,7 +55,7 @@ pub id-held : (t : Trie) (k : ℕ) {x : ℕ} → k < length (t .id) → idAt t k
 id-held t k {x} h e = go (eqb (getD (t .id) k 0) noId) refl
   where
     go : (b : Bool) → eqb (getD (t .id) k 0) noId ≡ b → x ≡ getD (t .id) k 0
-    go true p = let no : _≡_ {A = ℕ} 0 1 = cc (id-none t k h (eqb-true (getD (t .id) k 0) noId p)) in absurd (omega arith)
+    go true p = absurd (zero-one (cc (id-none t k h (eqb-true (getD (t .id) k 0) noId p))))
     go false p = cc (id-some t k h (eqb-false (getD (t .id) k 0) noId p))
 
 -- ---- in any look-up, where p stands before the piece

@@ -10,6 +10,7 @@ use borrow.Author.Tests.{le-ltb}
 use lib.Dec.{ltb}
 use lib.ListN.{length, take, drop}
 use lib.Seq.{sets, length-sets, sets-eq, take-at}
+use Rattle.refusal.proofs.Lists.{none-some}
 use Rattle.refusal.specs.Places.{overlay}
 use Rattle.text.specs.Text.{wellFormed, characters}
 use Rattle.text.proofs.Boundaries.{characters-le, boundary-zero}
@@ -17,7 +18,6 @@ use Rattle.trie.specs.Trie.{Trie, walk, idFrom, idOf}
 use Rattle.wordpiece.specs.declared.checked.Count.{Count}
 use Rattle.wordpiece.specs.Pieces.{Found, longestTo, before, piecesOf, orUnknown, idsOf}
 use Rattle.wordpiece.specs.Checked.{restFrom, counted, countIn, Walked, Held, First}
-use Rattle.wordpiece.proofs.Longest.{none-some}
 use Rattle.wordpiece.proofs.Rest.{Ends, longest-ends, pieces-empty, pieces-alone, pieces-absent, after-prefix, pieces-with, pieces-few, one-more, some-character}
 
 -- the ids `all` are x and then those of the pieces of w from i on; these are no more than the characters from i on

@@ -10,14 +10,14 @@ use borrow.Author.Tests.{ltb-true, ltb-false}
 use lib.Dec.{ltb, eqb}
 use lib.ListN.{length, take, drop}
 use lib.Seq.{take-add, take-all, take-length}
+use Rattle.refusal.proofs.Lists.{none-some, false-true}
 use Rattle.text.specs.Text.{wellFormed, boundary, characters, next, part}
 use Rattle.text.proofs.Boundaries.{next-first, characters-next, characters-append, boundary-le, boundary-zero, boundary-end}
-use Rattle.text.proofs.Characters.{false-true}
 use Rattle.trie.specs.Trie.{Trie, walk, idFrom, idOf}
 use Rattle.trie.proofs.Walking.{from-append, id-of}
 use Rattle.wordpiece.specs.Pieces.{Found, pieceTo, longestTo, before, piecesFrom, piecesOf}
 use Rattle.wordpiece.specs.Checked.{pick, restFrom, counted, more}
-use Rattle.wordpiece.proofs.Longest.{none-some, piece-says, piece-absent, longest-more, longest-until}
+use Rattle.wordpiece.proofs.Longest.{piece-says, piece-absent, longest-more, longest-until}
 use Rattle.wordpiece.proofs.Turns.{turn, turn-same, pieces-turn, pieces-end, pieces-next, pieces-same}
 
 pub before-some : (x : ℕ) (o : Option (List ℕ)) {ys : List ℕ} → before x o ≡ some ys → (zs : List ℕ) × (o ≡ some zs) × (ys ≡ x ∷ zs)

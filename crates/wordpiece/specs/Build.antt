@@ -3,7 +3,7 @@ use Prim.Native.Nat.{ℕ}
 use mathlib.Core.List.{List}
 use Rattle.rows.specs.declared.Kind.the-variants as kind
 use Rattle.rows.specs.Columns.{Columns, rowsOf, columnsFault}
-use Rattle.build.specs.Core.{nodesOf}
+use Rattle.build.specs.Checked.{nodesOf}
 use Rattle.build.specs.Memory.{Memory, noRoom}
 use Rattle.build.specs.Promise.{Told, built, refused, Promised}
 use Rattle.wordpiece.specs.declared.BuildAnswer.{BuildAnswer}

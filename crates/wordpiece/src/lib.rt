@@ -47,8 +47,8 @@ pub fn from_rows(
     if let RowsAnswer::Refused(r) = found {
         return BuildAnswer::Refused(r);
     }
-    let room = build::core::room(edge_at, edge_n, node_id, byte, to, work);
-    let built = build::core::build(
+    let room = build::checked::room(edge_at, edge_n, node_id, byte, to, work);
+    let built = build::checked::build(
         false,
         tab,
         off,

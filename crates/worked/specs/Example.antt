@@ -1,5 +1,5 @@
 -- What an example is, and what it is for one to hold. Definitions only; assumes nothing.
-use Prim.Native.Nat.{ℕ, _+_, _*_}
+use Prim.Native.Nat.{ℕ, _+_}
 use mathlib.Core.Bool.{Bool, true, false, _&&_}
 use mathlib.Core.List.{List, [], _∷_, map, flatten}
 use mathlib.Core.Option.{Option, none, some}
@@ -16,7 +16,7 @@ use Rattle.build.specs.Rules.{scoresOf, unigramTrie, unigramScores, wordpieceTr
 use Rattle.cutting.specs.Records.{scoreOf, best}
 use Rattle.unigram.specs.Pieces as unigram
 use Rattle.unigram.specs.Segment.{segmentFault, soundModel}
-use Rattle.unigram.specs.Core.{lengths}
+use Rattle.unigram.specs.Checked.{lengths}
 use Rattle.wordpiece.specs.Pieces as wordpiece
 use Rattle.wordpiece.specs.Encode.{encodeFault}
 

@@ -3,7 +3,7 @@ use Prim.Native.Nat.{ℕ, _*_}
 use Prim.Native.String.{String}
 use mathlib.Core.Bool.{true, false}
 use mathlib.Core.List.{List, [], _∷_}
-use mathlib.Core.Option.{Option, none, some}
+use mathlib.Core.Option.{none, some}
 use Rattle.doubles.specs.Double.{Double, finite, one, ofPattern}
 use Rattle.text.specs.Ascii.{ascii}
 use Rattle.rows.specs.declared.Kind.the-variants.{Unigram, WordPiece}

@@ -2,9 +2,8 @@
 -- nothing.
 use mathlib.Core.Path.{_≡_, sym, ap, _∙_}
 use mathlib.Core.List.{List}
-use mathlib.Core.Option.{Option, none}
-use Prim.Native.Nat.{ℕ, _≤_}
-use native.Mathlib.Omega.{arith}
+use mathlib.Core.Option.{Option}
+use Prim.Native.Nat.{ℕ}
 use borrow.Author.Needs.{needs}
 use borrow.Author.Tests.{lt-ltb, le-ltb}
 use lib.ListN.{length}
@@ -12,7 +11,7 @@ use Rattle.refusal.specs.declared.Fault.{Fault}
 use Rattle.refusal.specs.Sizes.{maxText}
 use Rattle.refusal.specs.Refusal.{faultIn}
 use Rattle.refusal.proofs.Tests.{found, not-found}
-use Rattle.text.specs.Text.{textFault, characters}
+use Rattle.text.specs.Text.{characters}
 use Rattle.text.proofs.Spans.{fine-text}
 use Rattle.exports.specs.Flat.{countFault, countNumber}
 use Rattle.exports.proofs.sk_characters.Statement.{statement}

@@ -1,8 +1,8 @@
 -- `output::print` meets its contract: a pack that is too large is refused, and else it is built in zero columns and printed. Assumes nothing.
-use mathlib.Core.Path.{_≡_, sym, ap, _∙_}
+use mathlib.Core.Path.{_∙_}
 use Prim.Native.Nat.{ℕ}
 use lib.Ieee.{Float, binary64, ofBits}
-use lib.ListN.{length, length-replicate}
+use lib.ListN.{length-replicate}
 use Rattle.doubles.proofs.Patterns.{zero-units}
 use Rattle.text.specs.Ascii.{ascii}
 use Rattle.output.proofs.Putting.{put-as}

@@ -1,10 +1,6 @@
 -- `output::print_built` meets its contract: each answer of the pack's build says what the whole output is. Assumes nothing.
-use mathlib.Core.Path.{_≡_, sym, ap, _∙_, subst}
-use mathlib.Core.List.{List}
-use Prim.Native.Nat.{ℕ, _<_}
+use mathlib.Core.Path.{_≡_, ap, _∙_, subst}
 use native.Mathlib.Omega.{arith}
-use lib.ListN.{length, getD}
-use Rattle.refusal.specs.declared.Fault.{Fault}
 use Rattle.text.specs.Ascii.{ascii}
 use Rattle.build.specs.Grown.{Bytes}
 use Rattle.pack.specs.declared.PackAnswer.{PackAnswer}

@@ -1,9 +1,7 @@
 -- `output::print_lines` meets its contract: too much input is refused, and else the lines are printed in the first places of the columns.
 -- Assumes nothing.
-use mathlib.Core.Path.{_≡_}
 use mathlib.Core.List.{List}
 use Prim.Native.Nat.{ℕ, _-_}
-use native.Mathlib.Omega.{arith}
 use Rattle.text.specs.Ascii.{ascii}
 use Rattle.output.specs.Output.{codedLine}
 use Rattle.output.specs.Cut.{cutTo}

@@ -1,9 +1,8 @@
 -- `replay::read_part` meets its contract: the part lies inside the buffer, and what was read lies in it. Assumes nothing.
-use mathlib.Core.Path.{_≡_}
 use mathlib.Core.List.{List, _++_}
 use Prim.Native.Nat.{ℕ, _≤_}
 use native.Mathlib.Omega.{arith}
-use lib.ListN.{length, take, drop, length-take, length-append}
+use lib.ListN.{length, drop, length-take, length-append}
 use Rattle.io.specs.Counts.{Counts}
 use borrow.Author.Needs.{needs}
 use Rattle.replay.proofs.read_part.Statement.{statement}

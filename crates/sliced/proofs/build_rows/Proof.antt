@@ -42,7 +42,6 @@ use denote.Triple.Table.{entered, cited}
 use denote.Triple.Walked.{says, Stays, stay-none-slice, gave-slice, walkOf, goes-none-slice, goes-gave-slice, Walks, ends-at, walked, walk-meets}
 use denote.Exit.{yes}
 use denote.Triple.Clauses.{ensured, lasts}
-use Rattle.doubles.specs.Double.{Double}
 use Rattle.doubles.specs.Units.{units}
 use Rattle.rows.specs.declared.Row.{Row}
 use Rattle.rows.specs.declared.columns.RowsAnswer.{RowsAnswer}

@@ -2,8 +2,7 @@
 -- Assumes nothing.
 use mathlib.Core.Path.{_≡_, sym, ap, _∙_}
 use mathlib.Core.Bool.{true}
-use mathlib.Core.Option.{Option, none}
-use native.Mathlib.Omega.{arith}
+use mathlib.Core.Option.{none}
 use borrow.Author.Needs.{needs}
 use Rattle.refusal.specs.Refusal.{faultIn}
 use Rattle.trie.specs.Walks.{idIn}

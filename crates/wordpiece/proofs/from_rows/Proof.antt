@@ -10,7 +10,7 @@ use Rattle.rows.specs.Columns.{Columns, rowsOf, columnsFault}
 use Rattle.rows.specs.Answers.{columns, reasonIn}
 use Rattle.rows.proofs.NeverRoom.{columns-not-room}
 use Rattle.build.specs.Memory.{Memory, memory}
-use Rattle.build.specs.Core.{RoomFor}
+use Rattle.build.specs.Checked.{RoomFor}
 use Rattle.build.proofs.Rooms.{room-is}
 use Rattle.build.proofs.Judging.{judged}
 use Rattle.build.proofs.Outcomes.{core-room}

@@ -1,6 +1,6 @@
 -- `build::tokens::enter_token` meets its contract: the token's last node takes the id, unless the token is empty or there was no room.
 -- Assumes nothing.
-use mathlib.Core.Path.{_≡_, ap}
+use mathlib.Core.Path.{_≡_}
 use mathlib.Core.List.{List, []}
 use mathlib.Core.Option.{Option}
 use Prim.Native.Nat.{ℕ}

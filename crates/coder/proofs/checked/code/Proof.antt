@@ -1,14 +1,10 @@
 -- `coder::checked::code` meets its contract: the coding of the kind. Assumes nothing.
 use mathlib.Core.Path.{_≡_, sym, ap, _∙_, subst}
-use mathlib.Core.Bool.{Bool}
-use mathlib.Core.List.{List}
-use Prim.Native.Nat.{ℕ}
-use lib.Ieee.{Float}
 use borrow.Author.Needs.{needs}
 use Rattle.refusal.specs.declared.CodeAnswer.{CodeAnswer}
 use Rattle.trie.specs.Trie.{partsOf}
 use Rattle.unigram.specs.Segment.{Scratch}
-use Rattle.unigram.specs.Core.{scratchOf}
+use Rattle.unigram.specs.Checked.{scratchOf}
 use Rattle.coder.specs.declared.Coder.{Coder}
 use Rattle.coder.specs.Vocabulary.{Vocabulary, soundIn, CodedIn}
 use Rattle.coder.specs.Columns.{vocabularyOf}

@@ -1,5 +1,5 @@
 -- `exports::packs::pack_number` meets its contract: each answer has its number, and a Unigram pack its score. Assumes nothing.
-use mathlib.Core.Path.{_≡_, sym, ap, _∙_}
+use mathlib.Core.Path.{sym, ap, _∙_}
 use mathlib.Core.List.{map}
 use Rattle.doubles.specs.Units.{units}
 use Rattle.pack.specs.Build.{told}

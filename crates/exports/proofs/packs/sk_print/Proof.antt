@@ -1,6 +1,6 @@
 -- `exports::packs::sk_print` meets its contract: a buffer that is too short is left alone, and in any other the text
 -- stands over the first places. Assumes nothing.
-use mathlib.Core.Path.{_≡_, refl, sym, ap, _∙_}
+use mathlib.Core.Path.{_≡_, sym, ap, _∙_}
 use mathlib.Core.Bool.{Bool, true, false, cond}
 use mathlib.Core.List.{List}
 use Prim.Native.Nat.{ℕ, _^_, _≤_, _<_}

@@ -1,5 +1,4 @@
 -- `output::put::put_ids` meets its contract: the count, the numbers and LF, one after the other. Assumes nothing.
-use mathlib.Core.Path.{_≡_}
 use Prim.Native.Nat.{_≤_}
 use native.Mathlib.Omega.{arith}
 use lib.ListN.{length}

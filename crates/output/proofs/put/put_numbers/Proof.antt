@@ -1,10 +1,9 @@
 -- `output::put::put_numbers` meets its contract. The loop's invariant: the first i numbers are put, and took at most 11 bytes each. The measure is
 -- what is left. Assumes nothing.
-use mathlib.Core.List.{_∷_}
 use Prim.Native.Nat.{_+_, _-_, _*_, _≤_}
 use native.Mathlib.Omega.{arith}
 use lib.ListN.{length}
-use Rattle.output.specs.Lines.{decimal, spaced}
+use Rattle.output.specs.Lines.{spaced}
 use Rattle.output.proofs.Putting.{Along, along-start, along-turn, along-end}
 use Rattle.output.proofs.Decimals.{spacedOne, spaced-none, spaced-snoc}
 use Rattle.output.proofs.put.put_numbers.Statement.{statement}

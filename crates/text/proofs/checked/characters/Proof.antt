@@ -9,7 +9,7 @@ use native.Mathlib.Omega.{arith}
 use borrow.Author.Needs.{needs}
 use lib.ListN.{length, take}
 use lib.Seq.{length-take-le, take-all}
-use Rattle.text.specs.Text.{wellFormed, boundary, characters, next}
+use Rattle.text.specs.Text.{boundary, characters, next}
 use Rattle.text.proofs.Boundaries.{boundary-zero, next-above, next-inside, next-boundary, characters-next, characters-le}
 use Rattle.text.proofs.checked.characters.Statement.{statement}
 use Rattle.text.proofs.checked.characters.Tie as tie

@@ -1,7 +1,7 @@
 -- `text::strides::begins` meets its contract: the first byte is no tail, and the answer is what is left of the second. Assumes nothing.
 use native.Mathlib.Omega.{arith}
 use borrow.Author.Tests.{not-true, eqb-true, eqb-false}
-use Rattle.text.proofs.Characters.{false-true}
+use Rattle.refusal.proofs.Lists.{false-true}
 use Rattle.text.proofs.strides.begins.Statement.{statement}
 use Rattle.text.proofs.strides.begins.Tie as tie
 

@@ -3,7 +3,7 @@ use mathlib.Core.Path.{sym, _∙_}
 use native.Mathlib.Omega.{arith}
 use borrow.Author.Needs.{needs}
 use borrow.Author.Tests.{not-false}
-use Rattle.text.proofs.Characters.{false-true}
+use Rattle.refusal.proofs.Lists.{false-true}
 use Rattle.text.proofs.Plain.{four-at}
 use Rattle.text.proofs.strides.is_four.Statement.{statement}
 use Rattle.text.proofs.strides.is_four.Tie as tie

@@ -7,8 +7,9 @@ use native.Mathlib.Omega.{arith}
 use borrow.Author.Needs.{needs}
 use borrow.Author.Tests.{not-true, not-false, eqb-false}
 use lib.ListN.{getD, drop}
+use Rattle.refusal.proofs.Lists.{false-true}
 use Rattle.text.specs.Text.{tail, character}
-use Rattle.text.proofs.Characters.{false-true, within-low, within-high}
+use Rattle.text.proofs.Characters.{within-low, within-high}
 use Rattle.text.proofs.Plain.{three-at}
 use Rattle.text.proofs.strides.is_three.Statement.{statement}
 use Rattle.text.proofs.strides.is_three.Tie as tie

@@ -2,7 +2,7 @@
 use mathlib.Core.Path.{sym, _∙_}
 use native.Mathlib.Omega.{arith}
 use borrow.Author.Needs.{needs}
-use Rattle.text.proofs.Characters.{false-true}
+use Rattle.refusal.proofs.Lists.{false-true}
 use Rattle.text.proofs.Plain.{two-at}
 use Rattle.text.proofs.strides.is_two.Statement.{statement}
 use Rattle.text.proofs.strides.is_two.Tie as tie

@@ -1,13 +1,11 @@
 -- `trie::checked::exact` meets its contract: the string's id is that of the node its walk from the root ends in. Assumes nothing.
 use mathlib.Core.Path.{_≡_, refl, sym, ap, _∙_}
-use mathlib.Core.List.{List}
-use mathlib.Core.Option.{Option, none, some}
-use Prim.Native.Nat.{ℕ, _<_}
+use mathlib.Core.Option.{some}
+use Prim.Native.Nat.{ℕ}
 use native.Mathlib.Omega.{arith}
 use borrow.Author.Needs.{needs}
-use lib.ListN.{length}
-use Rattle.trie.specs.Trie.{Trie, partsOf, walk, idFrom}
-use Rattle.trie.specs.Walks.{Stands, nextOf}
+use Rattle.trie.specs.Trie.{Trie, partsOf, walk}
+use Rattle.trie.specs.Walks.{nextOf}
 use Rattle.trie.proofs.Walking.{id-of, from-none, from-some, walk-inside}
 use Rattle.trie.proofs.checked.exact.Statement.{statement}
 use Rattle.trie.proofs.checked.exact.Tie as tie

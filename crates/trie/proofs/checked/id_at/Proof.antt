@@ -4,7 +4,7 @@ use mathlib.Core.List.{List}
 use mathlib.Core.Option.{some}
 use Prim.Native.Nat.{ℕ}
 use native.Mathlib.Omega.{arith}
-use lib.ListN.{length, getD}
+use lib.ListN.{getD}
 use Rattle.trie.proofs.Walking.{id-none, id-some}
 use borrow.Author.Needs.{needs}
 use Rattle.trie.proofs.checked.id_at.Statement.{statement}

@@ -1,5 +1,4 @@
 -- `trie::checked::passed` meets its contract: the quotient is 1 where x is at most b, else 0. Assumes nothing.
-use mathlib.Core.Path.{_≡_}
 use Prim.Native.Nat.{_+_, _-_, _*_, _/_, _≤_}
 use native.Mathlib.Omega.{arith}
 use borrow.Author.Needs.{needs}

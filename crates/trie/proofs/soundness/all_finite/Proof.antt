@@ -1,13 +1,13 @@
 -- `trie::soundness::all_finite` meets its contract. The loop's invariant: the scores are all finite exactly when those from k on are.
 -- Assumes nothing.
 use mathlib.Core.Path.{_≡_, refl, sym, ap, _∙_}
-use mathlib.Core.Bool.{Bool, true, false, _&&_}
+use mathlib.Core.Bool.{Bool, _&&_}
 use mathlib.Core.List.{List, map}
-use Prim.Native.Nat.{ℕ, _+_, _-_, _≤_}
+use Prim.Native.Nat.{_+_, _-_, _≤_}
 use native.Mathlib.Omega.{arith}
 use borrow.Author.Needs.{needs}
 use lib.Ieee.{Float}
-use lib.ListN.{length, getD, drop}
+use lib.ListN.{length, drop}
 use Rattle.doubles.specs.Units.{units}
 use Rattle.trie.specs.Sound.{allFinite}
 use Rattle.trie.proofs.Every.{stopped, passed}

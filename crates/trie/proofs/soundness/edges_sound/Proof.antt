@@ -1,5 +1,5 @@
 -- `trie::soundness::edges_sound` meets its contract: each return is what its test decides. Assumes nothing.
-use mathlib.Core.Path.{_≡_, sym, _∙_}
+use mathlib.Core.Path.{sym, _∙_}
 use native.Mathlib.Omega.{arith}
 use borrow.Author.Needs.{needs}
 use Rattle.trie.proofs.SoundParts.{edges-outside, edges-many, edges-rise}

@@ -1,9 +1,8 @@
 -- `trie::soundness::rising` meets its contract. The loop's invariant: the i bytes so far rise. Assumes nothing.
 use mathlib.Core.Path.{_≡_, sym}
 use mathlib.Core.Bool.{true}
-use Prim.Native.Nat.{ℕ, _+_, _-_, _≤_}
+use Prim.Native.Nat.{_-_, _≤_}
 use native.Mathlib.Omega.{arith}
-use borrow.Author.Needs.{needs}
 use Rattle.trie.specs.Sound.{rises}
 use Rattle.trie.proofs.Every.{every-none}
 use Rattle.trie.proofs.SoundParts.{rises-more, rises-fails}

@@ -1,11 +1,10 @@
 -- `trie::soundness::sound_scored` meets its contract: each return is what its test decides. Assumes nothing.
 use mathlib.Core.Path.{_≡_, sym, ap, _∙_}
-use mathlib.Core.Bool.{Bool, true, false, _&&_}
+use mathlib.Core.Bool.{Bool, true, _&&_}
 use mathlib.Core.List.{List, map}
-use native.Mathlib.Omega.{arith}
 use borrow.Author.Needs.{needs}
 use borrow.Author.Tests.{not-true, not-false}
-use lib.ListN.{length, length-map}
+use lib.ListN.{length-map}
 use Rattle.doubles.specs.Double.{Double, isFinite}
 use Rattle.doubles.specs.Units.{units}
 use Rattle.trie.specs.Trie.{Trie, partsOf}

@@ -1,6 +1,6 @@
 -- `unigram::checked::judge` meets its contract: each test that is passed is a fact for the next. Assumes nothing.
 use mathlib.Core.Path.{_≡_, sym, ap, _∙_}
-use mathlib.Core.Bool.{Bool, true, _&&_, _||_}
+use mathlib.Core.Bool.{Bool, _&&_, _||_}
 use mathlib.Core.List.{List, [], _∷_}
 use mathlib.Core.Option.{none}
 use Prim.Native.Nat.{ℕ, _+_}
@@ -16,7 +16,7 @@ use Rattle.trie.specs.Lookup.{lookupFault}
 use Rattle.trie.proofs.Lookups as lookups
 use Rattle.build.specs.Memory.{anyBelow}
 use Rattle.unigram.specs.Segment.{Lengths, shortScratch}
-use Rattle.unigram.specs.Core.{lengths}
+use Rattle.unigram.specs.Checked.{lengths}
 use Rattle.unigram.proofs.Refusing.{fault-early, fault-scratch, fault-ids, fault-none}
 use Rattle.unigram.proofs.checked.judge.Statement.{statement}
 use Rattle.unigram.proofs.checked.judge.Tie as tie

@@ -9,7 +9,7 @@ use Rattle.cutting.specs.Slots.{Inside}
 use Rattle.unigram.specs.Pieces.{Model}
 use Rattle.unigram.specs.Work.{modelOf, pieceWith}
 use Rattle.unigram.specs.Segment.{Scratch}
-use Rattle.unigram.specs.Core.{scratchOf}
+use Rattle.unigram.specs.Checked.{scratchOf}
 use Rattle.unigram.proofs.Refusing.{empty-for}
 use Rattle.unigram.proofs.Segmenting.{front-few, mergeable, cut-of}
 use borrow.Author.Needs.{needs}

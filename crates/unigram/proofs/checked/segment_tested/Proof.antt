@@ -11,7 +11,7 @@ use Rattle.refusal.specs.Refusal.{faultIn}
 use Rattle.unigram.specs.Pieces.{Model}
 use Rattle.unigram.specs.Work.{modelOf, pieceWith}
 use Rattle.unigram.specs.Segment.{Scratch, Lengths, lengthsOf, segmentFault, soundModel}
-use Rattle.unigram.specs.Core.{scratchOf, lengths}
+use Rattle.unigram.specs.Checked.{scratchOf, lengths}
 use Rattle.unigram.proofs.Refusing.{lengths-are, prepared-for, refused-for, cut-for}
 use Rattle.unigram.proofs.checked.segment_tested.Statement.{statement}
 use Rattle.unigram.proofs.checked.segment_tested.Tie as tie

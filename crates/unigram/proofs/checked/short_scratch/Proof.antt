@@ -1,5 +1,5 @@
 -- `unigram::checked::short_scratch` meets its contract: the tests in their order. Assumes nothing.
-use Prim.Native.Nat.{ℕ, _<_}
+use Prim.Native.Nat.{_<_}
 use native.Mathlib.Omega.{arith}
 use Rattle.unigram.proofs.Refusing.{short-empty, short-first, short-second, short-third, short-path}
 use Rattle.unigram.proofs.checked.short_scratch.Statement.{statement}

@@ -11,10 +11,10 @@ use native.Mathlib.Omega.{arith}
 use borrow.Author.Needs.{needs}
 use lib.ListN.{length, set}
 use lib.Seq.{sets}
+use Rattle.refusal.proofs.Lists.{none-some}
 use Rattle.trie.specs.Trie.{partsOf, idFrom}
 use Rattle.wordpiece.specs.Pieces.{Found, longestTo}
 use Rattle.wordpiece.specs.Checked.{foundIn, restFrom, counted, more}
-use Rattle.wordpiece.proofs.Longest.{none-some}
 use Rattle.wordpiece.proofs.Rest.{Ends, longest-ends, rest-end, rest-miss, rest-piece, count-piece, more-one, before-some}
 use Rattle.wordpiece.proofs.checked.count_rest.Statement.{statement}
 use Rattle.wordpiece.proofs.checked.count_rest.Tie as tie

@@ -1,9 +1,7 @@
 -- `wordpiece::checked::encode_tested` meets its contract: what `judge` finds is refused, and a call without a fault is ready for the core. Assumes nothing.
 use mathlib.Core.Path.{_≡_, sym, ap, _∙_}
 use mathlib.Core.Bool.{Bool}
-use mathlib.Core.List.{List}
 use mathlib.Core.Option.{none}
-use Prim.Native.Nat.{ℕ}
 use borrow.Author.Needs.{needs}
 use lib.ListN.{length}
 use Rattle.refusal.specs.Refusal.{faultIn}

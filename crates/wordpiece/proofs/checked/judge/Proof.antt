@@ -1,6 +1,5 @@
 -- `wordpiece::checked::judge` meets its contract: each test that is passed is a fact for the next. Assumes nothing.
 use mathlib.Core.Path.{_≡_, sym, ap, _∙_}
-use mathlib.Core.Bool.{true}
 use mathlib.Core.List.{List}
 use mathlib.Core.Option.{none}
 use Prim.Native.Nat.{ℕ}
@@ -10,7 +9,7 @@ use borrow.Author.Tests.{not-true, not-false, lt-ltb, le-ltb}
 use Rattle.refusal.specs.Refusal.{faultIn}
 use Rattle.refusal.specs.declared.Fault.the-variants as fault
 use Rattle.refusal.proofs.Tests.{found, not-found, found-first, none-first}
-use Rattle.text.specs.Text.{wellFormed, textFault, characters}
+use Rattle.text.specs.Text.{textFault, characters}
 use Rattle.text.proofs.Spans.{fine-text}
 use Rattle.wordpiece.specs.Encode.{encodeFault}
 use Rattle.wordpiece.proofs.Faults.{later, fault-word, fault-prefix, fault-trie, past-trie}

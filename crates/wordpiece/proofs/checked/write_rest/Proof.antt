@@ -3,17 +3,17 @@
 -- Assumes nothing.
 use mathlib.Core.Path.{_≡_, refl, sym, ap, _∙_}
 use mathlib.Core.List.{List, [], _∷_}
-use mathlib.Core.Option.{Option, none, some}
+use mathlib.Core.Option.{Option, some}
 use Prim.Native.Nat.{ℕ, suc, _+_, _-_, _≤_, _<_}
 use native.Mathlib.Numerals.{add-one}
 use native.Mathlib.Omega.{arith}
 use borrow.Author.Needs.{needs}
-use lib.ListN.{length, set, length-set}
+use lib.ListN.{length, length-set}
 use lib.Seq.{sets}
+use Rattle.refusal.proofs.Lists.{none-some}
 use Rattle.trie.specs.Trie.{partsOf, idFrom}
-use Rattle.wordpiece.specs.Pieces.{Found, longestTo}
+use Rattle.wordpiece.specs.Pieces.{longestTo}
 use Rattle.wordpiece.specs.Checked.{foundIn, restFrom}
-use Rattle.wordpiece.proofs.Longest.{none-some}
 use Rattle.wordpiece.proofs.Rest.{Ends, longest-ends, rest-end, rest-miss, rest-piece, before-some}
 use Rattle.wordpiece.proofs.checked.write_rest.Statement.{statement}
 use Rattle.wordpiece.proofs.checked.write_rest.Tie as tie

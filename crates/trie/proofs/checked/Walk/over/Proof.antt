@@ -2,13 +2,13 @@
 -- come to, and that is a node. What is left of s falls. Assumes nothing.
 use mathlib.Core.Path.{_≡_, refl, sym, ap, _∙_}
 use mathlib.Core.List.{List}
-use mathlib.Core.Option.{Option, none, some}
-use Prim.Native.Nat.{ℕ, _+_, _-_, _≤_, _<_}
+use mathlib.Core.Option.{some}
+use Prim.Native.Nat.{ℕ, _-_, _≤_, _<_}
 use native.Mathlib.Omega.{arith}
 use borrow.Author.Needs.{needs}
 use lib.ListN.{length, getD, drop}
 use Rattle.trie.specs.Trie.{Trie, partsOf, step, walk}
-use Rattle.trie.specs.Walks.{Stands, nextOf}
+use Rattle.trie.specs.Walks.{nextOf}
 use Rattle.trie.proofs.Walking.{turn-stop, turn-to, turn-end, step-inside}
 use Rattle.trie.proofs.checked.Walk.over.Statement.{statement}
 use Rattle.trie.proofs.checked.Walk.over.Tie as tie

@@ -1,10 +1,7 @@
 -- `trie::checked::Walk::step` meets its contract: the edges of a node of sound parts are what the search asks for. Assumes nothing.
-use mathlib.Core.Path.{_≡_, refl, sym, ap, _∙_}
 use native.Mathlib.Omega.{arith}
 use borrow.Author.Needs.{needs}
-use lib.ListN.{length, getD}
 use Rattle.trie.specs.Trie.{step}
-use Rattle.trie.specs.Walks.{Edges}
 use Rattle.trie.proofs.checked.Walk.step.Statement.{statement}
 use Rattle.trie.proofs.checked.Walk.step.Tie as tie
 

@@ -1,9 +1,9 @@
--- `build::core::room` meets its contract: the least of all. Assumes nothing.
+-- `build::checked::room` meets its contract: the least of all. Assumes nothing.
 use mathlib.Core.Path.{ap, ap₂, _∙_}
 use Prim.Native.Nat.{ℕ, min}
 use borrow.Author.Needs.{needs}
-use Rattle.build.proofs.core.room.Statement.{statement}
-use Rattle.build.proofs.core.room.Tie as tie
+use Rattle.build.proofs.checked.room.Statement.{statement}
+use Rattle.build.proofs.checked.room.Tie as tie
 
 abbrev nodes-least : tie.After-least6 → tie.After-least4
 nodes-least c = c .before .before

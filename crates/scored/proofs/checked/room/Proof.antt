@@ -1,10 +1,10 @@
--- `scored::fine::room` meets its contract: the lesser of the room of the other columns and the places of the score column. Assumes nothing.
+-- `scored::checked::room` meets its contract: the lesser of the room of the other columns and the places of the score column. Assumes nothing.
 use mathlib.Core.Path.{_≡_}
 use Prim.Native.Nat.{ℕ, _≤_, _<_, min}
 use native.Mathlib.Omega.{arith}
 use borrow.Author.Needs.{needs}
-use Rattle.scored.proofs.fine.room.Statement.{statement}
-use Rattle.scored.proofs.fine.room.Tie as tie
+use Rattle.scored.proofs.checked.room.Statement.{statement}
+use Rattle.scored.proofs.checked.room.Tie as tie
 
 right : (a b : ℕ) {r : ℕ} → r ≡ a → b < r → b ≡ min a b
 right a b e h = omega (arith, e, h)

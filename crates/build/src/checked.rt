@@ -7,7 +7,7 @@ ghost use Prim.Native.Nat.{min};
 ghost use Rattle.build.specs.Given.{given};
 ghost use Rattle.build.specs.Held.{Judged};
 ghost use Rattle.build.specs.Memory.{memoryIs, memoryNow, memoryWas};
-ghost use Rattle.build.specs.Core.{roomOf, RoomFor, BuiltOf};
+ghost use Rattle.build.specs.Checked.{roomOf, RoomFor, BuiltOf};
 ghost use Rattle.refusal.specs.Lent.{was};
 
 fn least(a: usize, b: usize) -> usize

@@ -1,8 +1,8 @@
--- `pack::fine::summary` meets its contract, by the kind. Assumes nothing.
+-- `pack::checked::summary` meets its contract, by the kind. Assumes nothing.
 use borrow.Author.Needs.{needs}
 use Rattle.pack.proofs.FinePacks.{finite-rows, told-unigram, told-wordpiece}
-use Rattle.pack.proofs.fine.summary.Statement.{statement}
-use Rattle.pack.proofs.fine.summary.Tie as tie
+use Rattle.pack.proofs.checked.summary.Statement.{statement}
+use Rattle.pack.proofs.checked.summary.Tie as tie
 
 unknown-score-requires : tie.Need-unknown-score-requires
 unknown-score-requires c κs = let told = c .before in finite-rows (told .before .before .before .pre) (told .enum-told .given .1)

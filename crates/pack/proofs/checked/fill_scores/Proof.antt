@@ -1,8 +1,8 @@
--- `pack::fine::fill_scores` meets its contract, by the kind. Assumes nothing.
+-- `pack::checked::fill_scores` meets its contract, by the kind. Assumes nothing.
 use borrow.Author.Needs.{needs}
 use Rattle.pack.proofs.FinePacks.{finite-rows, left-scored, left-bare}
-use Rattle.pack.proofs.fine.fill_scores.Statement.{statement}
-use Rattle.pack.proofs.fine.fill_scores.Tie as tie
+use Rattle.pack.proofs.checked.fill_scores.Statement.{statement}
+use Rattle.pack.proofs.checked.fill_scores.Tie as tie
 
 abbrev entry : tie.At-match-keys1 → tie.Start
 entry c = let k = c .before .before in k .before .before

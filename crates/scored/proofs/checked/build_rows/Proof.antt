@@ -1,4 +1,4 @@
--- `scored::fine::build_rows` meets its contract: the room is the least that the columns have, what the core answers is answered, and the score
+-- `scored::checked::build_rows` meets its contract: the room is the least that the columns have, what the core answers is answered, and the score
 -- column is made zero or filled. Assumes nothing.
 use mathlib.Core.Path.{sym, ap, _∙_}
 use mathlib.Core.List.{map}
@@ -13,13 +13,13 @@ use Rattle.rows.specs.Columns.{Columns}
 use Rattle.rows.specs.Answers.{scoredColumns}
 use Rattle.build.specs.Memory.{Memory, memory}
 use Rattle.build.proofs.Judging.{judged}
-use Rattle.build.specs.Core.{roomOf}
+use Rattle.build.specs.Checked.{roomOf}
 use Rattle.build.specs.Promise.{built}
 use Rattle.build.proofs.Rooms.{scored-room-for}
-use Rattle.scored.specs.Build.{Report, told}
+use Rattle.scored.specs.Build.{told}
 use Rattle.scored.proofs.Builds.{nodes-placed, Placed, lists-full, lists-built}
-use Rattle.scored.proofs.fine.build_rows.Statement.{statement}
-use Rattle.scored.proofs.fine.build_rows.Tie as tie
+use Rattle.scored.proofs.checked.build_rows.Statement.{statement}
+use Rattle.scored.proofs.checked.build_rows.Tie as tie
 
 -- ---- the ways back: to the start, to the call of `room`, to the call of the core, and to what it answered
 

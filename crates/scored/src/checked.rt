@@ -12,7 +12,7 @@ ghost use Rattle.rows.specs.declared.Kind.the-variants.{Unigram};
 ghost use Rattle.rows.specs.Columns.{columnsFault};
 ghost use Rattle.rows.specs.Answers.{scoredColumns, scoredWas};
 ghost use Rattle.build.specs.Memory.{memoryWas, scoredMemoryIs, scoredMemoryWas};
-ghost use Rattle.build.specs.Core.{roomOf};
+ghost use Rattle.build.specs.Checked.{roomOf};
 ghost use Rattle.scored.specs.Build as promise;
 ghost use Rattle.refusal.specs.Lent.{was};
 
@@ -29,7 +29,7 @@ pub fn room(
     ensures { λ r.
         ⌜ r ≡ min (roomOf (memoryWas «edge_at» «edge_n» «node_id» byte to work)) (length (was «node_score»)) ⌝ }
 {
-    let room = build::core::room(edge_at, edge_n, node_id, byte, to, work);
+    let room = build::checked::room(edge_at, edge_n, node_id, byte, to, work);
     if node_score.len() < room {
         return node_score.len();
     }
@@ -59,7 +59,7 @@ pub fn build_rows(
         (scoredMemoryIs «edge_at» «edge_n» «node_id» «node_score» byte to work) ⌝ }
 {
     let room = room(edge_at, edge_n, node_id, node_score, byte, to, work);
-    let built = build::core::build(
+    let built = build::checked::build(
         true,
         tab,
         off,

@@ -6,7 +6,6 @@ use refusal::Fault;
 use refusal::Reason;
 use rows::Kind;
 ghost use mathlib.Core.Path.{_≡_};
-ghost use mathlib.Core.Option.{none};
 ghost use Prim.Native.Nat.{_≤_};
 ghost use lib.ListN.{length};
 ghost use Rattle.doubles.specs.Units.{scoresIs, scoresWas};
@@ -74,7 +73,7 @@ pub fn build_fine(
         ⌜ PackBuilt (was bytes) (scoredMemoryWas «edge_at» «edge_n» «node_id» «node_score» byte to work) r
         (scoredMemoryIs «edge_at» «edge_n» «node_id» «node_score» byte to work) ⌝ }
 {
-    let room = scored::fine::room(edge_at, edge_n, node_id, node_score, byte, to, work);
+    let room = scored::checked::room(edge_at, edge_n, node_id, node_score, byte, to, work);
     let start = h.strings_off as usize;
     let built = crate::enter::build_rows(
         kind,

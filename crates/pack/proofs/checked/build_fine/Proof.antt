@@ -1,12 +1,12 @@
--- `pack::fine::build_fine` meets its contract: the room is the least that the columns have, and what the core answers is answered, with the
+-- `pack::checked::build_fine` meets its contract: the room is the least that the columns have, and what the core answers is answered, with the
 -- score column beside it. Assumes nothing.
 use native.Mathlib.Omega.{arith}
 use borrow.Author.Needs.{needs}
 use Rattle.build.specs.Memory.{Memory, memory}
 use Rattle.pack.proofs.FinePacks.{start-inside}
 use Rattle.pack.proofs.Promised.{lent-rows, room-is, fine-full, ids-there, scores-there, fits-word, fine-built}
-use Rattle.pack.proofs.fine.build_fine.Statement.{statement}
-use Rattle.pack.proofs.fine.build_fine.Tie as tie
+use Rattle.pack.proofs.checked.build_fine.Statement.{statement}
+use Rattle.pack.proofs.checked.build_fine.Tie as tie
 
 -- ---- the ways back: to the start, to the call of `room`, and to the call of the core from either case
 

@@ -1,4 +1,4 @@
--- `build::core::build` meets its contract: the rows are entered, and then the build is finished. Assumes nothing.
+-- `build::checked::build` meets its contract: the rows are entered, and then the build is finished. Assumes nothing.
 use borrow.Author.Needs.{needs}
 use mathlib.Core.List.{List}
 use Prim.Native.Nat.{ℕ}
@@ -8,8 +8,8 @@ use Rattle.build.specs.Rules.{tokensOf}
 use Rattle.build.specs.Given.{given, rulesFrom, noRule}
 use Rattle.build.specs.Memory.{memory}
 use Rattle.build.proofs.Filled.{built-kept, room-kept}
-use Rattle.build.proofs.core.build.Statement.{statement}
-use Rattle.build.proofs.core.build.Tie as tie
+use Rattle.build.proofs.checked.build.Statement.{statement}
+use Rattle.build.proofs.checked.build.Tie as tie
 
 -- ---- the ways back
 
