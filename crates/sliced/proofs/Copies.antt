@@ -37,7 +37,8 @@ use Rattle.scored.specs.declared.BuildAnswer.{BuildAnswer}
 use Rattle.scored.specs.declared.BuildAnswer.the-variants as answer-is
 use Rattle.scored.specs.Build.{reportOf, told}
 use Rattle.sliced.specs.BuildRows.{RowPlaces, rowPlaces, zeroRows, shortOf, rowsJudged, shortFor, PlacesBuilt, RowsBuilt}
-use Rattle.sliced.specs.Copied.{putRow, putRows, Places, toCopy, firstPlaces, Ready}
+use Rattle.sliced.specs.Copied.{putRow, firstPlaces, Ready}
+use Rattle.sliced.proofs.Slices.{putRows, putAll}
 
 -- ---- room for the rows
 
@@ -56,18 +57,6 @@ module _ (n : ℕ) (off len : List ℕ) (scores : List Float) where
 
   pub all-hold : shortOf n (rowPlaces off len scores) ≡ false → (n ≤ length off) × (n ≤ length len) × (n ≤ length scores)
   all-hold e = three-hold n (length off) (length len) (length scores) (short-is ∙ e)
-
-  -- as many as are copied have room
-  pub copy-holds : {A : Type 0} (rows : List A) (o : Option Reason) → n ≡ length rows → Places (toCopy o (anyBelow n (length off ∷ length len ∷ length scores ∷ [])) n) rows off len scores
-  unfolding toCopy
-  copy-holds rows (some r) e = record { rows-hold = omega arith; off-holds = omega arith; len-holds = omega arith; score-holds = omega arith }
-  copy-holds rows none e = go (anyBelow n (length off ∷ length len ∷ length scores ∷ [])) refl
-    where
-      go : (t : Bool) → anyBelow n (length off ∷ length len ∷ length scores ∷ []) ≡ t → Places (cond t 0 n) rows off len scores
-      go true p = record { rows-hold = omega arith; off-holds = omega arith; len-holds = omega arith; score-holds = omega arith }
-      go false p =
-          let h = three-hold n (length off) (length len) (length scores) p in
-          record { rows-hold = omega (arith, e); off-holds = h .0; len-holds = h .1; score-holds = h .2 }
 
 -- ---- every place zero
 
@@ -102,10 +91,6 @@ in-front l vs h = ap (take (length vs)) (sets-eq vs l 0 (omega arith)) ∙ take-
 column-front : {A : Type 0} (f : Row → A) (l : List A) (rs : List Row) → length rs ≤ length l → take (length rs) (sets l 0 (map f rs)) ≡ map f rs
 column-front f l rs h =
     ap (λ (k : ℕ). take k (sets l 0 (map f rs))) (sym (length-map rs f)) ∙ in-front l (map f rs) (omega (arith, length-map rs f))
-
-take-all : {A : Type 0} (l : List A) → take (length l) l ≡ l
-take-all [] = refl
-take-all {A = A} (x ∷ xs) = ap (λ (r : List A). x ∷ r) (take-all xs)
 
 map-take : {A B : Type 0} (f : A → B) (n : ℕ) (l : List A) → map f (take n l) ≡ take n (map f l)
 map-take f zero l = refl
@@ -175,7 +160,9 @@ module _ (tab : List ℕ) (rs : List Row) (fine : rowsJudged tab rs ≡ none) wh
   sizes = passed (tooLarge (length rs) (length tab)) (reason.Call fault.Size) (firstBad Unigram tab 0 rs) fine
 
   scored : (i : ℕ) → i < length rs → score (scoreOf (getD rs i noRow .worth)) ≡ getD rs i noRow .worth
-  scored i h = worth-scored (getD rs i noRow .worth) (fine-worth Unigram tab (getD rs i noRow) (none-bad-says Unigram tab noRow 0 rs (sizes .1) i h))
+  scored i h =
+      let fine = none-bad-says Unigram tab noRow 0 rs (sizes .1) i h in
+      worth-scored (getD rs i noRow .worth) (fine-worth Unigram tab (getD rs i noRow) fine)
 
   row-is : (i : ℕ) → i < length rs → rowAt (columnsFor rs) i ≡ getD rs i noRow
   unfolding columnsFor rowAt
@@ -274,11 +261,10 @@ module _ (n : ℕ) (tab : List ℕ) (rows : List Row) (lent : RowPlaces) (m : Me
         places = l ∙ zeros-left e;
       }
 
--- ---- the steps together
+-- ---- the turns together
 
-module _ (tab : List ℕ) (rs : List Row) (off len off₁ len₁ : List ℕ) (scores scores₁ : List Float) (o : Option Reason) (k : ℕ)
-    (judged : o ≡ rowsJudged tab rs) (counted : k ≡ toCopy o (anyBelow (length rs) (length off ∷ length len ∷ length scores ∷ [])) (length rs))
-    (put : rowPlaces off₁ len₁ scores₁ ≡ putRows (rowPlaces off len scores) 0 (take k rs))
+module _ (tab : List ℕ) (rs : List Row) (off len off₁ len₁ : List ℕ) (scores scores₁ : List Float) (o : Option Reason)
+    (judged : o ≡ rowsJudged tab rs) (put : rowPlaces off₁ len₁ scores₁ ≡ putAll (length rs) o 0 rs (rowPlaces off len scores))
   where
     abbrev lent : RowPlaces
     lent = rowPlaces off len scores
@@ -292,26 +278,15 @@ module _ (tab : List ℕ) (rs : List Row) (off len off₁ len₁ : List ℕ) (sc
     abbrev c : Columns
     c = firstPlaces n′ off₁ len₁ scores₁
 
-    -- nothing was put
-    none-put : k ≡ 0 → lent₁ ≡ lent
-    unfolding putRows
-    none-put e = put ∙ ap (λ (j : ℕ). putRows lent 0 (take j rs)) e
+    -- where something was found, or the columns are short, nothing was put; and else all were
+    found-none : {r : Reason} → o ≡ some r → lent₁ ≡ lent
+    unfolding putAll
+    found-none e = put ∙ ap (λ (x : Option Reason). putAll n′ x 0 rs lent) e
 
-    found-none : {r : Reason} → o ≡ some r → k ≡ 0
-    unfolding toCopy
-    found-none e = counted ∙ ap (λ (x : Option Reason). toCopy x (anyBelow n′ (length off ∷ length len ∷ length scores ∷ [])) n′) e
-
-    short-none : o ≡ none → shortOf n′ lent ≡ true → k ≡ 0
-    unfolding toCopy
-    short-none e p = counted ∙ ap (λ (x : Option Reason). toCopy x (anyBelow n′ (length off ∷ length len ∷ length scores ∷ [])) n′) e ∙ ap (λ (t : Bool). cond t 0 n′) (short-is n′ off len scores ∙ p)
-
-    -- all were put
-    all-put : o ≡ none → shortOf n′ lent ≡ false → lent₁ ≡ putRows lent 0 rs
-    unfolding toCopy
-    all-put e p =
-        let all : k ≡ n′ = counted ∙ ap (λ (x : Option Reason). toCopy x (anyBelow n′ (length off ∷ length len ∷ length scores
-        ∷ [])) n′) e ∙ ap (λ (t : Bool). cond t 0 n′) (short-is n′ off len scores ∙ p) in
-        put ∙ ap (λ (j : ℕ). putRows lent 0 (take j rs)) all ∙ ap (putRows lent 0) (take-all rs)
+    by-short : o ≡ none → {t : Bool} → shortOf n′ lent ≡ t → lent₁ ≡ cond t lent (putRows lent 0 rs)
+    unfolding putAll
+    by-short e p = put ∙ ap (λ (x : Option Reason). putAll n′ x 0 rs lent) e ∙ ap (λ (t : Bool). cond t lent
+        (putRows lent 0 rs)) p
 
     -- what all that were put are
     record Whole : Type 0 where
@@ -323,7 +298,7 @@ module _ (tab : List ℕ) (rs : List Row) (off len off₁ len₁ : List ℕ) (sc
     all-there : o ≡ none → shortOf n′ lent ≡ false → Whole
     all-there e p =
         let h = all-hold n′ off len scores p in
-        let w = all-put e p in
+        let w = by-short e p in
         let s : n′ ≤ length (map units scores) = omega (arith, h .2, length-map scores units) in
         let same = first-places rs off₁ len₁ scores₁ lent w (h .0) (h .1) s in
         let fine = sym judged ∙ e in
@@ -337,7 +312,7 @@ module _ (tab : List ℕ) (rs : List Row) (off len off₁ len₁ : List ℕ) (sc
     -- where there is room for the rows after the copy there was room before
     room-before : o ≡ none → (t : Bool) → shortOf n′ lent ≡ t → shortOf n′ lent₁ ≡ false → shortOf n′ lent ≡ false
     room-before e false p q = p
-    room-before e true p q = sym (ap (shortOf n′) (none-put (short-none e p))) ∙ q
+    room-before e true p q = sym (ap (shortOf n′) (by-short e p)) ∙ q
 
     pub ready : Ready o (length rs) tab off₁ len₁ scores₁
     ready =
@@ -372,7 +347,7 @@ module _ (tab : List ℕ) (rs : List Row) (off len off₁ len₁ : List ℕ) (sc
         by-room : o ≡ none → (t : Bool) → shortOf n′ lent ≡ t → Aim
         unfolding refuse
         by-room e true p =
-            let same = none-put (short-none e p) in
+            let same = by-short e p in
             refused (fault-left o short-first e (ap (λ (t : Bool). t || noScoredRoom (nodesOf tab (rowsOf c)) m) (ap (shortOf n′) same ∙ p)))
             (fault-left (rowsJudged tab rs) short-all (sym judged ∙ e) (ap (λ (t : Bool). t || noScoredRoom (nodesOf tab rs) m) p)) same
         by-room e false p =
@@ -391,5 +366,6 @@ module _ (tab : List ℕ) (rs : List Row) (off len off₁ len₁ : List ℕ) (sc
           where
             by-found : (x : Option Reason) → o ≡ x → Aim
             by-found (some r) e =
-                refused (fault-found o short-first e) (fault-found (rowsJudged tab rs) short-all (sym judged ∙ e)) (none-put (found-none e))
+                refused (fault-found o short-first e) (fault-found (rowsJudged tab rs) short-all (sym judged ∙ e))
+                (found-none e)
             by-found none e = by-room e (shortOf n′ lent) refl

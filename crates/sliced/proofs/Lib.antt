@@ -5,7 +5,7 @@ pub mod Determinacy
 pub mod Slices
 -- for walks by hand: a row's machine value, and slices that are lent again for a call and come back
 pub mod RowCells
-pub mod Groups
+pub mod Locals
 pub mod Again
 -- the promise of `build_rows`, in each case
 pub mod Copies

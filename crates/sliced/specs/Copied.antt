@@ -1,12 +1,12 @@
 -- A slice of rows, judged and copied into lent columns: what each step of `build_rows` promises. Definitions only; assumes nothing.
 use mathlib.Core.Path.{_≡_}
-use Prim.Native.Nat.{ℕ, suc, _≤_}
-use mathlib.Core.Bool.{Bool, true, false, cond}
+use Prim.Native.Nat.{ℕ, _-_}
+use mathlib.Core.Bool.{true, false, cond}
 use mathlib.Core.List.{List, [], _∷_}
 use mathlib.Core.Option.{Option, none, some}
-use lib.Dec.{eqb}
+use lib.Dec.{ltb, eqb}
 use lib.Ieee.{Float}
-use lib.ListN.{length, set, take, replicate}
+use lib.ListN.{set, take, replicate}
 use Rattle.refusal.specs.declared.Reason.{Reason}
 use Rattle.refusal.specs.Refusal.{numberOf, first}
 use Rattle.rows.specs.declared.Kind.the-variants as kind
@@ -24,22 +24,18 @@ foundAfter found tab r i = first found (firstBad kind.Unigram tab i (r ∷ []))
 unfoldable pub putRow : RowPlaces → ℕ → Row → RowPlaces
 putRow c i r = record { off = set (c .off) i (r .off); len = set (c .len) i (r .len); score = set (c .score) i (scoreOf (r .worth)) }
 
--- the rows from place i on
-unfoldable pub putRows : RowPlaces → ℕ → List Row → RowPlaces
-putRows c i [] = c
-putRows c i (r ∷ rs) = putRows (putRow c i r) (suc i) rs
+-- a row put at place i, where nothing was found and the columns have room for n rows
+unfoldable pub putFine : ℕ → Option Reason → ℕ → Row → RowPlaces → RowPlaces
+putFine n (some f) i r c = c
+putFine n none i r c = cond (shortOf n c) c (putRow c i r)
 
--- there are n places in each list
-pub record Places {A : Type 0} (n : ℕ) (rows : List A) (off len : List ℕ) (score : List Float) : Type 0 where
-  pub rows-hold : n ≤ length rows
-  pub off-holds : n ≤ length off
-  pub len-holds : n ≤ length len
-  pub score-holds : n ≤ length score
+-- what is found after turn t of 2n over n rows: in the first n turns a row is judged
+unfoldable pub foundBy : ℕ → ℕ → List ℕ → Row → Option Reason → Option Reason
+foundBy n t tab r found = cond (ltb t n) (foundAfter found tab r t) found
 
--- how many of n rows to copy: all, where they are fine and the columns have room
-unfoldable pub toCopy : Option Reason → Bool → ℕ → ℕ
-toCopy (some r) short n = 0
-toCopy none short n = cond short 0 n
+-- the columns after it: in the other turns a row is put
+unfoldable pub placesBy : ℕ → ℕ → Option Reason → Row → RowPlaces → RowPlaces
+placesBy n t found r c = cond (ltb t n) c (putFine n found (t - n) r c)
 
 -- The first n places as the columns of a row list, each row with a score for its worth. A Unigram build looks at no id, so the offsets stand in.
 abbrev pub firstPlaces : ℕ → List ℕ → List ℕ → List Float → Columns

@@ -31,12 +31,16 @@ pub fn build_rows(
         (scoredMemoryWas «edge_at» «edge_n» «node_id» «node_score» byte to work) r (placesIs off len score)
         (scoredMemoryIs «edge_at» «edge_n» «node_id» «node_score» byte to work) ⌝ }
 {
-    let found = slice::judge(tab, rows);
-    let n = slice::to_copy(found, rows.len(), off.len(), len.len(), score.len());
-    slice::copy(rows, n, off, len, score);
+    let n = rows.len();
+    let mut found = slice::sized(n, tab.len());
+    let mut t: usize = 0;
+    while t < 2 * n {
+        found = slice::turn(found, n, t, tab, rows[t % n], off, len, score);
+        t += 1;
+    }
     slice::build_copied(
         found,
-        rows.len(),
+        n,
         tab,
         off,
         len,

@@ -1,5 +1,5 @@
-// A row list that is lent as a slice of rows: judged as a whole, copied into lent columns, and built there. What holds the slice has no branch of
-// its own, and each turn of its loops is a call on one row.
+// A row list that is lent as a slice of rows: judged as a whole, copied into lent columns, and built there. No function here
+// holds the slice: each turn over it is a call on one row.
 use refusal::Fault;
 use refusal::Judged;
 use refusal::Reason;
@@ -11,14 +11,15 @@ use scored::BuildAnswer;
 use scored::checked;
 ghost use mathlib.Core.Path.{_≡_};
 ghost use mathlib.Core.Bool.{false};
-ghost use mathlib.Core.List.{[], _∷_, map};
+ghost use mathlib.Core.List.{[], _∷_};
 ghost use mathlib.Core.Option.{none};
-ghost use Prim.Native.Nat.{_<_};
-ghost use lib.ListN.{length, take};
+ghost use Prim.Native.Nat.{_+_, _<_, _≤_};
+ghost use lib.ListN.{length};
 ghost use Rattle.doubles.specs.Units.{units, scoresIs, scoresWas};
 ghost use Rattle.refusal.specs.declared.Fault.the-variants as fault;
 ghost use Rattle.refusal.specs.declared.Reason.the-variants as reason;
 ghost use Rattle.refusal.specs.Refusal.{refuse};
+ghost use Rattle.refusal.specs.Sizes.{maxRows};
 ghost use Rattle.rows.specs.Rows.{worthIs, rowIs};
 ghost use Rattle.rows.specs.declared.Kind.the-variants.{Unigram};
 ghost use Rattle.rows.specs.Columns.{rowsOf, tooLarge, columnsFault};
@@ -26,12 +27,12 @@ ghost use Rattle.rows.specs.Answers.{reasonIn};
 ghost use Rattle.build.specs.Rules.{scoreOf};
 ghost use Rattle.build.specs.Memory.{anyBelow, cleared, zeroScores, memoryIs, memoryWas, scoredMemoryIs, scoredMemoryWas};
 ghost use Rattle.scored.specs.Build as promise;
-ghost use Rattle.sliced.specs.BuildRows.{rowPlaces, rowsJudged, zeroRows, shortOf, PlacesBuilt, placesIs, placesWas};
-ghost use Rattle.sliced.specs.Copied.{foundAfter, putRow, putRows, Places, toCopy, firstPlaces, Ready};
+ghost use Rattle.sliced.specs.BuildRows.{rowPlaces, zeroRows, shortOf, PlacesBuilt, placesIs, placesWas};
+ghost use Rattle.sliced.specs.Copied.{foundAfter, putRow, putFine, foundBy, placesBy, firstPlaces, Ready};
 ghost use Rattle.refusal.specs.Lent.{was};
 
 // Too many rows or too large a table, before any row is looked at.
-fn sized(count: usize, table: usize) -> RowsAnswer
+pub(crate) fn sized(count: usize, table: usize) -> RowsAnswer
     ensures { λ r. ⌜ reasonIn r ≡ refuse (tooLarge count table) (reason.Call fault.Size) none ⌝ }
 {
     if rows::columns::is_large(count, table) {
@@ -54,19 +55,6 @@ fn judge_row(found: RowsAnswer, tab: &[u8], row: Row, i: usize) -> RowsAnswer
     }
 }
 
-// Whether every row is fine. Refused with 1 for too many rows or too large a table; then the first bad row decides.
-pub(crate) fn judge(tab: &[u8], rows: &[Row]) -> RowsAnswer
-    ensures { λ r. ⌜ reasonIn r ≡ rowsJudged (was tab) (map rowIs (was rows)) ⌝ }
-{
-    let mut found = sized(rows.len(), tab.len());
-    let mut i: usize = 0;
-    while i < rows.len() {
-        found = judge_row(found, tab, rows[i], i);
-        i += 1;
-    }
-    found
-}
-
 // The score of a row; 0 where its worth is none.
 fn score_in(worth: Worth) -> f64
     ensures { λ r. ⌜ units r ≡ scoreOf (worthIs worth) ⌝ }
@@ -77,7 +65,7 @@ fn score_in(worth: Worth) -> f64
     }
 }
 
-// Row i goes to place i of the columns.
+// A row goes to place i of the columns.
 fn put_row(off: &mut [u32], len: &mut [u32], score: &mut [f64], i: usize, row: Row)
     requires { ⌜ (i < length (now off)) × (i < length (now len)) × (i < length (now score)) ⌝ }
     ensures { λ _. ⌜ placesIs off len score ≡ putRow (placesWas off len score) i (rowIs row) ⌝ }
@@ -86,18 +74,6 @@ fn put_row(off: &mut [u32], len: &mut [u32], score: &mut [f64], i: usize, row: R
     len[i] = row.len;
     let worth = row.worth;
     score[i] = score_in(worth);
-}
-
-// The first n rows go to the first places of the columns.
-pub(crate) fn copy(rows: &[Row], n: usize, off: &mut [u32], len: &mut [u32], score: &mut [f64])
-    requires { ⌜ Places n (now rows) (now off) (now len) (now score) ⌝ }
-    ensures { λ _. ⌜ placesIs off len score ≡ putRows (placesWas off len score) 0 (take n (map rowIs (was rows))) ⌝ }
-{
-    let mut i: usize = 0;
-    while i < n {
-        put_row(off, len, score, i, rows[i]);
-        i += 1;
-    }
 }
 
 // Whether a column has fewer than n places.
@@ -113,14 +89,50 @@ fn is_short(n: usize, off: usize, len: usize, score: usize) -> bool
     score < n
 }
 
-// How many of n rows to copy: all, where they are fine and the columns have room.
-pub(crate) fn to_copy(found: RowsAnswer, n: usize, off: usize, len: usize, score: usize) -> usize
-    ensures { λ r. ⌜ r ≡ toCopy (reasonIn found) (anyBelow n (off ∷ len ∷ score ∷ [])) n ⌝ }
+// A row goes to place i, where no fault was found and the columns have room for n rows.
+fn put_fine(
+    found: RowsAnswer,
+    n: usize,
+    i: usize,
+    row: Row,
+    off: &mut [u32],
+    len: &mut [u32],
+    score: &mut [f64],
+)
+    requires { ⌜ i < n ⌝ }
+    ensures { λ _.
+        ⌜ placesIs off len score ≡ putFine n (reasonIn found) i (rowIs row) (placesWas off len score) ⌝ }
 {
-    match found {
-        RowsAnswer::Refused(_) => 0,
-        RowsAnswer::Fine => { if is_short(n, off, len, score) { 0 } else { n } }
+    if let RowsAnswer::Refused(_) = found {
+        return;
     }
+    if is_short(n, off.len(), len.len(), score.len()) {
+        return;
+    }
+    put_row(off, len, score, i, row);
+}
+
+// Turn t of 2n over n rows: in the first n a row is judged, in the others it is put. Answers what is found so far.
+pub(crate) fn turn(
+    found: RowsAnswer,
+    n: usize,
+    t: usize,
+    tab: &[u8],
+    row: Row,
+    off: &mut [u32],
+    len: &mut [u32],
+    score: &mut [f64],
+) -> RowsAnswer
+    requires { ⌜ (t < n + n) × (reasonIn found ≡ none → n ≤ maxRows) ⌝ }
+    ensures { λ r.
+        ⌜ (reasonIn r ≡ foundBy n t (was tab) (rowIs row) (reasonIn found)) ×
+        (placesIs off len score ≡ placesBy n t (reasonIn found) (rowIs row) (placesWas off len score)) ⌝ }
+{
+    if t < n {
+        return judge_row(found, tab, row, t);
+    }
+    put_fine(found, n, t - n, row, off, len, score);
+    found
 }
 
 // Every place of the three columns zero.
