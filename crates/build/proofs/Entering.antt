@@ -3,13 +3,13 @@
 use mathlib.Core.Path.{_≡_, refl, sym, ap, _∙_, subst}
 use mathlib.Core.List.{List, [], _∷_, _++_}
 use mathlib.Core.Option.{Option, some}
-use Prim.Native.Nat.{ℕ, suc, _+_, _≤_, _<_}
+use Prim.Native.Nat.{ℕ, _+_, _≤_, _<_}
 use native.Mathlib.Omega.{arith}
 use native.Mathlib.Numerals.{add-one}
 use lib.ListN.{length, getD, take, drop}
 use lib.Seq.{take-suc, drop-cons, take-length, drop-length}
 use Rattle.build.specs.Names.{place, prefixes, add, enter}
-use Rattle.build.specs.Held.{Held, Roomy, Enterable, Done}
+use Rattle.build.specs.Held.{Held, Roomy, Enterable, Done, ByteEntered}
 use Rattle.build.proofs.Places.{place-below}
 use Rattle.build.proofs.Grown.{List², grown-root, enter-grows}
 
@@ -19,9 +19,14 @@ pub record Kept (edgeN₀ id₀ work₀ edgeN id work : List ℕ) : Type 0 where
   pub ids : length id ≡ length id₀
   pub links : length work ≡ length work₀
 
-pub roomy-kept : (room : ℕ) (edgeN₀ id₀ work₀ edgeN id work : List ℕ) → Kept edgeN₀ id₀ work₀ edgeN id work → Roomy room edgeN₀ id₀ work₀ → Roomy room edgeN id work
-roomy-kept room edgeN₀ id₀ work₀ edgeN id work k r =
-    record { nodes = omega arith; ids = omega arith; links = omega arith; small = r .small }
+module _ {edgeN₀ id₀ work₀ edgeN id work : List ℕ} (k : Kept edgeN₀ id₀ work₀ edgeN id work) where
+  pub roomy-kept : {room : ℕ} → Roomy room edgeN₀ id₀ work₀ → Roomy room edgeN id work
+  roomy-kept r = record { nodes = omega arith; ids = omega arith; links = omega arith; small = r .small }
+
+  pub kept-on :
+      {edgeN′ id′ work′ : List ℕ} → length edgeN′ ≡ length edgeN → length id′ ≡ length id → length work′ ≡ length work
+      → Kept edgeN₀ id₀ work₀ edgeN′ id′ work′
+  kept-on e i w = record { nodes = e ∙ k .nodes; ids = i ∙ k .ids; links = w ∙ k .links }
 
 -- a token of no bytes
 pub length-zero : (s : List ℕ) → length s ≡ 0 → s ≡ []
@@ -38,10 +43,9 @@ pub record Along (ns : List²) (rule : List ℕ → Option ℕ) (t : List ℕ) (
   pub on : enter ns (prefixes [] t) ≡ enter names (prefixes (take i t) (drop i t))
 
 pub along-start :
-    (ns : List²) (rule : List ℕ → Option ℕ) (t edgeN id work : List ℕ) (n : ℕ) → Held ns rule edgeN id work → n ≡ length ns
+    {ns : List²} {rule : List ℕ → Option ℕ} {t edgeN id work : List ℕ} {n : ℕ} → Held ns rule edgeN id work → n ≡ length ns
     → Along ns rule t 0 edgeN id work 0 n
-along-start ns rule t edgeN id work n h e =
-    record { names = ns; held = h; count = e; here = grown-root (h .links .grown); on = refl }
+along-start {ns = ns} h e = record { names = ns; held = h; count = e; here = grown-root (h .links .grown); on = refl }
 
 prefixes-one : (p : List ℕ) (b : ℕ) (s : List ℕ) (ns : List²) → enter ns (prefixes p (b ∷ s)) ≡ enter (add ns (p ++ (b ∷ []))) (prefixes (p ++ (b ∷ [])) s)
 unfolding prefixes enter
@@ -51,59 +55,63 @@ pub prefixes-none : (p : List ℕ) (ns : List²) → enter ns (prefixes p []) �
 unfolding prefixes enter
 prefixes-none p ns = refl
 
-module _ (ns : List²) (rule : List ℕ → Option ℕ) (t : List ℕ) (i : ℕ) (edgeN id work : List ℕ) (node n : ℕ)
+module _ {ns : List²} {rule : List ℕ → Option ℕ} {t : List ℕ} {i : ℕ} {edgeN id work : List ℕ} {node n : ℕ}
     (along : Along ns rule t i edgeN id work node n) where
-  pub along-next : i < length t → (b : ℕ) → b ≡ getD t i 0 → take (i + 1) t ≡ take i t ++ (b ∷ [])
-  along-next h b e = ap (λ (k : ℕ). take k t) (add-one i) ∙ take-suc t i 0 h ∙ ap (λ (x : ℕ). take i t ++ (x ∷ [])) (sym e)
+  -- the next byte, the string with it, and the nodes with that
+  module _ (h : i < length t) where
+    abbrev b : ℕ
+    b = getD t i 0
 
-  along-on :
-      i < length t → (b : ℕ) → b ≡ getD t i 0
-      → enter ns (prefixes [] t) ≡ enter (add (along .names) (take i t ++ (b ∷ []))) (prefixes (take i t ++ (b ∷ [])) (drop (i + 1) t))
-  along-on h b e =
-      let cut : drop i t ≡ b ∷ drop (i + 1) t =
-      drop-cons t i 0 h ∙ ap (λ (x : ℕ). x ∷ drop (suc i) t) (sym e) ∙ ap (λ (k : ℕ). b ∷ drop k t) (sym (add-one i)) in
-      along .on ∙ ap (λ (r : List ℕ). enter (along .names) (prefixes (take i t) r)) cut
-      ∙ prefixes-one (take i t) b (drop (i + 1) t) (along .names)
+    abbrev string : List ℕ
+    string = take i t ++ (b ∷ [])
 
-  module _ (room b : ℕ) (h : i < length t) (e : b ≡ getD t i 0) (edgeN′ id′ work′ : List ℕ) (node′ n′ : ℕ)
-      (done : Done (add (along .names) (take i t ++ (b ∷ []))) rule (take i t ++ (b ∷ [])) room edgeN′ id′ work′ node′ n′) where
-    -- the byte found its node
-    pub along-turn : (node′ ≡ room → ⊥) → Along ns rule t (i + 1) edgeN′ id′ work′ node′ n′
-    along-turn z =
-        let next = along-next h b e in
-        record {
-          names = add (along .names) (take i t ++ (b ∷ []));
-          held = done .held z;
-          count = done .count z;
-          here = ap (place (add (along .names) (take i t ++ (b ∷ [])))) next ∙ done .here z;
-          on =
-              along-on h b e
-              ∙ ap (λ (p : List ℕ). enter (add (along .names) (take i t ++ (b ∷ []))) (prefixes p (drop (i + 1) t))) (sym next);
-        }
+    abbrev then : List²
+    then = add (along .names) string
 
-    -- it found no room
-    pub along-full :
-        node′ ≡ room → (edgeN″ id″ work″ : List ℕ) (n″ : ℕ) → Done (enter ns (prefixes [] t)) rule t room edgeN″ id″ work″ node′ n″
-    along-full z edgeN″ id″ work″ n″ =
-        record {
-          full = λ y.
-              omega (
-                arith,
-                done .full z,
-                ap length (along-on h b e),
-                enter-grows (prefixes (take i t ++ (b ∷ [])) (drop (i + 1) t)) (add (along .names) (take i t ++ (b ∷ []))),
-              );
-          fits = λ y. absurd (y z);
-          count = λ y. absurd (y z);
-          here = λ y. absurd (y z);
-          held = λ y. absurd (y z);
-        }
+    along-next : take (i + 1) t ≡ string
+    along-next = ap (λ (k : ℕ). take k t) (add-one i) ∙ take-suc t i 0 h
 
-  pub along-below : node < n
+    along-on : enter ns (prefixes [] t) ≡ enter then (prefixes string (drop (i + 1) t))
+    along-on =
+        let cut : drop i t ≡ b ∷ drop (i + 1) t = drop-cons t i 0 h ∙ ap (λ (k : ℕ). b ∷ drop k t) (sym (add-one i)) in
+        along .on ∙ ap (λ (r : List ℕ). enter (along .names) (prefixes (take i t) r)) cut
+        ∙ prefixes-one (take i t) b (drop (i + 1) t) (along .names)
+
+    module _ {room : ℕ} {edgeN′ id′ work′ : List ℕ} {node′ n′ : ℕ}
+        (one : ByteEntered edgeN id work edgeN′ id′ work′ room node n (getD t i 0) node′ n′) where
+      done : Done then rule string room edgeN′ id′ work′ node′ n′
+      done = one .entered (along .names) rule (take i t) (along .held) (along .count) (along .here)
+
+      -- the byte found its node
+      pub along-fits : (node′ ≡ room → ⊥) → n′ ≤ room
+      along-fits z = done .fits z
+
+      pub along-turn : (node′ ≡ room → ⊥) → Along ns rule t (i + 1) edgeN′ id′ work′ node′ n′
+      along-turn z =
+          record {
+            names = then;
+            held = done .held z;
+            count = done .count z;
+            here = ap (place then) along-next ∙ done .here z;
+            on = along-on ∙ ap (λ (p : List ℕ). enter then (prefixes p (drop (i + 1) t))) (sym along-next);
+          }
+
+      -- it found no room
+      pub along-full : node′ ≡ room → Done (enter ns (prefixes [] t)) rule t room edgeN′ id′ work′ node′ n′
+      along-full z =
+          record {
+            full = λ y. omega (arith, done .full z, ap length along-on, enter-grows (prefixes string (drop (i + 1) t)) then);
+            fits = λ y. absurd (y z);
+            count = λ y. absurd (y z);
+            here = λ y. absurd (y z);
+            held = λ y. absurd (y z);
+          }
+
+  along-below : node < n
   along-below = omega (arith, along .count, place-below (along .names) (take i t) node (along .here))
 
-  pub along-end : (room : ℕ) → n ≤ room → i ≡ length t → Done (enter ns (prefixes [] t)) rule t room edgeN id work node n
-  along-end room fits e =
+  pub along-end : {room : ℕ} → n ≤ room → i ≡ length t → Done (enter ns (prefixes [] t)) rule t room edgeN id work node n
+  along-end fits e =
       let whole : take i t ≡ t = ap (λ (k : ℕ). take k t) e ∙ take-length t in
       let rest : drop i t ≡ [] = ap (λ (k : ℕ). drop k t) e ∙ drop-length t in
       let all : enter ns (prefixes [] t) ≡ along .names =
@@ -116,8 +124,8 @@ module _ (ns : List²) (rule : List ℕ → Option ℕ) (t : List ℕ) (i : ℕ)
         held = λ z. subst (λ (x : List²). Held x rule edgeN id work) (sym all) (along .held);
       }
 
-  pub along-enterable : (room : ℕ) → Roomy room edgeN id work → n ≤ room → Enterable edgeN id work room node n
-  along-enterable room roomy fits =
+  pub along-enterable : {room : ℕ} → Roomy room edgeN id work → n ≤ room → Enterable edgeN id work room node n
+  along-enterable roomy fits =
       record {
         names = along .names;
         rule = rule;

@@ -12,7 +12,6 @@ use lib.ListN.{length, getD, drop, replicate, length-append, length-map, length-
 use lib.Seq.{sets, sets-eq, getD-append-add, ext-getD}
 use Rattle.refusal.specs.Sizes.{noId}
 use Rattle.refusal.specs.Places.{zeroed, filled}
-use Rattle.trie.specs.Trie.{Trie}
 use Rattle.rows.specs.Rows.{Row}
 use Rattle.build.specs.declared.Built.{Built}
 use Rattle.build.specs.declared.Built.the-variants.{Nodes, NoRoom}
@@ -24,7 +23,7 @@ use Rattle.build.specs.Given.{rulesFrom, noRule, trieGiven}
 use Rattle.build.specs.Held.{ZeroFrom, Identified, Roomy, RowDone, Ready}
 use Rattle.build.specs.Laying.{bytesOf, targetsOf, allEdges, countsOf, AllReady, AllDone, OutReady, OutDone}
 use Rattle.build.specs.Memory.{Memory, memory, cleared, holding}
-use Rattle.build.specs.Checked.{RoomFor, nodesOf, BuiltOf, Finishable}
+use Rattle.build.specs.Checked.{RoomFor, nodesOf, BuiltOf, Finishable, Finished}
 use Rattle.build.proofs.Grown.{List², grown-distinct, grown-some}
 use Rattle.build.proofs.Laid.{getD-map-of, length-starts}
 use Rattle.build.proofs.Counted.{count-names}
@@ -89,9 +88,9 @@ ready-zeroed room edgeN id work edgeN′ id′ r p q =
 -- ---- the nodes may be laid out in columns made zero
 
 pub ready-again :
-    (edgeAt edgeN byte to work : List ℕ) (n : ℕ) (edgeAt′ byte′ to′ : List ℕ) → AllReady edgeAt edgeN byte to work n
+    {edgeAt edgeN byte to work : List ℕ} {n : ℕ} {edgeAt′ byte′ to′ : List ℕ} → AllReady edgeAt edgeN byte to work n
     → edgeAt′ ≡ zeroed 0 edgeAt → byte′ ≡ zeroed 0 byte → to′ ≡ zeroed 0 to → AllReady edgeAt′ edgeN byte′ to′ work n
-ready-again edgeAt edgeN byte to work n edgeAt′ byte′ to′ r p q s =
+ready-again {edgeAt = edgeAt} {byte = byte} {to = to} {edgeAt′ = edgeAt′} {byte′ = byte′} {to′ = to′} r p q s =
     record {
       names = r .names;
       links = r .links;
@@ -103,7 +102,7 @@ ready-again edgeAt edgeN byte to work n edgeAt′ byte′ to′ r p q s =
       room-to = omega (arith, length-zeroed to to′ s, r .room-to);
     }
 
-module _ (ns : List²) (g : Grown ns) (edgeAt edgeN byte to work : List ℕ) (n : ℕ) (count : n ≡ length ns)
+module _ {ns : List²} (g : Grown ns) {edgeAt edgeN byte to work : List ℕ} {n : ℕ} (count : n ≡ length ns)
     (r : OutReady edgeAt edgeN byte to work n) where
   length-counts : length (countsOf ns ns) ≡ length ns
   length-counts = length-map (map (edgesOf ns) ns) length ∙ length-map ns (edgesOf ns)
@@ -118,10 +117,10 @@ module _ (ns : List²) (g : Grown ns) (edgeAt edgeN byte to work : List ℕ) (n 
   few-targets = length-map (allEdges ns ns) (λ e. e .to) ∙ count-names g
 
   pub out-done :
-      (edgeAt₁ byte₁ to₁ edgeAt′ edgeN′ byte′ to′ work′ : List ℕ) → edgeAt₁ ≡ zeroed 0 edgeAt → byte₁ ≡ zeroed 0 byte → to₁ ≡ zeroed 0 to
-      → AllDone ns edgeAt₁ edgeN byte₁ to₁ edgeAt′ edgeN′ byte′ to′ → work′ ≡ zeroed 0 work
+      {edgeAt₁ byte₁ to₁ edgeAt′ edgeN′ byte′ to′ work′ : List ℕ} → edgeAt₁ ≡ zeroed 0 edgeAt → byte₁ ≡ zeroed 0 byte
+      → to₁ ≡ zeroed 0 to → AllDone ns edgeAt₁ edgeN byte₁ to₁ edgeAt′ edgeN′ byte′ to′ → work′ ≡ zeroed 0 work
       → OutDone ns edgeAt edgeN byte to work edgeAt′ edgeN′ byte′ to′ work′
-  out-done edgeAt₁ byte₁ to₁ edgeAt′ edgeN′ byte′ to′ work′ p q s d w =
+  out-done {edgeAt₁ = edgeAt₁} {byte₁ = byte₁} {to₁ = to₁} p q s d w =
       record {
         begun =
             d .begun
@@ -182,12 +181,9 @@ module _ (ns : List²) (g : Grown ns) (rule : List ℕ → Option ℕ) (id befor
 
 -- ---- the build
 
-module _ (edgeAt edgeN id byte to work : List ℕ) where
-  abbrev before : Memory
-  before = memory edgeAt edgeN id byte to work
-
-  pub finish-ready : (room n : ℕ) → Finishable room before n → n ≤ room → OutReady edgeAt edgeN byte to work n
-  finish-ready room n f fits =
+module _ {edgeAt edgeN id byte to work : List ℕ} {room n : ℕ} where
+  pub finish-ready : Finishable room (memory edgeAt edgeN id byte to work) n → n ≤ room → OutReady edgeAt edgeN byte to work n
+  finish-ready f fits =
       let held = f .done .held fits in
       let count = f .done .count fits in
       record {
@@ -204,13 +200,14 @@ module _ (edgeAt edgeN id byte to work : List ℕ) where
         past = λ k p. held .past k (omega (arith, count));
       }
 
-  module _ (first : Bool) (tab : List ℕ) (rows : List Row) (room n : ℕ)
+  module _ {first : Bool} {tab : List ℕ} {rows : List Row}
       (done : RowDone (names (tokensOf tab rows)) (rulesFrom first tab noRule 0 rows) room edgeN id work n) where
-    abbrev ns : List²
-    ns = names (tokensOf tab rows)
-
-    pub built-full : room < n → (after : Memory) → after ≡ cleared before → BuiltOf first tab rows room before after NoRoom
-    built-full h after e =
+    pub built-full :
+        room < n → {after : Memory} → after ≡ cleared (memory edgeAt edgeN id byte to work)
+        → BuiltOf first tab rows room (memory edgeAt edgeN id byte to work) after NoRoom
+    built-full h e =
+        let ns = names (tokensOf tab rows) in
+        let before = memory edgeAt edgeN id byte to work in
         let full : ltb room (length ns) ≡ true = lt-ltb room (length ns) (done .full h) in
         record {
           answered = rw full;
@@ -218,10 +215,13 @@ module _ (edgeAt edgeN id byte to work : List ℕ) where
         }
 
     pub built-done :
-        (fits : n ≤ room) (edgeAt′ edgeN′ byte′ to′ work′ : List ℕ) → OutDone ns edgeAt edgeN byte to work edgeAt′ edgeN′ byte′ to′ work′
-        → BuiltOf first tab rows room before (memory edgeAt′ edgeN′ id byte′ to′ work′) (Nodes n)
+        (fits : n ≤ room) {edgeAt′ edgeN′ byte′ to′ work′ : List ℕ}
+        → OutDone (names (tokensOf tab rows)) edgeAt edgeN byte to work edgeAt′ edgeN′ byte′ to′ work′
+        → BuiltOf first tab rows room (memory edgeAt edgeN id byte to work) (memory edgeAt′ edgeN′ id byte′ to′ work′) (Nodes n)
     unfolding holding lay trieOf
-    built-done fits edgeAt′ edgeN′ byte′ to′ work′ d =
+    built-done fits {edgeAt′ = edgeAt′} {edgeN′ = edgeN′} {byte′ = byte′} {to′ = to′} {work′ = work′} d =
+        let ns = names (tokensOf tab rows) in
+        let before = memory edgeAt edgeN id byte to work in
         let rule = rulesFrom first tab noRule 0 rows in
         let held = done .held fits in
         let room-left : ltb room (length ns) ≡ false = le-ltb room (length ns) (omega (arith, done .count fits)) in
@@ -242,60 +242,59 @@ module _ (edgeAt edgeN id byte to work : List ℕ) where
               ∙ sym (ap (λ (t : Bool). cond t (cleared before) (holding (trieGiven first tab rows) [] before)) room-left);
         }
 
--- ---- a build leaves the same in other columns of the same lengths
+-- ---- the build once the rows are entered: it leaves the same in other columns of the same lengths
 
-module _ (edgeAt edgeN id byte to work edgeN₂ id₂ work₂ : List ℕ)
-    (kn : length edgeN₂ ≡ length edgeN) (ki : length id₂ ≡ length id) (kw : length work₂ ≡ length work) where
-  abbrev then : Memory
-  then = memory edgeAt edgeN₂ id₂ byte to work₂
-
-  abbrev at-first : Memory
-  at-first = memory edgeAt edgeN id byte to work
-
-  pub room-kept : (room : ℕ) → RoomFor room at-first → RoomFor room then
-  room-kept room r =
+module _ {edgeAt edgeN₀ id₀ byte to work₀ edgeN id work : List ℕ} {room n : ℕ} where
+  pub entered-ready :
+      {ns : List²} {rule : List ℕ → Option ℕ} → RowDone ns rule room edgeN id work n
+      → RoomFor room (memory edgeAt edgeN₀ id₀ byte to work₀)
+      → length edgeN ≡ length edgeN₀ → length id ≡ length id₀ → length work ≡ length work₀
+      → Finishable room (memory edgeAt edgeN id byte to work) n
+  entered-ready {ns = ns} {rule = rule} d r kn ki kw =
       record {
-        starts = r .starts;
-        counts = omega (arith, r .counts);
-        ids = omega (arith, r .ids);
-        bytes = r .bytes;
-        targets = r .targets;
-        links = omega (arith, r .links);
-        small = r .small;
+        nodes = ns;
+        rule = rule;
+        done = d;
+        roomy = record {
+          starts = r .starts;
+          counts = omega (arith, r .counts);
+          ids = omega (arith, r .ids);
+          bytes = r .bytes;
+          targets = r .targets;
+          links = omega (arith, r .links);
+          small = r .small;
+        };
       }
 
-  same-cleared : cleared then ≡ cleared at-first
-  unfolding cleared
-  same-cleared =
-      λ i. record {
-        edgeAt = zeroed 0 edgeAt;
-        edgeN = zeroed-same edgeN₂ edgeN kn i;
-        id = zeroed-same id₂ id ki i;
-        score = [];
-        byte = zeroed 0 byte;
-        to = zeroed 0 to;
-        work = zeroed-same work₂ work kw i;
-      }
-
-  same-holding : (t : Trie) → holding t [] then ≡ holding t [] at-first
-  unfolding holding
-  same-holding t =
-      λ i. record {
-        edgeAt = filled 0 (t .edgeAt) edgeAt;
-        edgeN = filled-same (t .edgeN) edgeN₂ edgeN kn i;
-        id = filled-same (t .id) id₂ id ki i;
-        score = [];
-        byte = filled 0 (t .byte) byte;
-        to = filled 0 (t .to) to;
-        work = zeroed-same work₂ work kw i;
-      }
-
-  pub built-kept :
-      (first : Bool) (tab : List ℕ) (rows : List Row) (room : ℕ) (after : Memory) (answer : Built)
-      → BuiltOf first tab rows room then after answer → BuiltOf first tab rows room at-first after answer
-  built-kept first tab rows room after answer b =
+  pub entered-built :
+      {first : Bool} {tab : List ℕ} {rows : List Row} {after : Memory} {answer : Built}
+      → RowDone (names (tokensOf tab rows)) (rulesFrom first tab noRule 0 rows) room edgeN id work n
+      → Finished room (memory edgeAt edgeN id byte to work) after n answer
+      → length edgeN ≡ length edgeN₀ → length id ≡ length id₀ → length work ≡ length work₀
+      → BuiltOf first tab rows room (memory edgeAt edgeN₀ id₀ byte to work₀) after answer
+  unfolding cleared holding
+  entered-built {first = first} {tab = tab} {rows = rows} d f kn ki kw =
+      let b = f .built first tab rows d in
       let t = trieGiven first tab rows in
       record {
         answered = b .answered;
-        left = b .left ∙ ap₂ (cond (ltb room (nodesOf tab rows))) same-cleared (same-holding t);
+        left = b .left ∙ ap₂ (cond (ltb room (nodesOf tab rows)))
+            (λ i. record {
+              edgeAt = zeroed 0 edgeAt;
+              edgeN = zeroed-same edgeN edgeN₀ kn i;
+              id = zeroed-same id id₀ ki i;
+              score = [];
+              byte = zeroed 0 byte;
+              to = zeroed 0 to;
+              work = zeroed-same work work₀ kw i;
+            })
+            (λ i. record {
+              edgeAt = filled 0 (t .edgeAt) edgeAt;
+              edgeN = filled-same (t .edgeN) edgeN edgeN₀ kn i;
+              id = filled-same (t .id) id id₀ ki i;
+              score = [];
+              byte = filled 0 (t .byte) byte;
+              to = filled 0 (t .to) to;
+              work = zeroed-same work work₀ kw i;
+            });
       }

@@ -23,24 +23,24 @@ missing-before ns ms s e = missing (place ns s) (λ k p. none-some (sym e ∙ pl
 
 -- ---- is the child there?
 
-module _ (ns : List²) (edgeN work : List ℕ) (l : Linked ns work) (sp : Spelled ns 0 edgeN) (s : List ℕ) (node : ℕ)
-    (here : place ns s ≡ some node) (b at : ℕ) (slot : Slot ns s b at) where
+module _ {ns : List²} {edgeN work : List ℕ} {s : List ℕ} {node b at : ℕ} (l : Linked ns work) (sp : Spelled ns 0 edgeN)
+    (here : place ns s ≡ some node) (slot : Slot ns s b at) where
   abbrev child : ℕ
   child = getD work at 0
 
   pub child-there : (child ≡ 0 → ⊥) → getD edgeN child 0 ≡ b → place ns (s ++ (b ∷ [])) ≡ some child
   child-there z e =
-      let w = seek-least ns edgeN work l sp s node here b at slot z in
-      let byte : w .a ≡ b = sym (seek-byte ns edgeN work l sp s node here b at slot z) ∙ e in
+      let w = seek-least l sp here slot z in
+      let byte : w .a ≡ b = sym (seek-byte l sp here slot z) ∙ e in
       subst (λ (a : ℕ). place ns (s ++ (a ∷ [])) ≡ some child) byte (w .child)
 
   pub child-none : b < 256 → child ≡ 0 → place ns (s ++ (b ∷ [])) ≡ none
-  child-none h z = seek-none ns edgeN work l sp s node here b at slot z b (omega arith) h
+  child-none h z = seek-none l sp here slot z b (omega arith) h
 
   pub child-other : (child ≡ 0 → ⊥) → (getD edgeN child 0 ≡ b → ⊥) → place ns (s ++ (b ∷ [])) ≡ none
   child-other z e =
-      let w = seek-least ns edgeN work l sp s node here b at slot z in
-      let byte : getD edgeN child 0 ≡ w .a = seek-byte ns edgeN work l sp s node here b at slot z in
+      let w = seek-least l sp here slot z in
+      let byte : getD edgeN child 0 ≡ w .a = seek-byte l sp here slot z in
       w .clear b (omega arith) (omega (arith, above b (w .a) (w .from) (λ q. e (byte ∙ sym q))))
     where
       above : (b a : ℕ) → b ≤ a → (b ≡ a → ⊥) → b < a
@@ -48,13 +48,13 @@ module _ (ns : List²) (edgeN work : List ℕ) (l : Linked ns work) (sp : Spelle
 
 -- ---- what the byte makes
 
-module _ (ns : List²) (rule : List ℕ → Option ℕ) (edgeN id work : List ℕ) (h : Held ns rule edgeN id work) (s : List ℕ) (b room n : ℕ)
-    (count : n ≡ length ns) (fits : n ≤ room) where
+module _ {ns : List²} {rule : List ℕ → Option ℕ} {edgeN id work : List ℕ} {room n : ℕ}
+    (h : Held ns rule edgeN id work) (s : List ℕ) (b : ℕ) (count : n ≡ length ns) (fits : n ≤ room) where
   abbrev t : List ℕ
   t = s ++ (b ∷ [])
 
-  pub byte-there : (k : ℕ) → place ns t ≡ some k → Done (add ns t) rule t room edgeN id work k n
-  byte-there k e =
+  pub byte-there : {k : ℕ} → place ns t ≡ some k → Done (add ns t) rule t room edgeN id work k n
+  byte-there {k = k} e =
       let same = add-there ns t k e in
       let low : k < length ns = place-below ns t k e in
       record {
@@ -65,8 +65,8 @@ module _ (ns : List²) (rule : List ℕ → Option ℕ) (edgeN id work : List �
         held = λ z. subst (λ (x : List²). Held x rule edgeN id work) (sym same) h;
       }
 
-  pub byte-full : place ns t ≡ none → n ≡ room → (edgeN′ id′ work′ : List ℕ) → Done (add ns t) rule t room edgeN′ id′ work′ room n
-  byte-full e z edgeN′ id′ work′ =
+  pub byte-full : place ns t ≡ none → n ≡ room → Done (add ns t) rule t room edgeN id work room n
+  byte-full e z =
       record {
         full = λ y. omega (arith, ap length (add-new ns t e), length-more ns t);
         fits = λ y. absurd (y refl);
@@ -75,8 +75,8 @@ module _ (ns : List²) (rule : List ℕ → Option ℕ) (edgeN id work : List �
         held = λ y. absurd (y refl);
       }
 
-  module _ (node at : ℕ) (here : place ns s ≡ some node) (new : place ns t ≡ none) (slot : Slot ns s b at) (byte : b < 256) (more : n < room)
-      (roomy : Roomy room edgeN id work) where
+  module _ {node at : ℕ} (here : place ns s ≡ some node) (new : place ns t ≡ none) (slot : Slot ns s b at)
+      (byte : b < 256) (more : n < room) (roomy : Roomy room edgeN id work) where
     held-more : Held (ns ++ (t ∷ [])) rule (set edgeN (length ns) b) (set id (length ns) noId) (linkedWork work at (length ns))
     held-more =
         let room-work : 2 * suc (length ns) ≤ length work = omega (arith, roomy .links) in
@@ -104,9 +104,9 @@ module _ (ns : List²) (rule : List ℕ → Option ℕ) (edgeN id work : List �
         }
 
     pub byte-made :
-        (edgeN′ id′ work′ : List ℕ) → edgeN′ ≡ set edgeN n b → id′ ≡ set id n noId → work′ ≡ linkedWork work at n
+        {edgeN′ id′ work′ : List ℕ} → edgeN′ ≡ set edgeN n b → id′ ≡ set id n noId → work′ ≡ linkedWork work at n
         → Done (add ns t) rule t room edgeN′ id′ work′ n (n + 1)
-    byte-made edgeN′ id′ work′ p q r =
+    byte-made p q r =
         let same = add-new ns t new in
         record {
           full = λ z. absurd (omega arith);

@@ -53,24 +53,26 @@ marked-there false id node v (some i) h e small = getD-set-same id node v 0 h
 
 -- ---- the row
 
-module _ (first : Bool) (v : ℕ) (ns : List²) (rule : List ℕ → Option ℕ) (room : ℕ) (edgeN id work : List ℕ) where
-  pub row-empty : (n : ℕ) (t : List ℕ) → t ≡ [] → Held ns rule edgeN id work → n ≡ length ns → n ≤ room → RowDone (enter ns (prefixes [] t)) (marked first t v rule) room edgeN id work n
-  row-empty n t e h count fits =
-      let same : enter ns (prefixes [] t) ≡ ns = ap (λ (s : List ℕ). enter ns (prefixes [] s)) e ∙ prefixes-none [] ns in
-      let rules : marked first t v rule ≡ rule = ap (λ (s : List ℕ). marked first s v rule) e ∙ fun-ext (marked-nil first v rule) in
-      record {
-        full = λ z. absurd (omega arith);
-        count = λ z. count ∙ ap length (sym same);
-        held = λ z. rw (same, rules) h;
-      }
+pub row-empty :
+    (first : Bool) (v : ℕ) {ns : List²} {rule : List ℕ → Option ℕ} {t : List ℕ} {room : ℕ} {edgeN id work : List ℕ} {n : ℕ}
+    → t ≡ [] → Held ns rule edgeN id work → n ≡ length ns → n ≤ room
+    → RowDone (enter ns (prefixes [] t)) (marked first t v rule) room edgeN id work n
+row-empty first v {ns = ns} {rule = rule} {t = t} e h count fits =
+    let same : enter ns (prefixes [] t) ≡ ns = ap (λ (s : List ℕ). enter ns (prefixes [] s)) e ∙ prefixes-none [] ns in
+    let rules : marked first t v rule ≡ rule =
+    ap (λ (s : List ℕ). marked first s v rule) e ∙ fun-ext (marked-nil first v rule) in
+    record {
+      full = λ z. absurd (omega arith);
+      count = λ z. count ∙ ap length (sym same);
+      held = λ z. rw (same, rules) h;
+    }
 
-module _ (first : Bool) (v : ℕ) (ms : List²) (rule : List ℕ → Option ℕ) (t : List ℕ) (room : ℕ) (edgeN id work : List ℕ) (node n : ℕ)
+module _ {ms : List²} {rule : List ℕ → Option ℕ} {t : List ℕ} {room : ℕ} {edgeN id work : List ℕ} {node n : ℕ}
     (done : Done ms rule t room edgeN id work node n) where
-  pub row-full : node ≡ room → (rule′ : List ℕ → Option ℕ) (edgeN′ id′ work′ : List ℕ) → RowDone ms rule′ room edgeN′ id′ work′ (room + 1)
-  row-full z rule′ edgeN′ id′ work′ =
-      record { full = λ y. done .full z; count = λ y. absurd (omega arith); held = λ y. absurd (omega arith) }
+  pub row-full : node ≡ room → {rule′ : List ℕ → Option ℕ} → RowDone ms rule′ room edgeN id work (room + 1)
+  row-full z = record { full = λ y. done .full z; count = λ y. absurd (omega arith); held = λ y. absurd (omega arith) }
 
-  module _ (z : node ≡ room → ⊥) (some-byte : 0 < length t) (small : Unmarked first rule) where
+  module _ {first : Bool} (v : ℕ) (z : node ≡ room → ⊥) (some-byte : 0 < length t) (small : Unmarked first rule) where
     held : Held ms rule edgeN id work
     held = done .held z
 
@@ -87,8 +89,8 @@ module _ (first : Bool) (v : ℕ) (ms : List²) (rule : List ℕ → Option ℕ)
         self [] h = absurd (omega arith)
         self (b ∷ s) h = marked-self first b s v rule
 
-    pub row-marked : (id′ : List ℕ) → id′ ≡ markedIds first id node v → RowDone ms (marked first t v rule) room edgeN id′ work n
-    row-marked id′ e =
+    pub row-marked : {id′ : List ℕ} → id′ ≡ markedIds first id node v → RowDone ms (marked first t v rule) room edgeN id′ work n
+    row-marked e =
         record {
           full = λ y. absurd (omega (arith, done .fits z));
           count = λ y. done .count z;

@@ -33,9 +33,9 @@ pub record LaidTo (ns : List²) (edgeAt₀ edgeN₀ byte₀ to₀ edgeAt edgeN b
   pub sum : at + total ns (drop k ns) ≡ total ns ns
   pub bytes : Spelled ns k edgeN
 
-pub laid-start : (ns : List²) (edgeAt edgeN byte to : List ℕ) → Spelled ns 0 edgeN → LaidTo ns edgeAt edgeN byte to edgeAt edgeN byte to 0 0
-laid-start ns edgeAt edgeN byte to sp =
-    record { begun = refl; counted = refl; written = refl; led = refl; sum = omega arith; bytes = sp }
+pub laid-start :
+    {ns : List²} {edgeAt edgeN byte to : List ℕ} → Spelled ns 0 edgeN → LaidTo ns edgeAt edgeN byte to edgeAt edgeN byte to 0 0
+laid-start sp = record { begun = refl; counted = refl; written = refl; led = refl; sum = omega arith; bytes = sp }
 
 -- the edges of a node, and then those of the others, for either part of an edge
 next-edges :
@@ -46,7 +46,7 @@ next-edges f ns s r l at =
     ∙ ap (sets l at) (map-join f (edgesOf ns s) (allEdges ns r)) ∙ sets-append (map f (edgesOf ns s)) (map f (allEdges ns r)) l at
     ∙ ap (λ (k : ℕ). sets (sets l at (map f (edgesOf ns s))) (at + k) (map f (allEdges ns r))) (length-map (edgesOf ns s) f)
 
-module _ (ns : List²) (edgeAt₀ edgeN₀ byte₀ to₀ edgeAt edgeN byte to : List ℕ) (k at : ℕ)
+module _ {ns : List²} {edgeAt₀ edgeN₀ byte₀ to₀ edgeAt edgeN byte to : List ℕ} {k at : ℕ}
     (laid : LaidTo ns edgeAt₀ edgeN₀ byte₀ to₀ edgeAt edgeN byte to k at) where
   module _ (h : k < length ns) where
     abbrev s : List ℕ
@@ -61,13 +61,13 @@ module _ (ns : List²) (edgeAt₀ edgeN₀ byte₀ to₀ edgeAt edgeN byte to : 
     sum-next : at + length (edgesOf ns s) + total ns r ≡ total ns ns
     sum-next = omega (arith, laid .sum, ap (total ns) cut, total-one ns s r)
 
-    pub laid-few : (work : List ℕ) → Linked ns work → at + length (edgesOf ns s) < length ns
-    laid-few work l = omega (arith, sum-next, count-edges (l .grown))
+    pub laid-few : {work : List ℕ} → Linked ns work → at + length (edgesOf ns s) < length ns
+    laid-few l = omega (arith, sum-next, count-edges (l .grown))
 
     pub laid-turn :
-        (edgeAt′ edgeN′ byte′ to′ : List ℕ) (end : ℕ) → NodeDone ns edgeAt edgeN byte to edgeAt′ edgeN′ byte′ to′ k at end
+        {edgeAt′ edgeN′ byte′ to′ : List ℕ} {end : ℕ} → NodeDone ns edgeAt edgeN byte to edgeAt′ edgeN′ byte′ to′ k at end
         → LaidTo ns edgeAt₀ edgeN₀ byte₀ to₀ edgeAt′ edgeN′ byte′ to′ (k + 1) end
-    laid-turn edgeAt′ edgeN′ byte′ to′ end d =
+    laid-turn {end = end} d =
         let m = length (edgesOf ns s) in
         let stop : at + m ≡ end = sym (d .children .count) in
         record {

@@ -1,6 +1,6 @@
 -- Rows entered one by one, wherever they are read from. After i rows the columns hold the nodes and ids of those, and what is still to be
 -- entered is the rest. Assumes nothing.
-use mathlib.Core.Path.{_≡_, refl, sym, ap, _∙_, subst}
+use mathlib.Core.Path.{_≡_, refl, sym, ap, _∙_}
 use mathlib.Core.Bool.{Bool, true, false}
 use mathlib.Core.List.{List, [], _∷_, _++_, map}
 use mathlib.Core.Logic.{inl, ⊎-elim}
@@ -17,11 +17,12 @@ use Rattle.build.specs.Names.{place, prefixes, enter, names}
 use Rattle.build.specs.Grown.{root}
 use Rattle.build.specs.Rules.{idOfWorth, tokensOf}
 use Rattle.build.specs.Given.{rowGiven, givenFrom, given, valueOf, kept, marked, rulesFrom, noRule}
-use Rattle.build.specs.Held.{ZeroFrom, Held, Roomy, Enterable, Unmarked, RowDone, valueGiven, Ready, Planted}
+use Rattle.build.specs.Held.{ZeroFrom, Held, Roomy, Enterable, RowDone, RowEntered, valueGiven, Ready, Planted}
 use Rattle.build.proofs.Strings.{snoc-nil, equal?}
 use Rattle.build.proofs.Places.{place-empty, place-other, place-below, place-at}
 use Rattle.build.proofs.Grown.{List², grown-root}
 use Rattle.build.proofs.Named.{entered, entered-none, entered-one, entered-grows, names-are}
+use Rattle.build.proofs.Entering.{Kept, roomy-kept, kept-on}
 use Rattle.build.proofs.Ruled.{marked-hit, marked-other, marked-empty}
 
 -- ---- the root alone
@@ -92,13 +93,16 @@ roomless tokens rule room edgeN id work n e h =
       held = λ z. absurd (omega arith);
     }
 
--- ---- after i of the rows, the rest being still to be entered
+-- ---- after i of the rows, the rest being still to be entered: the nodes fit, and the columns keep their lengths
 
-pub record Rowed (first : Bool) (tab : List ℕ) (rows rest : List Row) (i : ℕ) (edgeN id work : List ℕ) (n : ℕ) : Type 0 where
+pub record Rowed (first : Bool) (tab : List ℕ) (rows : List Row) (room : ℕ) (edgeN₀ id₀ work₀ : List ℕ)
+    (rest : List Row) (i : ℕ) (edgeN id work : List ℕ) (n : ℕ) : Type 0 where
   pub nodes : List²
   pub rule : List ℕ → Option ℕ
   pub held : Held nodes rule edgeN id work
   pub count : n ≡ length nodes
+  pub fits : n ≤ room
+  pub lengths : Kept edgeN₀ id₀ work₀ edgeN id work
   pub low : first ≡ true → (s : List ℕ) (j : ℕ) → rule s ≡ some j → j < i
   pub names-on : names (tokensOf tab rows) ≡ entered nodes (tokensOf tab rest)
   pub rules-on : rulesFrom first tab noRule 0 rows ≡ rulesFrom first tab rule i rest
@@ -124,25 +128,31 @@ unfolding valueOf
 value-first true i row e = refl
 value-first false i row e = absurd (zero-one cc)
 
-module _ (first : Bool) (tab : List ℕ) (rows : List Row) where
-  pub rowed-start : (edgeN id work : List ℕ) → Held ([] ∷ []) noRule edgeN id work → Rowed first tab rows rows 0 edgeN id work 1
-  rowed-start edgeN id work h =
+-- all rows are entered, or there is no room for their nodes
+abbrev AllDone : Bool → List ℕ → List Row → ℕ → List ℕ → List ℕ → List ℕ → ℕ → Type 0
+AllDone first tab rows = RowDone (names (tokensOf tab rows)) (rulesFrom first tab noRule 0 rows)
+
+module _ {first : Bool} {tab : List ℕ} {rows : List Row} {room : ℕ} where
+  pub rowed-start :
+      {edgeN id work : List ℕ} {rest : List Row} → Planted edgeN id work room → rows ≡ rest
+      → Rowed first tab rows room edgeN id work rest 0 edgeN id work 1
+  rowed-start p e =
       record {
         nodes = [] ∷ [];
         rule = noRule;
-        held = h;
+        held = p .held;
         count = refl;
+        fits = p .some-room;
+        lengths = record { nodes = refl; ids = refl; links = refl };
         low = λ e s j p. none-some p;
-        names-on = names-are (tokensOf tab rows);
-        rules-on = refl;
+        names-on = names-are (tokensOf tab rows) ∙ ap (λ (x : List Row). entered ([] ∷ []) (tokensOf tab x)) e;
+        rules-on = ap (rulesFrom first tab noRule 0) e;
       }
 
-  module _ (rest : List Row) (i : ℕ) (edgeN id work : List ℕ) (n : ℕ) (r : Rowed first tab rows rest i edgeN id work n) where
-    pub rowed-small : i ≤ maxRows → Unmarked first (r .rule)
-    rowed-small h e s j p = omega (arith, r .low e s j p)
-
-    pub rowed-enterable : (room : ℕ) → Roomy room edgeN id work → n ≤ room → Enterable edgeN id work room 0 n
-    rowed-enterable room roomy fits =
+  module _ {edgeN₀ id₀ work₀ : List ℕ} {rest : List Row} {i : ℕ} {edgeN id work : List ℕ} {n : ℕ}
+      (r : Rowed first tab rows room edgeN₀ id₀ work₀ rest i edgeN id work n) where
+    pub rowed-enterable : Roomy room edgeN₀ id₀ work₀ → Enterable edgeN id work room 0 n
+    rowed-enterable roomy =
         record {
           names = r .nodes;
           rule = r .rule;
@@ -150,12 +160,12 @@ module _ (first : Bool) (tab : List ℕ) (rows : List Row) where
           held = r .held;
           count = r .count;
           here = grown-root (r .held .links .grown);
-          roomy = roomy;
-          fits = fits;
+          roomy = roomy-kept (r .lengths) roomy;
+          fits = r .fits;
         }
 
     -- the next row is `row`, and what is left after it is `more`
-    module _ (row : Row) (more : List Row) (next : rest ≡ row ∷ more) where
+    module _ {row : Row} {more : List Row} (next : rest ≡ row ∷ more) where
       abbrev token : List ℕ
       token = tokenOf tab row
 
@@ -182,25 +192,30 @@ module _ (first : Bool) (tab : List ℕ) (rows : List Row) where
           (sym (ap (λ (f : Bool). marked f token value (r .rule) s) e
           ∙ ap (λ (v : ℕ). marked true token v (r .rule) s) (value-first first i row e)) ∙ p)
 
-      module _ (room : ℕ) (edgeN′ id′ work′ : List ℕ) (n′ : ℕ)
-          (done : RowDone (enter (r .nodes) (prefixes [] token)) rule-then room edgeN′ id′ work′ n′) where
-        pub rowed-turn : n′ ≤ room → Rowed first tab rows more (i + 1) edgeN′ id′ work′ n′
-        rowed-turn fits =
+      module _ {edgeN′ id′ work′ : List ℕ} {n′ : ℕ} (few : i < maxRows)
+          (one : RowEntered edgeN id work edgeN′ id′ work′ first room n token value n′) where
+        done : RowDone (enter (r .nodes) (prefixes [] token)) rule-then room edgeN′ id′ work′ n′
+        done = one .entered (r .nodes) (r .rule) (r .held) (r .count) (λ e s j p. omega (arith, r .low e s j p))
+
+        pub rowed-turn :
+            length edgeN′ ≡ length edgeN → length id′ ≡ length id → length work′ ≡ length work → n′ ≤ room
+            → Rowed first tab rows room edgeN₀ id₀ work₀ more (i + 1) edgeN′ id′ work′ n′
+        rowed-turn ke ki kw fits =
             record {
               nodes = enter (r .nodes) (prefixes [] token);
               rule = rule-then;
               held = done .held fits;
               count = done .count fits;
+              fits = fits;
+              lengths = kept-on (r .lengths) ke ki kw;
               low = low-next;
               names-on = names-next;
               rules-on = rules-next;
             }
 
         -- it found no room
-        pub rowed-full :
-            room < n′ → (edgeN″ id″ work″ : List ℕ)
-            → RowDone (names (tokensOf tab rows)) (rulesFrom first tab noRule 0 rows) room edgeN″ id″ work″ n′
-        rowed-full z edgeN″ id″ work″ =
+        pub rowed-full : room < n′ → AllDone first tab rows room edgeN′ id′ work′ n′
+        rowed-full z =
             record {
               full = λ y.
                   omega (
@@ -213,20 +228,16 @@ module _ (first : Bool) (tab : List ℕ) (rows : List Row) where
               held = λ y. absurd (omega arith);
             }
 
-    pub rowed-end :
-        (room : ℕ) → n ≤ room → rest ≡ []
-        → RowDone (names (tokensOf tab rows)) (rulesFrom first tab noRule 0 rows) room edgeN id work n
+    pub rowed-end : rest ≡ [] → AllDone first tab rows room edgeN id work n
     unfolding rulesFrom tokensOf
-    rowed-end room fits e =
+    rowed-end e =
         let all : names (tokensOf tab rows) ≡ r .nodes =
         r .names-on ∙ ap (λ (x : List Row). entered (r .nodes) (map (tokenOf tab) x)) e ∙ entered-none (r .nodes) in
         let rules : rulesFrom first tab noRule 0 rows ≡ r .rule = r .rules-on ∙ ap (rulesFrom first tab (r .rule) i) e in
         record {
-          full = λ z. absurd (omega arith);
+          full = λ z. absurd (omega (arith, r .fits));
           count = λ z. r .count ∙ ap length (sym all);
-          held = λ z.
-              subst (λ (f : List ℕ → Option ℕ). Held (names (tokensOf tab rows)) f edgeN id work) (sym rules)
-              (subst (λ (x : List²). Held x (r .rule) edgeN id work) (sym all) (r .held));
+          held = λ z. rw (all, rules) (r .held);
         }
 
 -- ---- the rest of the rows that are given as columns

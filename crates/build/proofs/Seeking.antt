@@ -12,10 +12,42 @@ use borrow.Author.Tests.{eq-eqb, ne-eqb}
 use lib.Dec.{eqb}
 use lib.ListN.{length, getD}
 use Rattle.build.specs.Names.{place}
-use Rattle.build.specs.Links.{Clear, Least, Slot, of-first, of-next, Linked, Spelled}
+use Rattle.build.specs.Links.{Clear, Least, First, Slot, of-first, of-next, Linked, Spelled}
 use Rattle.build.proofs.Places.{place-below, place-same}
 use Rattle.build.proofs.Grown.{List², grown-parent}
 use Rattle.build.proofs.Linking.{slot-first}
+
+-- ---- a child at hand
+
+module _ {ns : List²} {edgeN work : List ℕ} {from node : ℕ} {s : List ℕ} {low k : ℕ}
+    (l : Linked ns work) (sp : Spelled ns from edgeN) (early : from ≤ node)
+    (here : place ns s ≡ some node) (f : First ns s low k) where
+  -- no child is the root
+  pub hand-none : k ≡ 0 → Clear ns s low 256
+  hand-none z =
+      ⊎-elim (λ w. w .1) (λ (w : Least ns s low k). absurd (omega (arith, grown-parent (l .grown) s (w .a) k (w .child) .2))) f
+
+  pub hand : (k ≡ 0 → ⊥) → Least ns s low k
+  hand z = ⊎-elim (λ w. absurd (z (w .0))) (λ w. w) f
+
+  module _ (z : k ≡ 0 → ⊥) where
+    pub hand-below : k < length ns
+    hand-below = place-below ns (s ++ (hand z .a ∷ [])) k (hand z .child)
+
+    -- a child's number is above its parent's
+    later : from ≤ k
+    later =
+        let p = grown-parent (l .grown) s (hand z .a) k (hand z .child) in
+        let q : p .0 ≡ node = place-same ns s (p .0) node (p .1) here in
+        omega (arith, early, p .2)
+
+    pub hand-byte : getD edgeN k 0 ≡ hand z .a
+    hand-byte = sp .byte s (hand z .a) k (hand z .child) later
+
+    pub hand-small : getD edgeN k 0 < 256
+    hand-small = omega (arith, hand-byte, grown-parent (l .grown) s (hand z .a) k (hand z .child) .3)
+
+-- ---- the walk from child to child
 
 pub clear-join : (ns : List²) (s : List ℕ) (c d e : ℕ) → Clear ns s c d → Clear ns s d e → Clear ns s c e
 clear-join ns s c d e p q a l m = go (decLt a d)
@@ -41,35 +73,30 @@ left-next edgeN node k =
     let apart : eqb (2 * k + 1) (2 * node) ≡ _ = ne-eqb (2 * k + 1) (2 * node) (λ e. omega arith) in
     rw (apart, h)
 
-module _ (ns : List²) (edgeN work : List ℕ) (l : Linked ns work) (sp : Spelled ns 0 edgeN) (s : List ℕ) (node : ℕ)
+module _ {ns : List²} {edgeN work : List ℕ} {s : List ℕ} {node : ℕ} (l : Linked ns work) (sp : Spelled ns 0 edgeN)
     (here : place ns s ≡ some node) where
   pub seek-start : Slot ns s 0 (2 * node)
   seek-start = of-first node here refl (λ a p q. absurd (omega arith))
 
-  module _ (low at : ℕ) (slot : Slot ns s low at) where
-    -- no child is the root
-    pub seek-none : getD work at 0 ≡ 0 → Clear ns s low 256
-    seek-none z =
-        ⊎-elim (λ w. w .1)
-        (λ (w : Least ns s low (getD work at 0)). absurd (omega (arith, z, grown-parent (l .grown) s (w .a) (getD work at 0) (w .child) .2)))
-        (slot-first ns work s low at l slot)
+  module _ {low at : ℕ} (slot : Slot ns s low at) where
+    abbrev first : First ns s low (getD work at 0)
+    first = slot-first ns work s low at l slot
 
-    pub seek-least : (getD work at 0 ≡ 0 → ⊥) → Least ns s low (getD work at 0)
-    seek-least z = ⊎-elim (λ w. absurd (z (w .0))) (λ w. w) (slot-first ns work s low at l slot)
+    pub seek-none : getD work at 0 ≡ 0 → Clear ns s low 256
+    seek-none = hand-none l sp (omega arith) here first
+
+    abbrev pub seek-least : (getD work at 0 ≡ 0 → ⊥) → Least ns s low (getD work at 0)
+    seek-least = hand l sp (omega arith) here first
 
     module _ (some-child : getD work at 0 ≡ 0 → ⊥) where
       abbrev child : ℕ
       child = getD work at 0
 
       pub seek-below : child < length ns
-      seek-below = place-below ns (s ++ (seek-least some-child .a ∷ [])) child (seek-least some-child .child)
+      seek-below = hand-below l sp (omega arith) here first some-child
 
       pub seek-byte : getD edgeN child 0 ≡ seek-least some-child .a
-      seek-byte = sp .byte s (seek-least some-child .a) child (seek-least some-child .child) (omega arith)
-
-      pub seek-small : getD edgeN child 0 < 256
-      seek-small =
-          omega (arith, seek-byte, grown-parent (l .grown) s (seek-least some-child .a) child (seek-least some-child .child) .3)
+      seek-byte = hand-byte l sp (omega arith) here first some-child
 
       -- the next link, past that child
       pub seek-on : Slot ns s (suc (getD edgeN child 0)) (2 * child + 1)
@@ -93,7 +120,7 @@ module _ (ns : List²) (edgeN work : List ℕ) (l : Linked ns work) (sp : Spelle
             ap (left edgeN node) p,
             sp .byte s a k e (omega arith),
             seek-byte,
-            seek-small,
+            hand-small l sp (omega arith) here first some-child,
             seek-least some-child .from,
           )
 

@@ -1,9 +1,9 @@
 -- Places made zero from the front: those below i are zero, the others as they were. One law for columns of every width. Assumes nothing.
-use mathlib.Core.Path.{_≡_, refl, ap, _∙_}
+use mathlib.Core.Path.{_≡_, ap, _∙_}
 use mathlib.Core.List.{List, [], _++_, append-nil}
 use Prim.Native.Nat.{ℕ, _+_, _≤_, _<_}
 use native.Mathlib.Omega.{arith}
-use borrow.Author.Fill.{fill-none, fill-more}
+use borrow.Author.Fill.{fill-more}
 use lib.ListN.{length, drop, set, replicate, length-set}
 use lib.Seq.{drop-length}
 use Rattle.refusal.specs.Places.{zeroed}
@@ -13,9 +13,6 @@ pub record Zeroing (s₀ s : List ℕ) (i : ℕ) : Type 0 where
   pub inside : i ≤ length s₀
   pub kept : length s ≡ length s₀
   pub front : s ≡ replicate i 0 ++ drop i s₀
-
-pub zeroing-start : (s : List ℕ) → Zeroing s s 0
-zeroing-start s = record { inside = omega arith; kept = refl; front = fill-none s 0 }
 
 pub zeroing-turn : (s₀ s : List ℕ) (i : ℕ) → Zeroing s₀ s i → i < length s → Zeroing s₀ (set s i 0) (i + 1)
 zeroing-turn s₀ s i z h =

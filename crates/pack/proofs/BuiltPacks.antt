@@ -12,7 +12,6 @@ use lib.Ieee.{Float, binary64, ofBits}
 use lib.Ieee.Bits.{ofBits-fits}
 use lib.ListN.{length, take, drop, length-drop}
 use lib.Seq.{getD-drop}
-use Rattle.refusal.proofs.Lists.{zero-one}
 use Rattle.doubles.specs.Double.{Double, isDouble, ofPattern}
 use Rattle.doubles.specs.Units.{units}
 use Rattle.doubles.proofs.Floats.{units-is-double}
@@ -42,7 +41,7 @@ use Rattle.wordpiece.proofs.BuiltTries as words
 use Rattle.pack.specs.declared.header.Header as code-header
 use Rattle.pack.specs.declared.PackAnswer.the-variants as answer-is
 use Rattle.pack.specs.Pack.{headerOf, kindOf, rowsOf, stringsOf, prefixOf}
-use Rattle.pack.specs.Build.{nodesOf, contentFault, packJudged, packFault, unigram, wordpiece, told, reportOf, theKind, modelOf, PackBuilt}
+use Rattle.pack.specs.Build.{nodesOf, contentFault, packJudged, packFault, Report, unigram, wordpiece, told, reportOf, theKind, modelOf, PackBuilt}
 use Rattle.pack.specs.Reading.{headerIs, PackFine}
 use Rattle.pack.proofs.Faults.{judged-wrong, judged-laid, rows-fine, prefix-inside, prefix-text}
 use Rattle.pack.proofs.Scoring.{scores-length, scores-at}
@@ -128,20 +127,24 @@ record ToldUnigram (bytes : List ℕ) (n u : ℕ) (d : Double) : Type 0 where
   unknown : u ≡ headerOf bytes .unknown
   score : d ≡ unknownScore (scoresOf (rowsOf Unigram bytes))
 
+-- the kind of a report
+unfoldable kindTold : Report → Kind
+kindTold (unigram n u d) = Unigram
+kindTold (wordpiece n u c off len) = WordPiece
+
+kind-told : (kind : Kind) (bytes : List ℕ) → kindTold (reportOf kind bytes) ≡ kind
+unfolding kindTold reportOf
+kind-told Unigram bytes = refl
+kind-told WordPiece bytes = refl
+
 told-unigram : (bytes : List ℕ) {n u : ℕ} {d : Double} → unigram n u d ≡ reportOf (theKind bytes) bytes → ToldUnigram bytes n u d
-unfolding reportOf
-told-unigram bytes {n = n} {u = u} {d = d} e = go (theKind bytes) refl
-  where
-    go : (k : Kind) → theKind bytes ≡ k → ToldUnigram bytes n u d
-    go Unigram p =
-        let t : unigram n u d ≡ unigram (nodesOf Unigram bytes) (headerOf bytes .unknown) (unknownScore (scoresOf (rowsOf Unigram bytes))) =
-        e ∙ ap (λ (x : Kind). reportOf x bytes) p in
-        record { kind = p; count = cc; unknown = cc; score = cc }
-    go WordPiece p =
-        let h = headerOf bytes in
-        let t : unigram n u d ≡ wordpiece (nodesOf WordPiece bytes) (h .unknown) (h .maxChars) (h .prefixOff) (h .prefixLen) =
-        e ∙ ap (λ (x : Kind). reportOf x bytes) p in
-        absurd (zero-one cc)
+unfolding reportOf kindTold
+told-unigram bytes {n = n} {u = u} {d = d} e =
+    let k : theKind bytes ≡ Unigram = sym (ap kindTold e ∙ kind-told (theKind bytes) bytes) in
+    let h = headerOf bytes in
+    let t : unigram n u d ≡ unigram (nodesOf Unigram bytes) (h .unknown) (unknownScore (scoresOf (rowsOf Unigram bytes))) =
+    e ∙ ap (λ (x : Kind). reportOf x bytes) k in
+    record { kind = k; count = cc; unknown = cc; score = cc }
 
 record ToldWordPiece (bytes : List ℕ) (n u c off len : ℕ) : Type 0 where
   kind : theKind bytes ≡ WordPiece
@@ -152,19 +155,14 @@ record ToldWordPiece (bytes : List ℕ) (n u c off len : ℕ) : Type 0 where
   size : len ≡ headerOf bytes .prefixLen
 
 told-wordpiece : (bytes : List ℕ) {n u c off len : ℕ} → wordpiece n u c off len ≡ reportOf (theKind bytes) bytes → ToldWordPiece bytes n u c off len
-unfolding reportOf
-told-wordpiece bytes {n = n} {u = u} {c = c} {off = off} {len = len} e = go (theKind bytes) refl
-  where
-    go : (k : Kind) → theKind bytes ≡ k → ToldWordPiece bytes n u c off len
-    go WordPiece p =
-        let h = headerOf bytes in
-        let t : wordpiece n u c off len ≡ wordpiece (nodesOf WordPiece bytes) (h .unknown) (h .maxChars) (h .prefixOff) (h .prefixLen) =
-        e ∙ ap (λ (x : Kind). reportOf x bytes) p in
-        record { kind = p; count = cc; unknown = cc; most = cc; start = cc; size = cc }
-    go Unigram p =
-        let t : wordpiece n u c off len ≡ unigram (nodesOf Unigram bytes) (headerOf bytes .unknown) (unknownScore (scoresOf (rowsOf Unigram bytes))) =
-        e ∙ ap (λ (x : Kind). reportOf x bytes) p in
-        absurd (zero-one cc)
+unfolding reportOf kindTold
+told-wordpiece bytes {n = n} {u = u} {c = c} {off = off} {len = len} e =
+    let k : theKind bytes ≡ WordPiece = sym (ap kindTold e ∙ kind-told (theKind bytes) bytes) in
+    let h = headerOf bytes in
+    let t : wordpiece n u c off len ≡
+    wordpiece (nodesOf WordPiece bytes) (h .unknown) (h .maxChars) (h .prefixOff) (h .prefixLen) =
+    e ∙ ap (λ (x : Kind). reportOf x bytes) k in
+    record { kind = k; count = cc; unknown = cc; most = cc; start = cc; size = cc }
 
 -- of a Unigram pack
 module _ (bytes : List ℕ) (m after : Memory) (n unknown : ℕ) (lowest : Float) (good : Bytes bytes) (b : PackBuilt bytes m (answer-is.Unigram n unknown lowest) after) where

@@ -19,9 +19,6 @@ use Rattle.text.proofs.Valid.{valid-turn, turn-inside}
 -- ---- what holds of each place from i on
 
 module _ (P : ℕ → Type 0) (i : ℕ) where
-  pub run-none : (k : ℕ) → i ≤ k → k < i + 0 → P k
-  run-none k p q = absurd (omega arith)
-
   pub run-more : (n : ℕ) → ((k : ℕ) → i ≤ k → k < i + n → P k) → P (i + n) → (k : ℕ) → i ≤ k → k < i + (n + 1) → P k
   run-more n run last k p q = go (ltb k (i + n)) refl
     where

@@ -1,5 +1,6 @@
 -- `build::lay::lay_all` meets its contract. The loop's invariant: the first k nodes are laid out, and `at` is the number of their edges.
 -- The measure is what is left of the nodes. Assumes nothing.
+use borrow.Author.Needs.{needs}
 use mathlib.Core.Path.{_≡_, refl, _∙_}
 use mathlib.Core.List.{List}
 use Prim.Native.Nat.{ℕ, _-_, _≤_, _<_}
@@ -49,54 +50,19 @@ byte-back c = let b = c .before .before in b .before .before
 abbrev called : tie.After-slice-known8 Inv-loop μ-loop → tie.After-lay-node Inv-loop μ-loop
 called c = let n = byte-back c .before .before in n .before .before
 
--- ---- what is known there
-
-abbrev starts : tie.After-lay-node Inv-loop μ-loop → List ℕ
-starts f = f .lay-node .last .0
-
-abbrev counts : tie.After-lay-node Inv-loop μ-loop → List ℕ
-counts f = f .lay-node .last .1 .0
-
-abbrev bytes : tie.After-lay-node Inv-loop μ-loop → List ℕ
-bytes f = f .lay-node .last .1 .1 .0
-
-abbrev targets : tie.After-lay-node Inv-loop μ-loop → List ℕ
-targets f = f .lay-node .last .1 .1 .1 .0
-
-kept :
-    (f : tie.After-lay-node Inv-loop μ-loop)
-    → (let a = entry (turn (f .before) .before) .args in
-    Kept (a .edge-at .now) (a .edge-n .now) (a .byte .now) (a .to .now) (starts f) (counts f) (bytes f) (targets f))
-kept f =
-    let k = turn (f .before) .before .loop .inv .1 in
-    let l = f .lay-node .kept in
-    record {
-      starts = l .0 ∙ k .starts;
-      counts = l .1 .0 ∙ k .counts;
-      bytes = l .1 .1 .0 ∙ k .bytes;
-      targets = l .1 .1 .1 .0 ∙ k .targets;
-    }
-
 loop-holds : tie.Need-loop-holds Inv-loop μ-loop
 loop-holds c =
-    let a = start c .args in (
-      omega arith,
-      record { starts = refl; counts = refl; bytes = refl; targets = refl },
-      λ ns l sp e. laid-start ns (a .edge-at .now) (a .edge-n .now) (a .byte .now) (a .to .now) sp,
-    )
+    (omega arith, record { starts = refl; counts = refl; bytes = refl; targets = refl }, λ ns l sp e. laid-start sp)
 
 lay-node-requires : tie.Need-lay-node-requires Inv-loop μ-loop
 lay-node-requires c κs =
     let t = turn c in
     let h = t .before in
-    let a = entry h .args in
     let p = entry h .pre in
     let k = h .loop .inv .1 in
     let laid = h .loop .inv .2 (p .names) (p .links) (p .bytes) (p .count) in
     let there : h .loop .k < length (p .names) = omega (arith, t .loop-test .taken, p .count) in
-    let few =
-    laid-few (p .names) (a .edge-at .now) (a .edge-n .now) (a .byte .now) (a .to .now) (h .loop .edge-at) (h .loop .edge-n) (h .loop .byte)
-    (h .loop .to) (h .loop .k) (h .loop .at) laid there (a .work .now) (p .links) in
+    let few = laid-few laid there (p .links) in
     record {
       names = p .names;
       links = p .links;
@@ -109,48 +75,31 @@ lay-node-requires c κs =
       few = omega (arith, few, p .count, p .small);
     }
 
-add-k : tie.Need-add-k Inv-loop μ-loop
-add-k c = let t = turn (called c .before) in omega (arith, t .loop-test .taken, entry (t .before) .pre .small)
-
-loop-less : tie.Need-loop-less Inv-loop μ-loop
-loop-less c = let t = turn (called c .before) in omega (arith, t .loop-test .taken)
-
 loop-again : tie.Need-loop-again Inv-loop μ-loop
 loop-again c =
     let f = called c in
     let t = turn (f .before) in
     let h = t .before in
-    let a = entry h .args in (
+    let k = h .loop .inv .1 in
+    let l = f .lay-node .kept in (
       omega (arith, t .loop-test .taken),
-      kept f,
+      record {
+        starts = l .0 ∙ k .starts;
+        counts = l .1 .0 ∙ k .counts;
+        bytes = l .1 .1 .0 ∙ k .bytes;
+        targets = l .1 .1 .1 .0 ∙ k .targets;
+      },
       λ ns l sp e.
           let laid = h .loop .inv .2 ns l sp e in
           let there : h .loop .k < length ns = omega (arith, t .loop-test .taken) in
-          laid-turn ns (a .edge-at .now) (a .edge-n .now) (a .byte .now) (a .to .now) (h .loop .edge-at) (h .loop .edge-n) (h .loop .byte)
-          (h .loop .to) (h .loop .k) (h .loop .at) laid there (starts f) (counts f) (bytes f) (targets f) (f .lay-node .result)
-          (f .lay-node .ensures .laid ns l (laid .bytes) there),
+          laid-turn laid there (f .lay-node .ensures .laid ns l (laid .bytes) there),
     )
-
-same-length : tie.Need-same-length Inv-loop μ-loop
-same-length c = c .before .loop .inv .1 .starts
-
-same-length-2 : tie.Need-same-length-2 Inv-loop μ-loop
-same-length-2 c = c .before .loop .inv .1 .counts
-
-same-length-3 : tie.Need-same-length-3 Inv-loop μ-loop
-same-length-3 c = c .before .loop .inv .1 .bytes
-
-same-length-4 : tie.Need-same-length-4 Inv-loop μ-loop
-same-length-4 c = c .before .loop .inv .1 .targets
 
 returns : tie.Need-returns Inv-loop μ-loop
 returns c =
     let h = c .before in
-    let a = entry h .args in
     record {
-      laid = λ ns l sp e.
-          laid-end ns (a .edge-at .now) (a .edge-n .now) (a .byte .now) (a .to .now) (h .loop .edge-at) (h .loop .edge-n) (h .loop .byte)
-          (h .loop .to) (h .loop .k) (h .loop .at) (h .loop .inv .2 ns l sp e) (omega (arith, c .loop-test .left, h .loop .inv .0));
+      laid = λ ns l sp e. laid-end (h .loop .inv .2 ns l sp e) (omega (arith, c .loop-test .left, h .loop .inv .0));
     }
 
 pub lay-all-spec : {M : Type 1} → statement M
@@ -161,11 +110,11 @@ lay-all-spec =
     μ-loop
     loop-holds
     lay-node-requires
-    add-k
-    loop-less
+    (λ c. search needs)
+    (λ c. search needs)
     loop-again
-    same-length
-    same-length-2
-    same-length-3
-    same-length-4
+    (λ c. search needs)
+    (λ c. search needs)
+    (λ c. search needs)
+    (λ c. search needs)
     returns)

@@ -1,5 +1,6 @@
 -- `build::lay::lay_children` meets its contract. The loop's invariant: the edges written so far and those from `low` on are the node's edges,
 -- and k is the first child by a byte from `low` on. Each child takes a byte of its own, so at most 256 are written. Assumes nothing.
+use borrow.Author.Needs.{needs}
 use mathlib.Core.Path.{_≡_, refl, _∙_}
 use mathlib.Core.List.{List}
 use mathlib.Core.Option.{some}
@@ -46,42 +47,24 @@ bounds :
     Bounds (a .edge-n .now) (h .loop .byte) (h .loop .to) (a .work .now) (a .from) (h .loop .at) (h .loop .k))
 bounds t =
     let h = t .before in
-    let a = entry h .args in
     let p = entry h .pre in
     let w = h .loop .inv .2 (p .names) (p .string) (p .links) (p .bytes) (p .here) in
     let z = t .loop-test .taken in
-    let below =
-    writing-below (p .names) (a .edge-n .now) (a .work .now) (p .links) (a .node) (p .bytes) (p .string) (p .here) (a .byte .now) (a .to .now)
-    (a .from) (h .loop .byte) (h .loop .to) (h .loop .at) (h .loop .k) w z in
-    let room =
-    writing-room (p .names) (a .edge-n .now) (a .work .now) (p .links) (a .node) (p .bytes) (p .string) (p .here) (a .byte .now) (a .to .now)
-    (a .from) (h .loop .byte) (h .loop .to) (h .loop .at) (h .loop .k) w z in
+    let below = writing-below (p .links) (p .bytes) (p .here) w z in
+    let room = writing-room (p .links) (p .bytes) (p .here) w z in
     record {
       node = omega (arith, below, p .bytes .room);
       link = omega (arith, below, p .links .room);
       number = omega (arith, below, p .small);
-      a-byte =
-          writing-small (p .names) (a .edge-n .now) (a .work .now) (p .links) (a .node) (p .bytes) (p .string) (p .here) (a .byte .now) (a .to .now)
-          (a .from) (h .loop .byte) (h .loop .to) (h .loop .at) (h .loop .k) w z;
+      a-byte = writing-small (p .links) (p .bytes) (p .here) w z;
       in-byte = omega (arith, room, p .room-byte, h .loop .inv .0);
       in-to = omega (arith, room, p .room-to, h .loop .inv .1);
-      few =
-          writing-few (p .names) (a .edge-n .now) (a .work .now) (p .links) (a .node) (p .bytes) (p .string) (p .here) (a .byte .now) (a .to .now)
-          (a .from) (h .loop .byte) (h .loop .to) (h .loop .at) (h .loop .k) w z;
+      few = writing-few (p .links) (p .bytes) (p .here) w z;
     }
 
 -- the node's own link stands inside
 inside : (s : tie.Start Inv-loop μ-loop) → 2 * s .args .node < length (s .args .work .now)
 inside s = let p = s .pre in omega (arith, p .links .room, place-below (p .names) (p .string) (s .args .node) (p .here))
-
-mul-k : tie.Need-mul-k Inv-loop μ-loop
-mul-k c = omega (arith, inside c, c .good)
-
-mul-k-2 : tie.Need-mul-k-2 Inv-loop μ-loop
-mul-k-2 c = omega (arith, inside c, c .good)
-
-shared-slice-read-k : tie.Need-shared-slice-read-k Inv-loop μ-loop
-shared-slice-read-k c = inside (c .before)
 
 cast-k : tie.Need-cast-k Inv-loop μ-loop
 cast-k c = let s = c .before in omega (arith, c .shared-slice-known .given (2 * s .args .node))
@@ -89,43 +72,16 @@ cast-k c = let s = c .before in omega (arith, c .shared-slice-known .given (2 * 
 loop-holds : tie.Need-loop-holds Inv-loop μ-loop
 loop-holds c =
     let a = c .before .args in
-    (refl, refl, λ ns s l sp e. writing-start ns (a .work .now) l s (a .node) e (a .byte .now) (a .to .now) (a .from))
-
-mul-byte : tie.Need-mul-byte Inv-loop μ-loop
-mul-byte c = omega (arith, bounds c, entry (c .before) .good)
-
-shared-slice-read-byte : tie.Need-shared-slice-read-byte Inv-loop μ-loop
-shared-slice-read-byte c = bounds (c .before) .node
-
-cast-byte : tie.Need-cast-byte Inv-loop μ-loop
-cast-byte c = omega (arith, bounds (c .before))
-
-slice-write-byte : tie.Need-slice-write-byte Inv-loop μ-loop
-slice-write-byte c = bounds (c .before) .in-byte
-
-cast-to : tie.Need-cast-to Inv-loop μ-loop
-cast-to c = omega (arith, bounds (c .before))
+    (refl, refl, λ ns s l sp e. writing-start l (a .node) e)
 
 mul-to : tie.Need-mul-to Inv-loop μ-loop
 mul-to c = let h = c .before .before in omega (arith, bounds (c .before), h .loop .inv .1, entry h .good)
 
-slice-write-to : tie.Need-slice-write-to Inv-loop μ-loop
-slice-write-to c = bounds (c .before) .in-to
-
 add-at : tie.Need-add-at Inv-loop μ-loop
 add-at c = let h = c .before .before in omega (arith, bounds (c .before), h .loop .inv .1, entry h .good)
 
-mul-k-3 : tie.Need-mul-k-3 Inv-loop μ-loop
-mul-k-3 c = omega (arith, bounds (c .before))
-
-add-k : tie.Need-add-k Inv-loop μ-loop
-add-k c = omega (arith, bounds (c .before))
-
 mul-k-4 : tie.Need-mul-k-4 Inv-loop μ-loop
 mul-k-4 c = let h = c .before .before in omega (arith, bounds (c .before), entry h .good)
-
-shared-slice-read-k-2 : tie.Need-shared-slice-read-k-2 Inv-loop μ-loop
-shared-slice-read-k-2 c = let t = c .before .before in bounds t .link
 
 cast-k-2 : tie.Need-cast-k-2 Inv-loop μ-loop
 cast-k-2 c = let t = c .before .before in omega (arith, c .shared-slice-known3 .given (2 * t .before .loop .k + 1))
@@ -140,25 +96,14 @@ loop-again c =
     let a = entry h .args in (
       length-set (h .loop .byte) (h .loop .at) (getD (a .edge-n .now) (h .loop .k) 0) ∙ h .loop .inv .0,
       length-set (h .loop .to) (h .loop .at) (h .loop .k) ∙ h .loop .inv .1,
-      λ ns s l sp e.
-          writing-turn ns (a .edge-n .now) (a .work .now) l (a .node) sp s e (a .byte .now) (a .to .now) (a .from) (h .loop .byte) (h .loop .to)
-          (h .loop .at) (h .loop .k) (h .loop .inv .2 ns s l sp e) (t .loop-test .taken),
+      λ ns s l sp e. writing-turn l sp e (h .loop .inv .2 ns s l sp e) (t .loop-test .taken),
     )
-
-same-length : tie.Need-same-length Inv-loop μ-loop
-same-length c = c .before .loop .inv .0
-
-same-length-2 : tie.Need-same-length-2 Inv-loop μ-loop
-same-length-2 c = c .before .loop .inv .1
 
 returns : tie.Need-returns Inv-loop μ-loop
 returns c =
     let h = c .before in
-    let a = entry h .args in
     record {
-      laid = λ ns s l sp e.
-          writing-end ns (a .edge-n .now) (a .work .now) l (a .node) sp s e (a .byte .now) (a .to .now) (a .from) (h .loop .byte) (h .loop .to)
-          (h .loop .at) (h .loop .k) (h .loop .inv .2 ns s l sp e) (c .loop-test .left);
+      laid = λ ns s l sp e. writing-end l sp e (h .loop .inv .2 ns s l sp e) (c .loop-test .left);
     }
 
 pub lay-children-spec : {M : Type 1} → statement M
@@ -167,26 +112,26 @@ lay-children-spec =
     (tie.spec
     Inv-loop
     μ-loop
-    mul-k
-    mul-k-2
-    shared-slice-read-k
+    (λ c. omega (arith, inside c, c .good))
+    (λ c. omega (arith, inside c, c .good))
+    (λ c. inside (c .before))
     cast-k
     loop-holds
-    mul-byte
-    shared-slice-read-byte
-    cast-byte
-    slice-write-byte
-    cast-to
+    (λ c. omega (arith, bounds c, entry (c .before) .good))
+    (λ c. bounds (c .before) .node)
+    (λ c. omega (arith, bounds (c .before)))
+    (λ c. bounds (c .before) .in-byte)
+    (λ c. omega (arith, bounds (c .before)))
     mul-to
-    slice-write-to
+    (λ c. bounds (c .before) .in-to)
     add-at
-    mul-k-3
-    add-k
+    (λ c. omega (arith, bounds (c .before)))
+    (λ c. omega (arith, bounds (c .before)))
     mul-k-4
-    shared-slice-read-k-2
+    (λ c. let t = c .before .before in bounds t .link)
     cast-k-2
     loop-less
     loop-again
-    same-length
-    same-length-2
+    (λ c. search needs)
+    (λ c. search needs)
     returns)

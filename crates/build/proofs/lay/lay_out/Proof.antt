@@ -38,9 +38,7 @@ lay-all-requires c κs =
     let t = to-zero c in
     let b = byte-zero t in
     let e = starts-zero b in
-    let a = entry e .args in
-    ready-again (a .edge-at .now) (a .edge-n .now) (a .byte .now) (a .to .now) (a .work .now) (a .n) (e .zero32 .last .0) (b .zero8 .last .0)
-    (t .zero322 .last .0) (entry e .pre .ready) (e .zero32 .ensures) (b .zero8 .ensures) (t .zero322 .ensures)
+    ready-again (entry e .pre .ready) (e .zero32 .ensures) (b .zero8 .ensures) (t .zero322 .ensures)
 
 returns : tie.Need-returns
 returns c =
@@ -49,13 +47,10 @@ returns c =
     let t = to-zero (f .before) in
     let b = byte-zero t in
     let e = starts-zero b in
-    let a = entry e .args in
     record {
       laid = λ ns l sp n.
-          out-done ns (l .grown) (a .edge-at .now) (a .edge-n .now) (a .byte .now) (a .to .now) (a .work .now) (a .n) n (entry e .pre)
-          (e .zero32 .last .0) (b .zero8 .last .0) (t .zero322 .last .0) (f .lay-all .last .0) (f .lay-all .last .1 .0)
-          (f .lay-all .last .1 .1 .0) (f .lay-all .last .1 .1 .1 .0) (w .zero323 .last .0) (e .zero32 .ensures) (b .zero8 .ensures)
-          (t .zero322 .ensures) (f .lay-all .ensures .laid ns l sp n) (w .zero323 .ensures);
+          out-done (l .grown) n (entry e .pre) (e .zero32 .ensures) (b .zero8 .ensures) (t .zero322 .ensures)
+          (f .lay-all .ensures .laid ns l sp n) (w .zero323 .ensures);
     }
 
 pub lay-out-spec : {M : Type 1} → statement M

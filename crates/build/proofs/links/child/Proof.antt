@@ -51,8 +51,7 @@ below c z =
     omega (
       arith,
       p .held .bytes .room,
-      seek-below (p .names) (edges c) (works c) (p .held .links) (p .held .bytes) (p .string) (entry c .args .from .node) (p .here)
-          (entry c .args .b) (c .seek .result) (slot c) z,
+      seek-below (p .held .links) (p .held .bytes) (p .here) (slot c) z,
     )
 
 -- where the arms of the first branch meet, the child is not there
@@ -64,12 +63,8 @@ absent q ns rule s h e =
     let c = q .before .before in
     let slot = c .seek .ensures .slot ns s (h .links) (h .bytes) e in
     ⊎-elim
-    (λ w.
-    child-other ns (edges c) (works c) (h .links) (h .bytes) s (entry c .args .from .node) e (entry c .args .b) (c .seek .result) slot
-    (w .0 .taken) (w .2 .left))
-    (λ w.
-    child-none ns (edges c) (works c) (h .links) (h .bytes) s (entry c .args .from .node) e (entry c .args .b) (c .seek .result) slot
-    (omega arith) (w .left))
+    (λ w. child-other (h .links) (h .bytes) e slot (w .0 .taken) (w .2 .left))
+    (λ w. child-none (h .links) (h .bytes) e slot (omega arith) (w .left))
     (q .if1 .came)
 
 -- the way back from the call of `link`
@@ -111,9 +106,9 @@ returns c =
     let a = entry q .args in
     record {
       entered = λ ns rule s h n e.
-          byte-there ns rule (edges q) (a .id .now) (works q) h s (a .b) (a .room) (a .from .n) n (entry q .pre .fits) (next q)
-          (child-there ns (edges q) (works q) (h .links) (h .bytes) s (a .from .node) e (a .b) (q .seek .result)
-          (q .seek .ensures .slot ns s (h .links) (h .bytes) e) (t .if1 .taken) (c .if2 .taken));
+          byte-there h s (a .b) n (entry q .pre .fits)
+          (child-there (h .links) (h .bytes) e (q .seek .ensures .slot ns s (h .links) (h .bytes) e) (t .if1 .taken)
+          (c .if2 .taken));
     }
 
 returns-2 : tie.Need-returns-2
@@ -123,8 +118,7 @@ returns-2 c =
     let a = entry q .args in
     record {
       entered = λ ns rule s h n e.
-          byte-full ns rule (edges q) (a .id .now) (works q) h s (a .b) (a .room) (a .from .n) n (entry q .pre .fits) (absent j ns rule s h e)
-          (c .if3 .taken) (edges q) (a .id .now) (works q);
+          byte-full h s (a .b) n (entry q .pre .fits) (absent j ns rule s h e) (c .if3 .taken);
     }
 
 link-requires : tie.Need-link-requires
@@ -150,10 +144,9 @@ returns-3 c =
     let made = f .link .ensures in
     record {
       entered = λ ns rule s h n e.
-          byte-made ns rule (edges q) (a .id .now) (works q) h s (a .b) (a .room) (a .from .n) n (p .fits) (a .from .node) (q .seek .result) e
-          (absent (t .before) ns rule s h e) (q .seek .ensures .slot ns s (h .links) (h .bytes) e) (omega arith)
-          (omega (arith, p .fits, t .if3 .left)) (p .roomy) (f .link .last .0) (f .link .last .1 .0) (f .link .last .1 .1 .0) (made .byte)
-          (made .bare) (made .links);
+          byte-made h s (a .b) n (p .fits) e (absent (t .before) ns rule s h e)
+          (q .seek .ensures .slot ns s (h .links) (h .bytes) e) (omega arith) (omega (arith, p .fits, t .if3 .left))
+          (p .roomy) (made .byte) (made .bare) (made .links);
     }
 
 pub child-spec : {M : Type 1} → statement M

@@ -46,7 +46,7 @@ below : (h : Head) → (child h ≡ 0 → ⊥) → (child h < length (edges h)) 
 below h z =
     let p = h .before .pre in
     let w = come h in
-    let k = seek-below (p .names) (edges h) (works h) (p .links) (p .bytes) (p .string) (h .before .args .node) (p .here) (w .0) (h .loop .at) (w .2) z in
+    let k = seek-below (p .links) (p .bytes) (p .here) (w .2) z in
     (omega (arith, p .bytes .room), omega (arith, p .links .room))
 
 mul-at : tie.Need-mul-at Inv-loop μ-loop
@@ -56,7 +56,7 @@ loop-holds : tie.Need-loop-holds Inv-loop μ-loop
 loop-holds c =
     let p = c .pre in (
       omega (arith, p .links .room, place-below (p .names) (p .string) (c .args .node) (p .here)),
-      λ ns s l sp h. (0, omega arith, seek-start ns (c .args .edge-n .now) (c .args .work .now) l sp s (c .args .node) h),
+      λ ns s l sp h. (0, omega arith, seek-start l sp h),
     )
 
 cast-k : tie.Need-cast-k Inv-loop μ-loop
@@ -68,8 +68,7 @@ returns c =
     record {
       slot = λ ns s l sp e.
           let w = h .loop .inv .1 ns s l sp e in
-          seek-end ns (edges h) (works h) l sp s (h .before .args .node) e (w .0) (h .loop .at) (w .2) (h .before .args .b) (w .1)
-          (omega arith) (c .if1 .taken);
+          seek-end l sp e (w .2) (h .before .args .b) (w .1) (omega arith) (c .if1 .taken);
     }
 
 mul-if2 : tie.Need-mul-if2 Inv-loop μ-loop
@@ -85,8 +84,7 @@ returns-2 c =
     record {
       slot = λ ns s l sp e.
           let w = h .loop .inv .1 ns s l sp e in
-          seek-stop ns (edges h) (works h) l sp s (h .before .args .node) e (w .0) (h .loop .at) (w .2) (t .if1 .left) (h .before .args .b) (w .1)
-          (c .if2 .taken);
+          seek-stop l sp e (w .2) (t .if1 .left) (h .before .args .b) (w .1) (c .if2 .taken);
     }
 
 mul-at-2 : tie.Need-mul-at-2 Inv-loop μ-loop
@@ -100,9 +98,7 @@ loop-less c =
     let t = c .before .before in
     let h = t .before .before in
     let p = h .before .pre in
-    let w = come h in
-    seek-falls (p .names) (edges h) (works h) (p .links) (p .bytes) (p .string) (h .before .args .node) (p .here) (w .0) (h .loop .at) (w .2)
-    (t .if1 .left)
+    seek-falls (p .links) (p .bytes) (p .here) (come h .2) (t .if1 .left)
 
 loop-again : tie.Need-loop-again Inv-loop μ-loop
 loop-again c =
@@ -113,7 +109,7 @@ loop-again c =
           let w = h .loop .inv .1 ns s l sp e in (
             suc (getD (edges h) (child h) 0),
             c .if2 .left,
-            seek-on ns (edges h) (works h) l sp s (h .before .args .node) e (w .0) (h .loop .at) (w .2) (t .if1 .left),
+            seek-on l sp e (w .2) (t .if1 .left),
           ),
     )
 

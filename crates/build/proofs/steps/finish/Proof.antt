@@ -2,7 +2,6 @@
 use borrow.Author.Needs.{needs}
 use Rattle.build.specs.Names.{names}
 use Rattle.build.specs.Rules.{tokensOf}
-use Rattle.build.specs.Memory.{memory}
 use Rattle.build.proofs.Filled.{finish-ready, built-full, built-done}
 use Rattle.build.proofs.steps.finish.Statement.{statement}
 use Rattle.build.proofs.steps.finish.Tie as tie
@@ -48,35 +47,19 @@ fitting c =
 returns : tie.Need-returns
 returns c =
     let k = cleared-all c in
-    let b = full k in
-    let a = entry (b .before) .args in
-    record {
-      built = λ first tab rows done.
-          built-full (a .edge-at .now) (a .edge-n .now) (a .id .now) (a .byte .now) (a .to .now) (a .work .now) first tab rows (a .room) (a .n) done
-          (b .if1 .taken)
-          (memory (k .clear .last .0) (k .clear .last .1 .0) (k .clear .last .1 .1 .0) (k .clear .last .1 .1 .1 .0) (k .clear .last .1 .1 .1 .1 .0)
-          (k .clear .last .1 .1 .1 .1 .1 .0)) (k .clear .ensures);
-    }
+    record { built = λ first tab rows done. built-full done (full k .if1 .taken) (k .clear .ensures) }
 
 lay-out-requires : tie.Need-lay-out-requires
-lay-out-requires c κs =
-    let b = fitting c in
-    let s = entry (b .before) in
-    let a = s .args in
-    finish-ready (a .edge-at .now) (a .edge-n .now) (a .id .now) (a .byte .now) (a .to .now) (a .work .now) (a .room) (a .n) (s .pre) (b .if1 .left)
+lay-out-requires c κs = let b = fitting c in finish-ready (entry (b .before) .pre) (b .if1 .left)
 
 returns-2 : tie.Need-returns-2
 returns-2 c =
     let o = laid c in
-    let b = fitting (o .before) in
-    let a = entry (b .before) .args in
+    let fits = fitting (o .before) .if1 .left in
     record {
       built = λ first tab rows done.
-          let h = done .held (b .if1 .left) in
-          built-done (a .edge-at .now) (a .edge-n .now) (a .id .now) (a .byte .now) (a .to .now) (a .work .now) first tab rows (a .room) (a .n) done
-          (b .if1 .left) (o .lay-out .last .0) (o .lay-out .last .1 .0) (o .lay-out .last .1 .1 .0) (o .lay-out .last .1 .1 .1 .0)
-          (o .lay-out .last .1 .1 .1 .1 .0)
-          (o .lay-out .ensures .laid (names (tokensOf tab rows)) (h .links) (h .bytes) (done .count (b .if1 .left)));
+          let h = done .held fits in
+          built-done done fits (o .lay-out .ensures .laid (names (tokensOf tab rows)) (h .links) (h .bytes) (done .count fits));
     }
 
 pub finish-spec : {M : Type 1} → statement M

@@ -1,15 +1,9 @@
 -- `build::tokens::enter_token` meets its contract: the token's last node takes the id, unless the token is empty or there was no room.
 -- Assumes nothing.
-use mathlib.Core.Path.{_≡_}
-use mathlib.Core.List.{List, []}
-use mathlib.Core.Option.{Option}
-use Prim.Native.Nat.{ℕ}
+use mathlib.Core.List.{[]}
 use native.Mathlib.Omega.{arith}
 use borrow.Author.Needs.{needs}
-use lib.ListN.{length}
 use Rattle.build.specs.Names.{prefixes, enter}
-use Rattle.build.specs.Given.{marked}
-use Rattle.build.specs.Held.{Held, Done}
 use Rattle.build.proofs.Places.{place-below}
 use Rattle.build.proofs.Entering.{length-zero}
 use Rattle.build.proofs.Marking.{row-empty, row-full, row-marked}
@@ -36,60 +30,29 @@ entered c = edges-back (id-back c) .before .before
 abbrev entry : tie.After-enter → tie.Start
 entry c = start (unless-empty c .before)
 
-abbrev token : tie.After-enter → List ℕ
-token c = entry c .args .token .now
-
--- the columns as `enter` leaves them
-
-abbrev edges : tie.After-enter → List ℕ
-edges c = c .enter .last .1 .0
-
-abbrev ids : tie.After-enter → List ℕ
-ids c = c .enter .last .1 .1 .0
-
-abbrev works : tie.After-enter → List ℕ
-works c = c .enter .last .1 .1 .1 .0
-
--- what `enter` promises of the names that are held
-done :
-    (c : tie.After-enter) (ns : List (List ℕ)) (rule : List ℕ → Option ℕ)
-    → (let a = entry c .args in
-    Held ns rule (a .edge-n .now) (a .id .now) (a .work .now) → a .n ≡ length ns
-    → Done (enter ns (prefixes [] (token c))) rule (token c) (a .room) (edges c) (ids c) (works c)
-    (c .enter .result .node) (c .enter .result .n))
-done c ns rule h e = c .enter .ensures .entered ns rule h e
-
 returns : tie.Need-returns
 returns c =
-    let a = start (c .before) .args in
-    let p = start (c .before) .pre in
-    record {
-      entered = λ ns rule h e small.
-          row-empty (a .first) (a .v) ns rule (a .room) (a .edge-n .now) (a .id .now) (a .work .now) (a .n)
-          (a .token .now) (length-zero (a .token .now) (c .if1 .taken)) h e (p .fits);
-    }
+    let s = start (c .before) in
+    let a = s .args in
+    let bare = length-zero (a .token .now) (c .if1 .taken) in
+    record { entered = λ ns rule h e small. row-empty (a .first) (a .v) bare h e (s .pre .fits) }
 
 returns-2 : tie.Need-returns-2
 returns-2 c =
     let f = entered (c .before) in
-    let a = entry f .args in
-    record {
-      entered = λ ns rule h e small.
-          row-full (a .first) (a .v) (enter ns (prefixes [] (token f))) rule (token f) (a .room) (edges f) (ids f)
-          (works f) (f .enter .result .node) (f .enter .result .n) (done f ns rule h e) (c .if2 .taken)
-          (marked (a .first) (token f) (a .v) rule) (edges f) (ids f) (works f);
-    }
+    record { entered = λ ns rule h e small. row-full (f .enter .ensures .entered ns rule h e) (c .if2 .taken) }
 
 mark-requires : tie.Need-mark-requires
 mark-requires c κs =
     let t = c .before in
     let f = entered (t .before) in
     let p = entry f .pre in
-    let d = done f (p .names) (p .rule) (p .held) (p .count) in
+    let token = entry f .args .token .now in
+    let d = f .enter .ensures .entered (p .names) (p .rule) (p .held) (p .count) in
     omega (
       arith,
       d .held (t .if2 .left) .marks .room,
-      place-below (enter (p .names) (prefixes [] (token f))) (token f) (f .enter .result .node) (d .here (t .if2 .left)),
+      place-below (enter (p .names) (prefixes [] token)) token (f .enter .result .node) (d .here (t .if2 .left)),
     )
 
 returns-3 : tie.Need-returns-3
@@ -97,14 +60,10 @@ returns-3 c =
     let m = c .before .before in
     let t = m .before .before in
     let f = entered (t .before) in
-    let a = entry f .args in
-    let p = entry f .pre in
     record {
       entered = λ ns rule h e small.
-          row-marked (a .first) (a .v) (enter ns (prefixes [] (token f))) rule (token f) (a .room) (edges f) (ids f)
-          (works f) (f .enter .result .node) (f .enter .result .n) (done f ns rule h e) (t .if2 .left)
-          (omega (arith, unless-empty f .if1 .left)) small (m .mark .last .0)
-          (m .mark .ensures);
+          row-marked (f .enter .ensures .entered ns rule h e) (entry f .args .v) (t .if2 .left)
+          (omega (arith, unless-empty f .if1 .left)) small (m .mark .ensures);
     }
 
 pub enter-token-spec : {M : Type 1} → statement M

@@ -1,8 +1,8 @@
 -- `build::zero::zero8` meets its contract. The loop's invariant: the places below i are zero. The measure is what is left. Assumes nothing.
+use borrow.Author.Needs.{needs}
 use Prim.Native.Nat.{_-_}
-use native.Mathlib.Omega.{arith}
 use lib.ListN.{length}
-use Rattle.build.proofs.Zeros.{Zeroing, zeroing-start, zeroing-turn, zeroing-end}
+use Rattle.build.proofs.Zeros.{Zeroing, zeroing-turn, zeroing-end}
 use Rattle.build.proofs.zero.zero8.Statement.{statement}
 use Rattle.build.proofs.zero.zero8.Tie as tie
 
@@ -12,23 +12,8 @@ Inv-loop s₀ i₀ s i = Zeroing s₀ s i
 abbrev μ-loop : tie.MeasureT-loop
 μ-loop s₀ i₀ s i = length s₀ - i
 
-loop-holds : tie.Need-loop-holds Inv-loop μ-loop
-loop-holds c = zeroing-start (c .args .s .now)
-
-slice-write-s : tie.Need-slice-write-s Inv-loop μ-loop
-slice-write-s c = c .loop-test .taken
-
-add-i : tie.Need-add-i Inv-loop μ-loop
-add-i c = omega (arith, c .loop-test .taken, c .before .loop .inv .kept, c .before .before .good)
-
-loop-less : tie.Need-loop-less Inv-loop μ-loop
-loop-less c = omega (arith, c .loop-test .taken, c .before .loop .inv .kept)
-
 loop-again : tie.Need-loop-again Inv-loop μ-loop
 loop-again c = let h = c .before in zeroing-turn (h .before .args .s .now) (h .loop .s) (h .loop .i) (h .loop .inv) (c .loop-test .taken)
-
-same-length : tie.Need-same-length Inv-loop μ-loop
-same-length c = c .before .loop .inv .kept
 
 returns : tie.Need-returns Inv-loop μ-loop
 returns c = let h = c .before in zeroing-end (h .before .args .s .now) (h .loop .s) (h .loop .i) (h .loop .inv) (c .loop-test .left)
@@ -39,10 +24,10 @@ zero8-spec =
     (tie.spec
     Inv-loop
     μ-loop
-    loop-holds
-    slice-write-s
-    add-i
-    loop-less
+    (λ c. search needs)
+    (λ c. search needs)
+    (λ c. search needs)
+    (λ c. search needs)
     loop-again
-    same-length
+    (λ c. search needs)
     returns)

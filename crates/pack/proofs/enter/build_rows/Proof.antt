@@ -1,14 +1,6 @@
 -- `pack::enter::build_rows` meets its contract: the rows are entered, and then the build is finished. Assumes nothing.
 use borrow.Author.Needs.{needs}
-use mathlib.Core.List.{List}
-use Prim.Native.Nat.{ℕ}
-use Rattle.rows.specs.Rows.{Row}
-use Rattle.build.specs.Names.{names}
-use Rattle.build.specs.Rules.{tokensOf}
-use Rattle.build.specs.Given.{firstOf, rulesFrom, noRule}
-use Rattle.build.specs.Memory.{memory}
-use Rattle.build.proofs.Filled.{built-kept, room-kept}
-use Rattle.pack.specs.Pack.{rowsFrom}
+use Rattle.build.proofs.Filled.{entered-ready, entered-built}
 use Rattle.pack.proofs.enter.build_rows.Statement.{statement}
 use Rattle.pack.proofs.enter.build_rows.Tie as tie
 
@@ -44,46 +36,18 @@ lent c =
     let k₁ = k .before .before in
     k₁ .before .before
 
--- the columns as `enter_rows` leaves them
-
-abbrev edges : tie.After-enter-rows → List ℕ
-edges c = c .enter-rows .last .1 .1 .1 .1 .0
-
-abbrev marks : tie.After-enter-rows → List ℕ
-marks c = c .enter-rows .last .1 .1 .1 .1 .1 .0
-
-abbrev works : tie.After-enter-rows → List ℕ
-works c = c .enter-rows .last .1 .1 .1 .1 .1 .1 .0
-
-abbrev rows : tie.After-enter-rows → List Row
-rows c = let a = entry c .args in rowsFrom (a .kind) (a .bytes .now) 36 (a .rows)
-
 finish-requires : tie.Need-finish-requires
 finish-requires c κs =
     let f = entered (lent c) in
-    let s = entry f in
-    let a = s .args in
     let l = f .enter-rows .kept .1 .1 .1 .1 in
-    record {
-      nodes = names (tokensOf (a .strings .now) (rows f));
-      rule = rulesFrom (firstOf (a .kind)) (a .strings .now) noRule 0 (rows f);
-      done = f .enter-rows .ensures;
-      roomy =
-          room-kept (a .edge-at .now) (a .edge-n .now) (a .id .now) (a .byte .now) (a .to .now) (a .work .now) (edges f) (marks f) (works f) (l .0)
-          (l .1 .0) (l .1 .1 .0) (a .room) (s .pre .1);
-    }
+    entered-ready (f .enter-rows .ensures) (entry f .pre .1) (l .0) (l .1 .0) (l .1 .1 .0)
 
 returns : tie.Need-returns
 returns c =
     let k = finished c in
     let f = entered (lent (k .before)) in
-    let a = entry f .args in
     let l = f .enter-rows .kept .1 .1 .1 .1 in
-    let m = k .finish .last in
-    built-kept (a .edge-at .now) (a .edge-n .now) (a .id .now) (a .byte .now) (a .to .now) (a .work .now) (edges f) (marks f) (works f) (l .0)
-    (l .1 .0) (l .1 .1 .0) (firstOf (a .kind)) (a .strings .now) (rows f) (a .room)
-    (memory (m .0) (m .1 .0) (m .1 .1 .0) (m .1 .1 .1 .0) (m .1 .1 .1 .1 .0) (m .1 .1 .1 .1 .1 .0)) (k .finish .result)
-    (k .finish .ensures .built (firstOf (a .kind)) (a .strings .now) (rows f) (f .enter-rows .ensures))
+    entered-built (f .enter-rows .ensures) (k .finish .ensures) (l .0) (l .1 .0) (l .1 .1 .0)
 
 pub build-rows-spec : {M : Type 1} → statement M
 build-rows-spec =

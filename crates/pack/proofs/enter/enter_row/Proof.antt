@@ -47,23 +47,8 @@ inside c =
     let in-table = fine-inside (s .args .kind) (s .args .strings .now) row (s .pre .fine) in
     omega (arith, in-table, ap (λ (r : Row). r .off) (row-is c), ap (λ (r : Row). r .len) (row-is c))
 
-mul-row-at : tie.Need-mul-row-at
-mul-row-at c = let k = c .before .before in let s = k .before .before .before in omega (arith, s .pre .small)
-
-add-row-at : tie.Need-add-row-at
-add-row-at c = let k = c .before .before in let s = k .before .before .before in omega (arith, s .pre .small)
-
-row-at-requires : tie.Need-row-at-requires
-row-at-requires c κs = let k = c .before .before in let s = k .before .before .before in s .pre .inside
-
 span-requires : tie.Need-span-requires
 span-requires c κs = inside c
-
-value-requires : tie.Need-value-requires
-value-requires c κs = entry (c .before) .pre .small
-
-enter-token-requires : tie.Need-enter-token-requires
-enter-token-requires c κs = entry (spanned (lent c .before) .before) .pre .enterable
 
 returns : tie.Need-returns
 unfolding rowIs
@@ -81,13 +66,13 @@ pub enter-row-spec : {M : Type 1} → statement M
 enter-row-spec =
     tie.close
     (tie.spec
-    mul-row-at
-    add-row-at
-    row-at-requires
-    span-requires
-    value-requires
+    (λ c. search needs)
+    (λ c. search needs)
     (λ c κs. search needs)
-    enter-token-requires
+    span-requires
+    (λ c κs. search needs)
+    (λ c κs. search needs)
+    (λ c κs. search needs)
     (λ c. search needs)
     (λ c. search needs)
     (λ c. search needs)

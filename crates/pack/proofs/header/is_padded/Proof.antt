@@ -1,5 +1,6 @@
 -- `pack::header::is_padded` meets its contract. The loop's invariant: the rows below i are padded. The measure is what is left of them.
 -- Assumes nothing.
+use borrow.Author.Needs.{needs}
 use mathlib.Core.Path.{_≡_, sym, ap, _∙_}
 use mathlib.Core.Bool.{Bool, true}
 use mathlib.Core.List.{List}
@@ -34,18 +35,6 @@ turn c = c .before
 loop-holds : tie.Need-loop-holds Inv-loop μ-loop
 loop-holds c = (omega arith, every-none (padded (c .before .args .bytes .now)))
 
-mul-word : tie.Need-mul-word Inv-loop μ-loop
-mul-word c = let s = entry (c .before) in omega (arith, s .pre, s .good)
-
-add-word : tie.Need-add-word Inv-loop μ-loop
-add-word c = let s = entry (c .before) in omega (arith, s .pre, s .good)
-
-add-word-2 : tie.Need-add-word-2 Inv-loop μ-loop
-add-word-2 c = let s = entry (c .before) in omega (arith, s .pre, s .good)
-
-word-requires : tie.Need-word-requires Inv-loop μ-loop
-word-requires c κs = let s = entry (c .before) in omega (arith, s .pre)
-
 returns : tie.Need-returns Inv-loop μ-loop
 returns c =
     let w = c .before in
@@ -54,12 +43,6 @@ returns c =
     sym
     (every-fails (padded (a .bytes .now)) (a .rows) (h .loop .i) (turn w .loop-test .taken)
     (ne-eqb _ 0 (λ e. c .if1 .taken (w .word .ensures ∙ e))))
-
-add-i : tie.Need-add-i Inv-loop μ-loop
-add-i c = let t = turn (c .before) in let s = entry (t .before) in omega (arith, t .loop-test .taken, s .pre, s .good)
-
-loop-less : tie.Need-loop-less Inv-loop μ-loop
-loop-less c = let t = turn (c .before) in omega (arith, t .loop-test .taken)
 
 loop-again : tie.Need-loop-again Inv-loop μ-loop
 loop-again c =
@@ -85,12 +68,12 @@ is-padded-spec =
     Inv-loop
     μ-loop
     loop-holds
-    mul-word
-    add-word
-    add-word-2
-    word-requires
+    (λ c. search needs)
+    (λ c. search needs)
+    (λ c. search needs)
+    (λ c κs. search needs)
     returns
-    add-i
-    loop-less
+    (λ c. search needs)
+    (λ c. search needs)
     loop-again
     returns-2)

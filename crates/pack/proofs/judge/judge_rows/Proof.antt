@@ -44,6 +44,9 @@ start-is : (s : tie.Start) → s .args .h .«strings_off» ≡ headerOf (s .args
 unfolding headerIs
 start-is s = ap (λ (h : Header). h .stringsOff) (s .pre .0)
 
+start-inside : (s : tie.Start) → s .args .h .«strings_off» ≤ length (s .args .bytes .now)
+start-inside s = omega (arith, start-is s, strings-start (s .args .bytes .now) (s .pre .1))
+
 -- what was found of the rows
 rows-are :
     (c : tie.After-first-bad)
@@ -91,16 +94,6 @@ returns c =
     let s = entry l in
     sym (before-large (s .args .kind) (s .args .bytes .now) (sym (sized l) ∙ c .if1 .taken))
 
-sub-first-bad : tie.Need-sub-first-bad
-sub-first-bad c =
-    let s = entry (c .before .before) in
-    omega (arith, start-is s, strings-start (s .args .bytes .now) (s .pre .1))
-
-part-first-bad-start : tie.Need-part-first-bad-start
-part-first-bad-start c =
-    let s = entry (c .before .before) in
-    omega (arith, start-is s, strings-start (s .args .bytes .now) (s .pre .1))
-
 first-bad-requires : tie.Need-first-bad-requires
 unfolding headerIs
 first-bad-requires c κs =
@@ -116,18 +109,6 @@ returns-2 c =
     let f = bound .before .before in
     let s = entry (fits f .before) in
     sym (before-rows (s .args .kind) (s .args .bytes .now) (not-large (fits f)) (sym (rows-are f) ∙ ap reasonIn (bound .found .given .1)))
-
-sub-text-answer : tie.Need-sub-text-answer
-sub-text-answer c =
-    let f = c .before .before in
-    let s = entry (fits f .before) in
-    omega (arith, start-is s, strings-start (s .args .bytes .now) (s .pre .1))
-
-part-text-answer-start : tie.Need-part-text-answer-start
-part-text-answer-start c =
-    let f = c .before .before in
-    let s = entry (fits f .before) in
-    omega (arith, start-is s, strings-start (s .args .bytes .now) (s .pre .1))
 
 returns-3 : tie.Need-returns-3
 unfolding called
@@ -153,16 +134,16 @@ judge-rows-spec =
     (λ c κs. search needs)
     returns
     (λ c. search needs)
-    sub-first-bad
-    part-first-bad-start
+    (λ c. start-inside (entry (c .before .before)))
+    (λ c. start-inside (entry (c .before .before)))
     (λ c. search needs)
     (λ c. search needs)
     first-bad-requires
     (λ c. search needs)
     returns-2
     (λ c. search needs)
-    sub-text-answer
-    part-text-answer-start
+    (λ c. start-inside (entry (fits (c .before .before) .before)))
+    (λ c. start-inside (entry (fits (c .before .before) .before)))
     (λ c. search needs)
     (λ c κs. search needs)
     (λ c. search needs)

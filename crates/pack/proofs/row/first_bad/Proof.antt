@@ -39,15 +39,6 @@ judged c = c .row-fault .ensures ∙ c .before .row-at .ensures .faults (entry (
 loop-holds : tie.Need-loop-holds Inv-loop μ-loop
 loop-holds c = let a = c .before .before .args in (omega arith, bad-start (a .kind) (a .bytes .now) (a .rows) (a .strings .now))
 
-mul-row-at : tie.Need-mul-row-at Inv-loop μ-loop
-mul-row-at c = let s = entry (c .before) in omega (arith, c .loop-test .taken, s .pre .1)
-
-add-row-at : tie.Need-add-row-at Inv-loop μ-loop
-add-row-at c = let s = entry (c .before) in omega (arith, c .loop-test .taken, s .pre .1)
-
-row-at-requires : tie.Need-row-at-requires Inv-loop μ-loop
-row-at-requires c κs = let s = entry (c .before) in omega (arith, c .loop-test .taken, s .pre .0)
-
 cast-t12 : tie.Need-cast-t12 Inv-loop μ-loop
 cast-t12 c =
     let f = c .before .before .before in
@@ -70,9 +61,6 @@ add-i c =
     let f = c .before .before in
     let t = turn f in
     omega (arith, t .loop-test .taken, entry (t .before) .pre .1)
-
-loop-less : tie.Need-loop-less Inv-loop μ-loop
-loop-less c = let f = c .before .before in omega (arith, turn f .loop-test .taken)
 
 loop-again : tie.Need-loop-again Inv-loop μ-loop
 loop-again c =
@@ -98,15 +86,15 @@ first-bad-spec =
     Inv-loop
     μ-loop
     loop-holds
-    mul-row-at
-    add-row-at
-    row-at-requires
+    (λ c. search needs)
+    (λ c. search needs)
+    (λ c κs. search needs)
     (λ c κs. search needs)
     (λ c. search needs)
     cast-t12
     returns
     (λ c. search needs)
     add-i
-    loop-less
+    (λ c. search needs)
     loop-again
     returns-2)

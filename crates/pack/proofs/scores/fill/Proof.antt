@@ -54,26 +54,8 @@ scoreOf s = scoreAt (scores (s .args .bytes .now) (s .args .rows)) (s .args .nod
 loop-holds : tie.Need-loop-holds Inv-loop μ-loop
 loop-holds c = (omega arith, stored-none _ _ _ refl)
 
-mul-score-of : tie.Need-mul-score-of Inv-loop μ-loop
-mul-score-of c = let e = entry (cleared (c .before)) in omega (arith, c .loop-test .taken, e .pre .1 .0, e .good)
-
-shared-slice-read-score-of : tie.Need-shared-slice-read-score-of Inv-loop μ-loop
-shared-slice-read-score-of c = let t = c .before in omega (arith, t .loop-test .taken, entry (cleared (t .before)) .pre .1 .0)
-
-score-of-requires : tie.Need-score-of-requires Inv-loop μ-loop
-score-of-requires c κs = let t = c .before in entry (cleared (t .before)) .pre .0
-
-mul-node-score : tie.Need-mul-node-score Inv-loop μ-loop
-mul-node-score c = let e = entry (cleared (head c)) in omega (arith, c .before .before .loop-test .taken, e .pre .1 .1, e .good)
-
 slice-write-node-score : tie.Need-slice-write-node-score Inv-loop μ-loop
 slice-write-node-score c = place (head c) (c .before .before .loop-test .taken)
-
-add-k : tie.Need-add-k Inv-loop μ-loop
-add-k c = let e = entry (cleared (head c)) in omega (arith, c .before .before .loop-test .taken, e .pre .1 .1, e .good)
-
-loop-less : tie.Need-loop-less Inv-loop μ-loop
-loop-less c = omega (arith, c .before .before .loop-test .taken)
 
 loop-again : tie.Need-loop-again Inv-loop μ-loop
 loop-again c =
@@ -107,13 +89,13 @@ fill-spec =
     μ-loop
     (λ c κs. search needs)
     loop-holds
-    mul-score-of
-    shared-slice-read-score-of
-    score-of-requires
-    mul-node-score
+    (λ c. search needs)
+    (λ c. search needs)
+    (λ c κs. search needs)
+    (λ c. search needs)
     slice-write-node-score
-    add-k
-    loop-less
+    (λ c. search needs)
+    (λ c. search needs)
     loop-again
     same-length
     returns)

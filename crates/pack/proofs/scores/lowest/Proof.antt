@@ -32,9 +32,6 @@ entry c = let k = c .before .before in k .before
 abbrev turn : tie.After-lower Inv-loop μ-loop → tie.In-loop Inv-loop μ-loop
 turn c = c .before .before
 
-score-at-requires : tie.Need-score-at-requires Inv-loop μ-loop
-score-at-requires c κs = let s = c .before in omega (arith, s .pre .0 .inside, s .pre .1)
-
 loop-holds : tie.Need-loop-holds Inv-loop μ-loop
 loop-holds c =
     let s = c .before .before in (
@@ -43,24 +40,6 @@ loop-holds c =
       ap (λ (d : Double). lowest d (scoresOf (rowsFrom Unigram (s .args .bytes .now) 52 (s .args .rows - 1))))
           (sym (c .score-at .ensures .very (s .pre .0 .finite 0 (s .pre .1)))),
     )
-
-mul-score-at : tie.Need-mul-score-at Inv-loop μ-loop
-mul-score-at c = let s = entry (c .before) in omega (arith, c .loop-test .taken, s .pre .0 .few)
-
-add-score-at-2 : tie.Need-add-score-at-2 Inv-loop μ-loop
-add-score-at-2 c = let s = entry (c .before) in omega (arith, c .loop-test .taken, s .pre .0 .few)
-
-add-score-at-3 : tie.Need-add-score-at-3 Inv-loop μ-loop
-add-score-at-3 c = let s = entry (c .before) in omega (arith, c .loop-test .taken, s .pre .0 .few)
-
-score-at-requires-2 : tie.Need-score-at-requires-2 Inv-loop μ-loop
-score-at-requires-2 c κs = let s = entry (c .before) in omega (arith, c .loop-test .taken, s .pre .0 .inside)
-
-add-i : tie.Need-add-i Inv-loop μ-loop
-add-i c = let t = turn c in omega (arith, t .loop-test .taken, entry (t .before) .pre .0 .few)
-
-loop-less : tie.Need-loop-less Inv-loop μ-loop
-loop-less c = omega (arith, turn c .loop-test .taken)
 
 loop-again : tie.Need-loop-again Inv-loop μ-loop
 loop-again c =
@@ -90,14 +69,14 @@ lowest-spec =
     Inv-loop
     μ-loop
     (λ c. search needs)
-    score-at-requires
-    loop-holds
-    mul-score-at
-    add-score-at-2
-    add-score-at-3
-    score-at-requires-2
     (λ c κs. search needs)
-    add-i
-    loop-less
+    loop-holds
+    (λ c. search needs)
+    (λ c. search needs)
+    (λ c. search needs)
+    (λ c κs. search needs)
+    (λ c κs. search needs)
+    (λ c. search needs)
+    (λ c. search needs)
     loop-again
     returns)

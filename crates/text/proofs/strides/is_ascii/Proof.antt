@@ -1,12 +1,13 @@
 -- `text::strides::is_ascii` meets its contract. The loop's invariant: where every byte so far was counted, all are ASCII; a byte is counted
 -- exactly where it is below 128. Assumes nothing.
+use borrow.Author.Needs.{needs}
 use mathlib.Core.Path.{_≡_}
 use Prim.Native.Nat.{_+_, _-_, _≤_, _<_}
 use native.Mathlib.Omega.{arith}
 use borrow.Author.Tests.{eqb-true}
 use lib.ListN.{getD}
 use Rattle.text.specs.Passing.{Ascii}
-use Rattle.text.proofs.Passing.{run-none, run-more}
+use Rattle.text.proofs.Passing.{run-more}
 use Rattle.text.proofs.strides.is_ascii.Statement.{statement}
 use Rattle.text.proofs.strides.is_ascii.Tie as tie
 
@@ -20,15 +21,6 @@ abbrev μ-loop : tie.MeasureT-loop
 abbrev head : tie.After-shared-slice-known Inv-loop μ-loop → tie.At-loop Inv-loop μ-loop
 head c = c .before .before
 
-loop-holds : tie.Need-loop-holds Inv-loop μ-loop
-loop-holds c = (omega arith, omega arith, λ e. run-none (λ k. getD (c .args .s .now) k 0 < 0x80) (c .args .i))
-
-add-count : tie.Need-add-count Inv-loop μ-loop
-add-count c = omega arith
-
-shared-slice-read-count : tie.Need-shared-slice-read-count Inv-loop μ-loop
-shared-slice-read-count c = omega arith
-
 -- the byte that was read is one
 byte :
     (c : tie.After-shared-slice-known Inv-loop μ-loop)
@@ -38,23 +30,11 @@ byte c = omega (arith, c .shared-slice-known .given (head c .before .args .i + h
 sub-count : tie.Need-sub-count Inv-loop μ-loop
 sub-count c = omega (arith, byte c)
 
-add-count-2 : tie.Need-add-count-2 Inv-loop μ-loop
-add-count-2 c = omega (arith, byte c)
-
-add-k : tie.Need-add-k Inv-loop μ-loop
-add-k c = omega arith
-
-loop-less : tie.Need-loop-less Inv-loop μ-loop
-loop-less c = omega arith
-
 loop-again : tie.Need-loop-again Inv-loop μ-loop
 loop-again c =
     let h = c .before .before in
     let a = h .before .args in
     (omega arith, omega (arith, byte c), λ e. run-more (λ k. getD (a .s .now) k 0 < 0x80) (a .i) (h .loop .k) (h .loop .inv .2 (omega arith)) (omega arith))
-
-cast-result : tie.Need-cast-result Inv-loop μ-loop
-cast-result c = omega arith
 
 returns : tie.Need-returns Inv-loop μ-loop
 returns c e k p q =
@@ -67,13 +47,13 @@ is-ascii-spec =
     (tie.spec
     Inv-loop
     μ-loop
-    loop-holds
-    add-count
-    shared-slice-read-count
+    (λ c. search needs)
+    (λ c. search needs)
+    (λ c. search needs)
     sub-count
-    add-count-2
-    add-k
-    loop-less
+    (λ c. search needs)
+    (λ c. search needs)
+    (λ c. search needs)
     loop-again
-    cast-result
+    (λ c. search needs)
     returns)

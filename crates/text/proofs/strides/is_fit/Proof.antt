@@ -8,7 +8,7 @@ use borrow.Author.Needs.{needs}
 use borrow.Author.Tests.{eqb-true}
 use lib.ListN.{getD}
 use Rattle.text.specs.Passing.{Fits, Fit}
-use Rattle.text.proofs.Passing.{run-none, run-more}
+use Rattle.text.proofs.Passing.{run-more}
 use Rattle.text.proofs.strides.is_fit.Statement.{statement}
 use Rattle.text.proofs.strides.is_fit.Tie as tie
 
@@ -26,44 +26,6 @@ At s k = Fits (getD s k 0) (getD s (k + 1) 0) (getD s (k + 2) 0)
 abbrev head : tie.After-fits2 Inv-loop μ-loop → tie.At-loop Inv-loop μ-loop
 head c = c .before .before .before .before .before
 
-loop-holds : tie.Need-loop-holds Inv-loop μ-loop
-loop-holds c =
-    let a = c .before .args in
-    (omega arith, omega arith, λ e. run-none (At (a .s .now)) (a .i))
-
-add-fits : tie.Need-add-fits Inv-loop μ-loop
-add-fits c = omega arith
-
-shared-slice-read-fits : tie.Need-shared-slice-read-fits Inv-loop μ-loop
-shared-slice-read-fits c = omega arith
-
-add-fits-2 : tie.Need-add-fits-2 Inv-loop μ-loop
-add-fits-2 c = omega arith
-
-add-fits-3 : tie.Need-add-fits-3 Inv-loop μ-loop
-add-fits-3 c = omega arith
-
-shared-slice-read-fits-2 : tie.Need-shared-slice-read-fits-2 Inv-loop μ-loop
-shared-slice-read-fits-2 c = omega arith
-
-add-fits-4 : tie.Need-add-fits-4 Inv-loop μ-loop
-add-fits-4 c = omega arith
-
-add-fits-5 : tie.Need-add-fits-5 Inv-loop μ-loop
-add-fits-5 c = omega arith
-
-shared-slice-read-fits-3 : tie.Need-shared-slice-read-fits-3 Inv-loop μ-loop
-shared-slice-read-fits-3 c = omega arith
-
-add-count : tie.Need-add-count Inv-loop μ-loop
-add-count c = omega arith
-
-add-k : tie.Need-add-k Inv-loop μ-loop
-add-k c = omega arith
-
-loop-less : tie.Need-loop-less Inv-loop μ-loop
-loop-less c = omega arith
-
 loop-again : tie.Need-loop-again Inv-loop μ-loop
 loop-again c =
     let h = head c in
@@ -73,9 +35,6 @@ loop-again c =
       omega arith,
       λ e. run-more (At (a .s .now)) (a .i) (h .loop .k) (h .loop .inv .2 (omega arith)) (one .1 (omega arith)),
     )
-
-cast-result : tie.Need-cast-result Inv-loop μ-loop
-cast-result c = omega arith
 
 returns : tie.Need-returns Inv-loop μ-loop
 returns c e k p q =
@@ -88,19 +47,19 @@ is-fit-spec =
     (tie.spec
     Inv-loop
     μ-loop
-    loop-holds
-    add-fits
-    shared-slice-read-fits
-    add-fits-2
-    add-fits-3
-    shared-slice-read-fits-2
-    add-fits-4
-    add-fits-5
-    shared-slice-read-fits-3
+    (λ c. search needs)
+    (λ c. search needs)
+    (λ c. search needs)
+    (λ c. search needs)
+    (λ c. search needs)
+    (λ c. search needs)
+    (λ c. search needs)
+    (λ c. search needs)
+    (λ c. search needs)
     (λ c κs. search needs)
-    add-count
-    add-k
-    loop-less
+    (λ c. search needs)
+    (λ c. search needs)
+    (λ c. search needs)
     loop-again
-    cast-result
+    (λ c. search needs)
     returns)

@@ -3,7 +3,6 @@ use mathlib.Core.Path.{sym, _∙_}
 use native.Mathlib.Omega.{arith}
 use borrow.Author.Needs.{needs}
 use borrow.Author.Tests.{not-false}
-use Rattle.refusal.proofs.Lists.{false-true}
 use Rattle.text.proofs.Plain.{four-at}
 use Rattle.text.proofs.strides.is_four.Statement.{statement}
 use Rattle.text.proofs.strides.is_four.Tie as tie
@@ -18,18 +17,6 @@ first-test c = c .before .before .before
 abbrev start : tie.Else4 → tie.Start
 start c = let f = first-test (second-test c) in f .before .before .before
 
-returns : tie.Need-returns
-returns c e = false-true e
-
-returns-2 : tie.Need-returns-2
-returns-2 c e = false-true e
-
-returns-3 : tie.Need-returns-3
-returns-3 c e = false-true e
-
-returns-4 : tie.Need-returns-4
-returns-4 c e = false-true e
-
 returns-5 : tie.Need-returns-5
 returns-5 c e =
     let third = c .before .before in
@@ -43,15 +30,15 @@ is-four-spec =
     tie.close
     (tie.spec
     (λ c. search needs)
-    returns
+    (λ c e. search needs)
     (λ c. search needs)
     (λ c. search needs)
-    returns-2
-    returns-3
+    (λ c e. search needs)
+    (λ c e. search needs)
     (λ c. search needs)
     (λ c. search needs)
     (λ c κs. search needs)
-    returns-4
+    (λ c e. search needs)
     (λ c. search needs)
     (λ c. search needs)
     (λ c κs. search needs)

@@ -8,7 +8,7 @@ use borrow.Author.Needs.{needs}
 use borrow.Author.Tests.{eqb-true}
 use lib.ListN.{getD}
 use Rattle.text.specs.Passing.{Follows, Paired}
-use Rattle.text.proofs.Passing.{run-none, run-more}
+use Rattle.text.proofs.Passing.{run-more}
 use Rattle.text.proofs.strides.is_paired.Statement.{statement}
 use Rattle.text.proofs.strides.is_paired.Tie as tie
 
@@ -26,35 +26,6 @@ At s k = Follows (getD s k 0) (getD s (k + 1) 0)
 abbrev head : tie.After-follows Inv-loop μ-loop → tie.At-loop Inv-loop μ-loop
 head c = c .before .before .before .before
 
-loop-holds : tie.Need-loop-holds Inv-loop μ-loop
-loop-holds c =
-    let a = c .before .args in
-    (omega arith, omega arith, λ e. run-none (At (a .s .now)) (a .i))
-
-add-follows : tie.Need-add-follows Inv-loop μ-loop
-add-follows c = omega arith
-
-shared-slice-read-follows : tie.Need-shared-slice-read-follows Inv-loop μ-loop
-shared-slice-read-follows c = omega arith
-
-add-follows-2 : tie.Need-add-follows-2 Inv-loop μ-loop
-add-follows-2 c = omega arith
-
-add-follows-3 : tie.Need-add-follows-3 Inv-loop μ-loop
-add-follows-3 c = omega arith
-
-shared-slice-read-follows-2 : tie.Need-shared-slice-read-follows-2 Inv-loop μ-loop
-shared-slice-read-follows-2 c = omega arith
-
-add-count : tie.Need-add-count Inv-loop μ-loop
-add-count c = omega arith
-
-add-k : tie.Need-add-k Inv-loop μ-loop
-add-k c = omega arith
-
-loop-less : tie.Need-loop-less Inv-loop μ-loop
-loop-less c = omega arith
-
 loop-again : tie.Need-loop-again Inv-loop μ-loop
 loop-again c =
     let h = head c in
@@ -64,9 +35,6 @@ loop-again c =
       omega arith,
       λ e. run-more (At (a .s .now)) (a .i) (h .loop .k) (h .loop .inv .2 (omega arith)) (one .1 (omega arith)),
     )
-
-cast-result : tie.Need-cast-result Inv-loop μ-loop
-cast-result c = omega arith
 
 returns : tie.Need-returns Inv-loop μ-loop
 returns c e k p q =
@@ -79,16 +47,16 @@ is-paired-spec =
     (tie.spec
     Inv-loop
     μ-loop
-    loop-holds
-    add-follows
-    shared-slice-read-follows
-    add-follows-2
-    add-follows-3
-    shared-slice-read-follows-2
+    (λ c. search needs)
+    (λ c. search needs)
+    (λ c. search needs)
+    (λ c. search needs)
+    (λ c. search needs)
+    (λ c. search needs)
     (λ c κs. search needs)
-    add-count
-    add-k
-    loop-less
+    (λ c. search needs)
+    (λ c. search needs)
+    (λ c. search needs)
     loop-again
-    cast-result
+    (λ c. search needs)
     returns)

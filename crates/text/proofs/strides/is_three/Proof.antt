@@ -7,7 +7,6 @@ use native.Mathlib.Omega.{arith}
 use borrow.Author.Needs.{needs}
 use borrow.Author.Tests.{not-true, not-false, eqb-false}
 use lib.ListN.{getD, drop}
-use Rattle.refusal.proofs.Lists.{false-true}
 use Rattle.text.specs.Text.{tail, character}
 use Rattle.text.proofs.Characters.{within-low, within-high}
 use Rattle.text.proofs.Plain.{three-at}
@@ -50,15 +49,6 @@ whole c =
     three-at (a .s .now) (a .i) (omega arith) (omega arith) (omega arith) (second-tail c)
     (sym (c .before .is-tail2 .ensures) ∙ not-false _ (c .if3 .left))
 
-returns : tie.Need-returns
-returns c e = false-true e
-
-returns-2 : tie.Need-returns-2
-returns-2 c e = false-true e
-
-returns-3 : tie.Need-returns-3
-returns-3 c e = false-true e
-
 sub-part-2 : tie.Need-sub-part-2
 sub-part-2 c = omega (arith, second-low c)
 
@@ -80,15 +70,15 @@ is-three-spec =
     tie.close
     (tie.spec
     (λ c. search needs)
-    returns
+    (λ c e. search needs)
     (λ c. search needs)
     (λ c. search needs)
     (λ c κs. search needs)
-    returns-2
+    (λ c e. search needs)
     (λ c. search needs)
     (λ c. search needs)
     (λ c κs. search needs)
-    returns-3
+    (λ c e. search needs)
     (λ c. search needs)
     (λ c. search needs)
     sub-part-2

@@ -2,7 +2,6 @@
 use mathlib.Core.Path.{sym, _∙_}
 use native.Mathlib.Omega.{arith}
 use borrow.Author.Needs.{needs}
-use Rattle.refusal.proofs.Lists.{false-true}
 use Rattle.text.proofs.Plain.{two-at}
 use Rattle.text.proofs.strides.is_two.Statement.{statement}
 use Rattle.text.proofs.strides.is_two.Tie as tie
@@ -10,12 +9,6 @@ use Rattle.text.proofs.strides.is_two.Tie as tie
 -- the way back to the function's start from behind the tests of the lead byte
 abbrev start : tie.Else2 → tie.Start
 start c = c .before .before .before .before
-
-returns : tie.Need-returns
-returns c e = false-true e
-
-returns-2 : tie.Need-returns-2
-returns-2 c e = false-true e
 
 returns-3 : tie.Need-returns-3
 returns-3 c e =
@@ -27,8 +20,8 @@ is-two-spec =
     tie.close
     (tie.spec
     (λ c. search needs)
-    returns
-    returns-2
+    (λ c e. search needs)
+    (λ c e. search needs)
     (λ c. search needs)
     (λ c. search needs)
     (λ c κs. search needs)

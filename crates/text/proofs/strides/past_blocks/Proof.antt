@@ -1,10 +1,11 @@
 -- `text::strides::past_blocks` meets its contract. The loop's invariant is the contract's, of what was passed so far. Assumes nothing.
+use borrow.Author.Needs.{needs}
 use Prim.Native.Nat.{_+_, _-_}
 use native.Mathlib.Omega.{arith}
 use borrow.Author.Tests.{not-false}
 use lib.ListN.{length}
 use Rattle.text.specs.Passing.{Passed}
-use Rattle.text.proofs.Passing.{passed-none, passed-on, passed-ascii}
+use Rattle.text.proofs.Passing.{passed-on, passed-ascii}
 use Rattle.text.proofs.strides.past_blocks.Statement.{statement}
 use Rattle.text.proofs.strides.past_blocks.Tie as tie
 
@@ -18,24 +19,6 @@ abbrev μ-loop : tie.MeasureT-loop
 abbrev head : tie.After-is-ascii Inv-loop μ-loop → tie.At-loop Inv-loop μ-loop
 head c = c .before .before
 
-loop-holds : tie.Need-loop-holds Inv-loop μ-loop
-loop-holds c = passed-none (c .before .args .s .now) (c .before .args .i) (omega arith)
-
-sub-loop : tie.Need-sub-loop Inv-loop μ-loop
-sub-loop c = omega arith
-
-is-ascii-requires : tie.Need-is-ascii-requires Inv-loop μ-loop
-is-ascii-requires c κs = omega arith
-
-returns : tie.Need-returns Inv-loop μ-loop
-returns c = head (c .before) .loop .inv
-
-add-at : tie.Need-add-at Inv-loop μ-loop
-add-at c = omega arith
-
-loop-less : tie.Need-loop-less Inv-loop μ-loop
-loop-less c = omega arith
-
 loop-again : tie.Need-loop-again Inv-loop μ-loop
 loop-again c =
     let h = head (c .before) in
@@ -44,20 +27,17 @@ loop-again c =
     passed-on (a .s .now) (a .i) at (at + a .n) (h .loop .inv)
     (passed-ascii (a .n) (a .s .now) at (omega arith) (c .before .is-ascii .ensures (not-false _ (c .if1 .left))))
 
-returns-2 : tie.Need-returns-2 Inv-loop μ-loop
-returns-2 c = c .before .loop .inv
-
 pub past-blocks-spec : {M : Type 1} → statement M
 past-blocks-spec =
     tie.close
     (tie.spec
     Inv-loop
     μ-loop
-    loop-holds
-    sub-loop
-    is-ascii-requires
-    returns
-    add-at
-    loop-less
+    (λ c. search needs)
+    (λ c. search needs)
+    (λ c κs. search needs)
+    (λ c. search needs)
+    (λ c. search needs)
+    (λ c. search needs)
     loop-again
-    returns-2)
+    (λ c. search needs))

@@ -1,10 +1,10 @@
 -- `text::strides::past_pairs` meets its contract. The loop's invariant is the contract's, of what was passed so far; a turn passes a block, and
 -- what is left of the length falls where it is not empty. Assumes nothing.
+use borrow.Author.Needs.{needs}
 use Prim.Native.Nat.{_-_}
-use native.Mathlib.Omega.{arith}
 use lib.ListN.{length}
 use Rattle.text.specs.Passing.{Passed}
-use Rattle.text.proofs.Passing.{passed-none, passed-on}
+use Rattle.text.proofs.Passing.{passed-on}
 use Rattle.text.proofs.strides.past_pairs.Statement.{statement}
 use Rattle.text.proofs.strides.past_pairs.Tie as tie
 
@@ -18,31 +18,14 @@ abbrev μ-loop : tie.MeasureT-loop
 abbrev head : tie.After-past-pair-block Inv-loop μ-loop → tie.At-loop Inv-loop μ-loop
 head c = c .before .before
 
-loop-holds : tie.Need-loop-holds Inv-loop μ-loop
-loop-holds c = passed-none (c .before .args .s .now) (c .before .args .i) (omega arith)
-
-sub-loop : tie.Need-sub-loop Inv-loop μ-loop
-sub-loop c = omega arith
-
-past-pair-block-requires : tie.Need-past-pair-block-requires Inv-loop μ-loop
-past-pair-block-requires c κs = omega arith
-
-returns : tie.Need-returns Inv-loop μ-loop
-returns c = head (c .before) .loop .inv
-
-loop-less : tie.Need-loop-less Inv-loop μ-loop
-loop-less c = omega arith
-
 loop-again : tie.Need-loop-again Inv-loop μ-loop
 loop-again c =
     let h = head (c .before) in
     let a = h .before .before .args in
     passed-on (a .s .now) (a .i) (h .loop .at) (c .before .past-pair-block .result) (h .loop .inv) (c .before .past-pair-block .ensures)
 
-returns-2 : tie.Need-returns-2 Inv-loop μ-loop
-returns-2 c = c .before .loop .inv
-
 pub past-pairs-spec : {M : Type 1} → statement M
 past-pairs-spec =
     tie.close
-    (tie.spec Inv-loop μ-loop loop-holds sub-loop past-pair-block-requires returns loop-less loop-again returns-2)
+    (tie.spec Inv-loop μ-loop (λ c. search needs) (λ c. search needs) (λ c κs. search needs) (λ c. search needs)
+    (λ c. search needs) loop-again (λ c. search needs))

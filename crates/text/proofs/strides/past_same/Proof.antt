@@ -1,11 +1,12 @@
 -- `text::strides::past_same` meets its contract. The loop's invariant is the contract's, of what was passed so far; a turn passes a character.
 -- What is left of the length falls. Assumes nothing.
+use borrow.Author.Needs.{needs}
 use Prim.Native.Nat.{_+_, _-_}
 use native.Mathlib.Omega.{arith}
 use borrow.Author.Tests.{not-false}
 use lib.ListN.{length}
 use Rattle.text.specs.Passing.{Passed}
-use Rattle.text.proofs.Passing.{passed-none, passed-on, passed-character}
+use Rattle.text.proofs.Passing.{passed-on, passed-character}
 use Rattle.text.proofs.strides.past_same.Statement.{statement}
 use Rattle.text.proofs.strides.past_same.Tie as tie
 
@@ -19,24 +20,6 @@ abbrev μ-loop : tie.MeasureT-loop
 abbrev head : tie.After-is-plain Inv-loop μ-loop → tie.At-loop Inv-loop μ-loop
 head c = c .before .before
 
-loop-holds : tie.Need-loop-holds Inv-loop μ-loop
-loop-holds c = passed-none (c .before .args .s .now) (c .before .args .i) (omega arith)
-
-sub-loop : tie.Need-sub-loop Inv-loop μ-loop
-sub-loop c = omega arith
-
-is-plain-requires : tie.Need-is-plain-requires Inv-loop μ-loop
-is-plain-requires c κs = omega arith
-
-returns : tie.Need-returns Inv-loop μ-loop
-returns c = head (c .before) .loop .inv
-
-add-at : tie.Need-add-at Inv-loop μ-loop
-add-at c = omega arith
-
-loop-less : tie.Need-loop-less Inv-loop μ-loop
-loop-less c = omega arith
-
 loop-again : tie.Need-loop-again Inv-loop μ-loop
 loop-again c =
     let h = head (c .before) in
@@ -45,20 +28,17 @@ loop-again c =
     passed-on (a .s .now) (a .i) at (at + a .n) (h .loop .inv)
     (passed-character (a .s .now) at (a .n) (c .before .is-plain .ensures (not-false _ (c .if1 .left))) (omega arith))
 
-returns-2 : tie.Need-returns-2 Inv-loop μ-loop
-returns-2 c = c .before .loop .inv
-
 pub past-same-spec : {M : Type 1} → statement M
 past-same-spec =
     tie.close
     (tie.spec
     Inv-loop
     μ-loop
-    loop-holds
-    sub-loop
-    is-plain-requires
-    returns
-    add-at
-    loop-less
+    (λ c. search needs)
+    (λ c. search needs)
+    (λ c κs. search needs)
+    (λ c. search needs)
+    (λ c. search needs)
+    (λ c. search needs)
     loop-again
-    returns-2)
+    (λ c. search needs))
