@@ -12,7 +12,7 @@ import sys
 import tempfile
 
 sys.path.insert(0, os.path.join(os.path.dirname(os.path.abspath(__file__)), "..", "tools"))
-from vocab import UNIGRAM, WORDPIECE, Vocabulary, make
+from packs import UNIGRAM, WORDPIECE, Vocabulary, make
 
 ROOT = os.path.join(os.path.dirname(os.path.abspath(__file__)), "..")
 

@@ -1,6 +1,6 @@
 #!/usr/bin/env python3
-"""From a vocabulary as coders have it to ids: packs are made from files of every format, the program codes comments with
-them, and what it prints is what the Rust gives for the same rows. Usage: tokenizers.py PROGRAM COMPARE
+"""From a vocabulary as coders have it to ids: packs are made from files of every format, the program codes comments with them,
+and what it prints is what the Rust gives for the same rows. Usage: tokenizers.py PROGRAM COMPARE
 """
 
 import json
@@ -54,7 +54,8 @@ def files(folder):
     for name, text in contents.items():
         with open(os.path.join(folder, name), "w", encoding="utf-8") as file:
             file.write(text)
-    return [(name, ["--kind", "unigram"] if name == "table.tsv" else []) for name in contents]
+    more = {"table.tsv": ["--kind", "unigram"], **dict.fromkeys(["unigram.json", "wordpiece.json"], ["--ignore", "normalizer"])}
+    return [(name, more.get(name, [])) for name in contents]
 
 
 def comments():
@@ -71,7 +72,8 @@ def main():
     with tempfile.TemporaryDirectory() as folder:
         for name, more in files(folder):
             pack = os.path.join(folder, "vocab.pack")
-            made = subprocess.run([sys.executable, TOOL, "make", os.path.join(folder, name), pack, *more], capture_output=True)
+            words = ["make", os.path.join(folder, name), pack, "--force", *more]
+            made = subprocess.run([sys.executable, TOOL, *words], capture_output=True)
             out = subprocess.run([program], cwd=folder, input=data, capture_output=True).stdout
             right = subprocess.run([compare, "print", pack], input=data, capture_output=True).stdout
             lines += right.count(b"\n")

@@ -3,13 +3,13 @@
 
     python3 tools/must_fail.py [--finer] [CRATE..]
 
-Run it after `rt check`. For each crate it takes a copy of the repository, has the prover check the crate as it is, and
-then applies one edit after the other and has it checked again. The prover keeps what an edit leaves alone, so that an
-edit takes seconds. The edits are those of crates/CRATE/must-fail/, which `rt ci` tries too, with a whole check of the
-crate for each, and the finer ones of crates/CRATE/wrong/. With --finer it tries the latter alone, as ./test does.
+Run it after `rt check`. For each crate it takes a copy of the repository, has the prover check the crate as it is, and then
+applies one edit after the other and has it checked again. The prover keeps what an edit leaves alone, so that an edit takes
+seconds. The edits are those of crates/CRATE/must-fail/, which `rt ci` tries too, with a whole check of the crate for each,
+and the finer ones of crates/CRATE/wrong/. With --finer it tries the latter alone, as ./test does.
 
-An edit is refused when the prover ends with `logic=not-proved`. Anything else fails: an edit that is still proved, whose
-text is not there exactly once, or that does not reach the prover. What the prover said of each is left in
+An edit is refused when the prover ends with `logic=not-proved`. Anything else fails: an edit that is still proved, whose text
+is not there exactly once, or that does not reach the prover. What the prover said of each is left in
 target/wrong/CRATE/EDIT.log. The last line says how many were refused and how many were not.
 """
 
