@@ -101,6 +101,7 @@ static void wordpiece(void) {
     /* the trie is sound, as tested here; the word is ASCII, and each byte has a place */
     CHECK(sk_sound(TRIE) && sk_encode_checked(TRIE, 0, 100, TEXT("##"), TEXT("unable"), ids, 6) == 2 && ids[0] == 1);
     CHECK(sk_encode_checked(TRIE, 0, 100, NO, NO, NO) == 0);
+    CHECK(sk_exact_checked(TRIE, TEXT("un")) == 1 && sk_exact_checked(TRIE, TEXT("u")) == SK_ABSENT);
 }
 
 /* The pack of the same vocabulary, and what the program prints for it. */

@@ -214,6 +214,16 @@ uint64_t sk_exact_unscored(
     const uint32_t *to, size_t to_length,
     const uint8_t *s, size_t s_length);
 
+/* The same in a trie of either kind that was tested and found sound, for a text that was tested: at most 65,536 bytes, and
+ * sk_valid_up_to gives its length. The id, or SK_ABSENT. */
+uint64_t sk_exact_checked(
+    const uint32_t *edge_at, size_t edge_at_length,
+    const uint16_t *edge_n, size_t edge_n_length,
+    const uint32_t *id, size_t id_length,
+    const uint8_t *byte, size_t byte_length,
+    const uint32_t *to, size_t to_length,
+    const uint8_t *s, size_t s_length);
+
 /* ---- Ids
  *
  * An empty text or word has no ids. Each call below without `_checked` tests the whole trie, which takes time for each

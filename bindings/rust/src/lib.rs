@@ -5,8 +5,8 @@
 //!
 //! let vocabulary = [("<unk>", 0.0), ("a", -1.0), ("b", -1.0), ("ab", -2.0)];
 //! let unigram = Unigram::from_rows(&vocabulary, 0)?;
-//! assert_eq!(unigram.segment(b"ab")?, [3]);
-//! assert_eq!(unigram.segment(b"")?, []);
+//! assert_eq!(unigram.segment("ab")?, [3]);
+//! assert_eq!(unigram.segment("")?, []);
 //! assert_eq!(unigram.segment(b"\xff").unwrap_err().fault, Fault::Text);
 //! # Ok::<(), soahkimal::Refusal>(())
 //! ```
@@ -16,9 +16,12 @@
 //! sound when it was made stays sound, and is not tested again for each text. The functions as they are stand in
 //! [`raw`].
 
+#![warn(missing_docs)]
+
 #[macro_use]
 mod call;
 mod pack;
+#[allow(missing_docs)]
 pub mod raw;
 mod refusal;
 mod rows;

@@ -7,7 +7,9 @@ use crate::{Refusal, Unigram, WordPiece};
 /// A vocabulary from a pack, of either kind.
 #[derive(Clone, Debug)]
 pub enum Pack {
+    /// A pack of kind 1.
     Unigram(Unigram),
+    /// A pack of kind 2.
     WordPiece(WordPiece),
 }
 
@@ -34,7 +36,7 @@ fn most_nodes(bytes: &[u8]) -> usize {
 }
 
 impl Pack {
-    /// Refused 11; 1; at the first bad row 2, 3, 4, then 5 or 6; 2, 4 for the prefix, with no row.
+    /// The vocabulary of a pack's bytes. Refused 11; 1; at the first bad row 2, 3, 4, then 5 or 6; 2, 4 for the prefix, with no row.
     pub fn from_bytes(bytes: &[u8]) -> Result<Self, Refusal> {
         let mut unknown_score = [0.0];
         let parts = trie::build(most_nodes(bytes), true, |p, work| unsafe {
@@ -53,18 +55,20 @@ impl Pack {
     }
 
     /// The ids of a text or word. Refused 1, 4.
-    pub fn ids(&self, text: &[u8]) -> Result<Vec<u32>, Refusal> {
+    pub fn ids(&self, text: impl AsRef<[u8]>) -> Result<Vec<u32>, Refusal> {
         match self {
             Pack::Unigram(u) => u.segment(text),
             Pack::WordPiece(w) => w.encode(text),
         }
     }
 
-    pub fn unigram(self) -> Option<Unigram> {
+    /// The Unigram vocabulary, if it is one.
+    pub fn into_unigram(self) -> Option<Unigram> {
         if let Pack::Unigram(u) = self { Some(u) } else { None }
     }
 
-    pub fn wordpiece(self) -> Option<WordPiece> {
+    /// The WordPiece vocabulary, if it is one.
+    pub fn into_wordpiece(self) -> Option<WordPiece> {
         if let Pack::WordPiece(w) = self { Some(w) } else { None }
     }
 }
@@ -73,7 +77,8 @@ impl Pack {
 const PRINT_ROOM: usize = 360_459;
 
 /// All that the program `ids` prints for a pack and an input. The call needs about 230,000 bytes of stack.
-pub fn print(pack: &[u8], input: &[u8]) -> Vec<u8> {
+pub fn print(pack: &[u8], input: impl AsRef<[u8]>) -> Vec<u8> {
+    let input = input.as_ref();
     let mut out = vec![0; PRINT_ROOM];
     let n = unsafe { call!(sk_print([pack], [input], [mut out])) };
     out.truncate(n);

@@ -148,6 +148,15 @@ unsafe extern "C" {
         ids: *mut u32, ids_length: usize,
     ) -> usize;
 
+    pub fn sk_exact_checked(
+        edge_at: *const u32, edge_at_length: usize,
+        edge_n: *const u16, edge_n_length: usize,
+        id: *const u32, id_length: usize,
+        byte: *const u8, byte_length: usize,
+        to: *const u32, to_length: usize,
+        s: *const u8, s_length: usize,
+    ) -> u64;
+
     pub fn sk_encode(
         edge_at: *const u32, edge_at_length: usize,
         edge_n: *const u16, edge_n_length: usize,

@@ -31,6 +31,7 @@ pub enum Fault {
 }
 
 impl Fault {
+    /// Every fault, in the order of the numbers.
     pub const ALL: [Fault; 11] = [
         Fault::Size,
         Fault::Span,
@@ -77,7 +78,9 @@ impl fmt::Display for Fault {
 /// Why a call refused, and for a build at which row, where one is to blame.
 #[derive(Clone, Copy, Debug, PartialEq, Eq, Hash)]
 pub struct Refusal {
+    /// What is wrong.
     pub fault: Fault,
+    /// The row that is to blame.
     pub row: Option<u32>,
 }
 

@@ -1,6 +1,7 @@
 //! The parts of a trie, and the memory of a build.
 
 use crate::refusal;
+use crate::text;
 use crate::{Fault, Refusal};
 
 /// A trie in columns. Node 0 is the root; the edges stand node after node.
@@ -42,6 +43,15 @@ impl Parts {
         shrink(&mut self.byte, nodes - 1);
         shrink(&mut self.to, nodes - 1);
         self
+    }
+
+    /// The id of a text that is a token, in parts that are sound. Refused 1, 4.
+    pub(crate) fn exact(&self, s: &[u8]) -> Result<Option<u32>, Refusal> {
+        text::test(s)?;
+        // SAFETY: the parts are sound
+        refusal::found(unsafe {
+            call!(sk_exact_checked([self.edge_at], [self.edge_n], [self.id], [self.byte], [self.to], [s]))
+        })
     }
 
     /// The same without scores.

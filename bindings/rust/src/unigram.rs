@@ -1,10 +1,10 @@
 //! Unigram: a text's best cutting.
 
-use crate::refusal;
 use crate::rows::{self, Columns};
 use crate::text;
 use crate::trie::{self, Parts};
 use crate::{Fault, NO_ID, Refusal};
+use std::ops::Range;
 
 /// A Unigram vocabulary. Its parts are sound.
 #[derive(Clone, Debug)]
@@ -17,15 +17,21 @@ pub struct Unigram {
 /// What stands at an offset: the last piece of the best cutting that ends there, and that cutting's score.
 #[derive(Clone, Copy, Debug, PartialEq)]
 pub struct Record {
+    /// Where the piece starts.
     pub start: u32,
+    /// The piece's id.
     pub id: u32,
+    /// The score of the cutting.
     pub score: f64,
 }
 
 /// A text's ids and how they came about.
 #[derive(Clone, Debug, PartialEq)]
 pub struct Cutting {
+    /// The ids, in order.
     pub ids: Vec<u32>,
+    /// The bytes that each id covers: those of its piece, or of all pieces of a run of unknown ones that became one id.
+    pub spans: Vec<Range<usize>>,
     /// Where the pieces end, before unknown ones are merged.
     pub ends: Vec<u32>,
     /// For each offset from 0 to the text's length its record; none at 0 and inside a character.
@@ -56,6 +62,21 @@ impl Scratch {
     fn record(&self, j: usize) -> Option<Record> {
         let record = Record { start: self.start[j], id: self.slot_id[j], score: self.slot_score[j] };
         (record.start != NO_ID).then_some(record)
+    }
+
+    /// The bytes of each id: neighbouring pieces with the unknown id are one.
+    fn spans(&self, ends: &[u32], unknown: u32) -> Vec<Range<usize>> {
+        let mut spans: Vec<Range<usize>> = Vec::with_capacity(ends.len());
+        let (mut at, mut was_unknown) = (0, false);
+        for end in ends.iter().map(|&end| end as usize) {
+            let is_unknown = self.slot_id[end] == unknown;
+            match spans.last_mut() {
+                Some(run) if is_unknown && was_unknown => run.end = end,
+                _ => spans.push(at..end),
+            }
+            (at, was_unknown) = (end, is_unknown);
+        }
+        spans
     }
 
     /// The path up to the piece that ends the text.
@@ -101,15 +122,17 @@ impl Unigram {
     }
 
     /// The ids of a text. Refused 1, 4. An empty text has none.
-    pub fn segment(&self, text: &[u8]) -> Result<Vec<u32>, Refusal> {
-        Ok(self.work(text)?.ids)
+    pub fn segment(&self, text: impl AsRef<[u8]>) -> Result<Vec<u32>, Refusal> {
+        Ok(self.work(text.as_ref())?.ids)
     }
 
     /// The ids of a text with its pieces and records. Refused 1, 4.
-    pub fn cut(&self, text: &[u8]) -> Result<Cutting, Refusal> {
+    pub fn cut(&self, text: impl AsRef<[u8]>) -> Result<Cutting, Refusal> {
+        let text = text.as_ref();
         let b = self.work(text)?;
         let records = (0..=text.len()).map(|j| b.record(j)).collect();
-        Ok(Cutting { ends: b.ends(text.len()), records, ids: b.ids })
+        let ends = b.ends(text.len());
+        Ok(Cutting { spans: b.spans(&ends, self.unknown), ends, records, ids: b.ids })
     }
 
     /// The columns as the library leaves them, the ids cut to their number.
@@ -126,14 +149,12 @@ impl Unigram {
         Ok(b)
     }
 
-    /// The id of a text that is a token. Refused 1, 4. The whole trie is tested first, which takes time for each node.
-    pub fn exact(&self, text: &[u8]) -> Result<Option<u32>, Refusal> {
-        let p = &self.parts;
-        refusal::found(unsafe {
-            call!(sk_exact([p.edge_at], [p.edge_n], [p.id], [p.score], [p.byte], [p.to], self.unknown_score, [text]))
-        })
+    /// The id of a text that is a token. Refused 1, 4.
+    pub fn exact(&self, text: impl AsRef<[u8]>) -> Result<Option<u32>, Refusal> {
+        self.parts.exact(text.as_ref())
     }
 
+    /// The unknown id.
     pub fn unknown(&self) -> u32 {
         self.unknown
     }
@@ -143,6 +164,7 @@ impl Unigram {
         self.unknown_score
     }
 
+    /// The trie.
     pub fn parts(&self) -> &Parts {
         &self.parts
     }

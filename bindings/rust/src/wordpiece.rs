@@ -22,7 +22,7 @@ impl WordPiece {
         rows: &[(T, u32)],
         unknown: u32,
         max_chars: u32,
-        prefix: &[u8],
+        prefix: impl AsRef<[u8]>,
     ) -> Result<Self, Refusal> {
         let (tab, spans) = rows::table(rows)?;
         let ids: Vec<u32> = rows.iter().map(|row| row.1).collect();
@@ -37,7 +37,7 @@ impl WordPiece {
         ids: &[u32],
         unknown: u32,
         max_chars: u32,
-        prefix: &[u8],
+        prefix: impl AsRef<[u8]>,
     ) -> Result<Self, Refusal> {
         let c = Columns::with_ids(spans, ids);
         let parts = trie::build(c.most_nodes(), false, |p, work| unsafe {
@@ -48,7 +48,8 @@ impl WordPiece {
     }
 
     /// A trie that was built before; scores in it are dropped. Refused 1 for the prefix, 8, 4 for the prefix.
-    pub fn from_parts(parts: Parts, unknown: u32, max_chars: u32, prefix: &[u8]) -> Result<Self, Refusal> {
+    pub fn from_parts(parts: Parts, unknown: u32, max_chars: u32, prefix: impl AsRef<[u8]>) -> Result<Self, Refusal> {
+        let prefix = prefix.as_ref();
         let (p, word, mut ids) = (&parts, [0u8; 0], [0u32; 0]);
         // an empty word is refused for its trie or its prefix only
         refusal::count(unsafe {
@@ -64,7 +65,8 @@ impl WordPiece {
     }
 
     /// The ids of a word. Refused 1, 4. An empty word has none.
-    pub fn encode(&self, word: &[u8]) -> Result<Vec<u32>, Refusal> {
+    pub fn encode(&self, word: impl AsRef<[u8]>) -> Result<Vec<u32>, Refusal> {
+        let word = word.as_ref();
         text::test(word)?;
         let (p, mut ids) = (&self.parts, vec![0; word.len()]);
         // SAFETY: the parts are sound, the word was tested, and there is a place for each byte.
@@ -76,12 +78,12 @@ impl WordPiece {
         Ok(ids)
     }
 
-    /// The id of a text that is a token. Refused 1, 4. The whole trie is tested first, which takes time for each node.
-    pub fn exact(&self, text: &[u8]) -> Result<Option<u32>, Refusal> {
-        let p = &self.parts;
-        refusal::found(unsafe { call!(sk_exact_unscored([p.edge_at], [p.edge_n], [p.id], [p.byte], [p.to], [text])) })
+    /// The id of a text that is a token. Refused 1, 4.
+    pub fn exact(&self, text: impl AsRef<[u8]>) -> Result<Option<u32>, Refusal> {
+        self.parts.exact(text.as_ref())
     }
 
+    /// The unknown id.
     pub fn unknown(&self) -> u32 {
         self.unknown
     }
@@ -91,10 +93,12 @@ impl WordPiece {
         self.max_chars
     }
 
+    /// What stands before every piece of a word but the first.
     pub fn prefix(&self) -> &[u8] {
         &self.prefix
     }
 
+    /// The trie, without scores.
     pub fn parts(&self) -> &Parts {
         &self.parts
     }

@@ -81,7 +81,7 @@ fn the_pack_case() -> Result<(), Refusal> {
     assert_eq!(pack.ids(b"unable")?, [1, 2]);
     assert_eq!(pack.ids(b"")?, []);
     assert_eq!(pack.ids(b"unx")?, [0]);
-    let w = pack.wordpiece().expect("kind 2");
+    let w = pack.into_wordpiece().expect("kind 2");
     assert_eq!((w.unknown(), w.max_chars(), w.prefix()), (0, 100, b"##".as_slice()));
     assert_eq!(w.parts(), wordpiece(&[("un", 1), ("##able", 2)], 100).parts());
     Ok(())
@@ -96,7 +96,7 @@ fn a_unigram_pack() -> Result<(), Refusal> {
         bytes.extend(score.to_le_bytes());
     }
     bytes.extend_from_slice("aé".as_bytes());
-    let u = Pack::from_bytes(&bytes)?.unigram().expect("kind 1");
+    let u = Pack::from_bytes(&bytes)?.into_unigram().expect("kind 1");
     let same = Unigram::from_rows(&[("a", -1.0), ("aé", -2.5)], 7)?;
     assert_eq!((u.parts(), u.unknown(), u.unknown_score()), (same.parts(), 7, -12.5));
     assert_eq!(u.segment("aaéé".as_bytes())?, [0, 1, 7]);

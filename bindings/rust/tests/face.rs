@@ -265,7 +265,7 @@ fn memory_grows() {
     let header = [2, 50_000, 36, 36 + 16 * 50_000, strings.len() as u32, 0, 100, strings.len() as u32 - 2, 2];
     let words = header.into_iter().chain((0..50_000).flat_map(|i| [10 * i, 10, i + 1, 0]));
     let bytes: Vec<u8> = words.flat_map(u32::to_le_bytes).chain(strings.bytes()).collect();
-    assert_eq!(Pack::from_bytes(&bytes).unwrap().wordpiece().unwrap().parts(), w.parts());
+    assert_eq!(Pack::from_bytes(&bytes).unwrap().into_wordpiece().unwrap().parts(), w.parts());
     let scored: Vec<(&str, f64)> = rows.iter().map(|&(t, i)| (t, -f64::from(i))).collect();
     let u = Unigram::from_rows(&scored, 0).unwrap();
     assert_eq!((u.parts().score.len(), u.unknown_score()), (nodes, -50_010.0));
@@ -293,4 +293,34 @@ fn many_threads_share_a_vocabulary() {
             scope.spawn(|| assert_eq!(u.segment(&b"ab".repeat(500)).unwrap(), [1; 500]));
         }
     });
+}
+
+/// The bytes of each id: a token's own, and those of a whole run of unknown pieces.
+#[test]
+fn spans_of_ids() {
+    let rows = [("<unk>", 0.0), ("a", -1.0), ("bc", -1.0), ("xy", -9.0)];
+    let u = Unigram::from_rows(&rows, 0).unwrap();
+    for (text, ids, spans) in [
+        ("", vec![], vec![]),
+        ("abc", vec![1, 2], vec![0..1, 1..3]),
+        ("a??bc", vec![1, 0, 2], vec![0..1, 1..3, 3..5]),
+        ("é?a日", vec![0, 1, 0], vec![0..3, 3..4, 4..7]),
+    ] {
+        let cutting = u.cut(text).unwrap();
+        assert_eq!((cutting.ids, cutting.spans), (ids, spans), "{text}");
+    }
+    for text in ["axybc", "xxyy", "<unk>a<unk>?", "日本bc"] {
+        let cutting = u.cut(text).unwrap();
+        assert_eq!(cutting.ids.len(), cutting.spans.len(), "{text}");
+        assert_eq!(cutting.spans.iter().map(|span| &text[span.clone()]).collect::<String>(), text);
+    }
+}
+
+/// Texts and words are `&str`, `String` or bytes.
+#[test]
+fn texts_of_each_type() {
+    let (u, w) = (unigram(), wordpiece());
+    assert_eq!(u.segment("a").unwrap(), u.segment(b"a").unwrap());
+    assert_eq!(w.encode(String::from("a")).unwrap(), w.encode(b"a".to_vec()).unwrap());
+    assert_eq!(u.exact("a").unwrap(), u.exact(b"a").unwrap());
 }

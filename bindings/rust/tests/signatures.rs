@@ -112,7 +112,7 @@ fn c_type(t: &str) -> &str {
 #[test]
 fn declarations_are_those_of_the_exports() {
     let exported = exported();
-    assert_eq!(exported.len(), 18);
+    assert_eq!(exported.len(), 19);
     assert_eq!(declared_in_rust(), exported);
     assert_eq!(declared_in_c(), exported);
 }

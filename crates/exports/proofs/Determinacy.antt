@@ -25,7 +25,7 @@ use Rattle.pack.specs.Build as packs
 use Rattle.exports.specs.Flat.{codeNumber, EncodedAs, SegmentedAs, fromRowsNumber, FromRowsAs, toldNumber, toldScore, BuiltAs, packNumber, packScore, PackBuiltAs, PrintedAs}
 
 -- A call that is lent nothing to write: `sk_valid_up_to`, `sk_char_len`, `sk_is_boundary`, `sk_characters`, `sk_text`, `sk_text_len`, `sk_sound`,
--- `sk_sound_scored`, `sk_exact`, `sk_exact_unscored`.
+-- `sk_sound_scored`, `sk_exact`, `sk_exact_unscored`, `sk_exact_checked`.
 pub answer-once : {A : Type 0} {a b c : A} → a ≡ c → b ≡ c → a ≡ b
 answer-once p q = p ∙ sym q
 

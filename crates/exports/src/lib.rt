@@ -5,6 +5,7 @@ use refusal::Fault;
 use refusal::Judged;
 use refusal::MAX_TEXT;
 use trie::LookupAnswer;
+use trie::checked::NodeId;
 
 pub mod builds;
 pub mod packs;
@@ -17,8 +18,8 @@ ghost use Rattle.refusal.specs.Refusal.{number};
 ghost use Rattle.text.specs.Text.{lengthOf, validUpTo, boundary, characters};
 ghost use Rattle.text.specs.Span.{spanFault, spanOf, givenFor};
 ghost use Rattle.trie.specs.Trie.{idOf, parts, partsNow};
-ghost use Rattle.trie.specs.Sound.{sound, soundScored};
-ghost use Rattle.trie.specs.Lookup.{lookupFault, lookupAnswer};
+ghost use Rattle.trie.specs.Sound.{sound, soundScored, Sound};
+ghost use Rattle.trie.specs.Lookup.{lookupFault, found, lookupAnswer};
 ghost use Rattle.unigram.specs.Work.{model, modelNow};
 ghost use Rattle.unigram.specs.Checked.{Prepared, Cut, scratchIs, scratchWas};
 ghost use Rattle.wordpiece.specs.Pieces.{idsOf};
@@ -167,6 +168,25 @@ pub extern "C" fn sk_exact_unscored(
         (lookupAnswer (lookupFault (sound t) (was s)) (idOf t (was s)))) ⌝ }
 {
     lookup_number(trie::exact_unscored(edge_at, edge_n, id, byte, to, s))
+}
+
+// The same in parts of either kind, for a caller that has tested them and looks up many texts: the id, or 2^32 for none.
+#[no_mangle]
+pub extern "C" fn sk_exact_checked(
+    edge_at: &[u32],
+    edge_n: &[u16],
+    id: &[u32],
+    byte: &[u8],
+    to: &[u32],
+    s: &[u8],
+) -> u64
+    requires { ⌜ Sound (partsNow «edge_at» «edge_n» id byte to) ⌝ }
+    ensures { λ r. ⌜ r ≡ lookupNumber (found (idOf (parts «edge_at» «edge_n» id byte to) (was s))) ⌝ }
+{
+    match trie::checked::exact(edge_at, edge_n, id, byte, to, s) {
+        NodeId::Is(i) => i as u64,
+        NodeId::Missing => 4_294_967_296,
+    }
 }
 
 // An answer of `encode` or `segment` as one number.
