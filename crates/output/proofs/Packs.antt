@@ -190,18 +190,18 @@ module _ (pack edgeAt edgeN id : List ℕ) (scores : List Float) (byte to : List
     wordpiece-cuttable = cuttable j wordpiece-nodes
 
     -- the strings lie in the file, behind the header
-    pub strings-inside : (36 ≤ length pack) × (headerOf pack .stringsOff ≤ length pack)
+    pub strings-inside : (36 ≤ length pack) × (headerOf pack .«strings_off» ≤ length pack)
     unfolding laidOut
     strings-inside =
         let h = headerOf pack in
         let laid = kind-laid pack (packs.wordpiece-kind pack lentMemory left′ n unknown most off len good (j .built)) in
         let long = leb 36 (length pack) in
-        let rows = eqb (h .rowsOff) 36 in
-        let strings = eqb (h .stringsOff) (36 + 16 * h .rows) in
-        let ends = eqb (h .stringsOff + h .stringsLen) (length pack) in
+        let rows = eqb (h .«rows_off») 36 in
+        let strings = eqb (h .«strings_off») (36 + 16 * h .rows) in
+        let ends = eqb (h .«strings_off» + h .«strings_len») (length pack) in
         let three = first (long && rows && strings) ends laid in (
           leb-true 36 (length pack) (first long rows (first (long && rows) strings three)),
-          omega (arith, eqb-true (h .stringsOff + h .stringsLen) (length pack) (second (long && rows && strings) ends laid)),
+          omega (arith, eqb-true (h .«strings_off» + h .«strings_len») (length pack) (second (long && rows && strings) ends laid)),
         )
 
     -- the prefix that is given back is the pack's
@@ -213,7 +213,7 @@ module _ (pack edgeAt edgeN id : List ℕ) (scores : List Float) (byte to : List
         let text =
         ap wellFormed (packs.wordpiece-prefix pack lentMemory left′ n unknown most off len good (j .built))
         ∙ packs.wordpiece-prefix-text pack lentMemory left′ n unknown most off len good (j .built) in
-        fault-part strings off len (omega (arith, j .small, length-drop (headerOf pack .stringsOff) pack))
+        fault-part strings off len (omega (arith, j .small, length-drop (headerOf pack .«strings_off») pack))
         ∙ part-inside strings off len inside
         ∙ text-fine (spanOf strings off len) text
 

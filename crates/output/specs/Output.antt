@@ -60,7 +60,7 @@ unfoldable pub vocabularyIn : Kind → List ℕ → Vocabulary
 vocabularyIn Unigram bytes = unigramOf (modelOf bytes)
 vocabularyIn WordPiece bytes =
     let h = headerOf bytes in
-    wordpieceOf (trieIn WordPiece (stringsOf bytes) (rowsOf WordPiece bytes)) (h .unknown) (h .maxChars) (prefixOf bytes)
+    wordpieceOf (trieIn WordPiece (stringsOf bytes) (rowsOf WordPiece bytes)) (h .unknown) (h .«max_chars») (prefixOf bytes)
 
 -- "too much input prints only `input refused 1`"; else each line prints as f says
 unfoldable pub linesPrinted : (List ℕ → List ℕ) → List ℕ → List ℕ

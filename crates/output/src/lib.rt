@@ -25,7 +25,7 @@ pub const MAX_OUTPUT: usize = 360_459;
 
 // A pack's prefix: the part of its strings.
 fn prefix_of<'a>(pack: &'a [u8], off: u32, len: u32) -> &'a [u8]
-    requires { ⌜ (36 ≤ length (now pack)) × (headerOf (now pack) .stringsOff ≤ length (now pack)) ⌝ }
+    requires { ⌜ (36 ≤ length (now pack)) × (headerOf (now pack) .«strings_off» ≤ length (now pack)) ⌝ }
     ensures { λ r. ⌜ PrefixGiven (was pack) off len (now r) ⌝ }
 {
     let start = pack::header::word(pack, 12) as usize;

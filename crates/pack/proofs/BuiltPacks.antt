@@ -38,35 +38,18 @@ use Rattle.unigram.specs.Segment.{Lengths, segmentFault, soundModel}
 use Rattle.unigram.proofs.BuiltTries as tries
 use Rattle.wordpiece.specs.Encode.{encodeFault}
 use Rattle.wordpiece.proofs.BuiltTries as words
-use Rattle.pack.specs.declared.header.Header as code-header
+use Rattle.pack.specs.declared.header.Header.{Header}
 use Rattle.pack.specs.declared.PackAnswer.the-variants as answer-is
 use Rattle.pack.specs.Pack.{headerOf, kindOf, rowsOf, stringsOf, prefixOf}
 use Rattle.pack.specs.Build.{nodesOf, contentFault, packJudged, packFault, Report, unigram, wordpiece, told, reportOf, theKind, modelOf, PackBuilt}
-use Rattle.pack.specs.Reading.{headerIs, PackFine}
+use Rattle.pack.specs.Reading.{PackFine}
 use Rattle.pack.proofs.Faults.{judged-wrong, judged-laid, rows-fine, prefix-inside, prefix-text}
 use Rattle.pack.proofs.Scoring.{scores-length, scores-at}
 use Rattle.pack.proofs.Promised.{few-rows}
 
 -- ---- a pack that was built has no fault
 
--- the header, as the code would read it
-unfoldable codeHeader : List ℕ → code-header.Header
-codeHeader bytes =
-    let h = headerOf bytes in
-    record {
-      kind = h .kind;
-      rows = h .rows;
-      «rows_off» = h .rowsOff;
-      «strings_off» = h .stringsOff;
-      «strings_len» = h .stringsLen;
-      unknown = h .unknown;
-      «max_chars» = h .maxChars;
-      «prefix_off» = h .prefixOff;
-      «prefix_len» = h .prefixLen;
-    }
-
-fine-pack : (bytes : List ℕ) {kind : Kind} → kindOf bytes ≡ some kind → contentFault kind bytes ≡ none → PackFine bytes kind (codeHeader bytes)
-unfolding headerIs codeHeader
+fine-pack : (bytes : List ℕ) {kind : Kind} → kindOf bytes ≡ some kind → contentFault kind bytes ≡ none → PackFine bytes kind (headerOf bytes)
 fine-pack bytes laid fine = record { header = refl; laid = laid; fine = fine }
 
 module _ (bytes : List ℕ) (accepted : packJudged bytes ≡ none) where
@@ -95,7 +78,7 @@ pattern-double b = subst (λ (d : Double). T (isDouble d)) (pattern-is-double b)
 module _ (bytes : List ℕ) (good : Bytes bytes) {kind : Kind} (laid : kindOf bytes ≡ some kind) (fine : contentFault kind bytes ≡ none) where
   strings-bytes : Bytes (stringsOf bytes)
   unfolding stringsOf
-  strings-bytes = rest-bytes bytes (headerOf bytes .stringsOff) good
+  strings-bytes = rest-bytes bytes (headerOf bytes .«strings_off») good
 
   few : length (rowsOf kind bytes) ≤ 1_048_576
   few = few-rows (fine-pack bytes laid fine)
@@ -150,9 +133,9 @@ record ToldWordPiece (bytes : List ℕ) (n u c off len : ℕ) : Type 0 where
   kind : theKind bytes ≡ WordPiece
   count : n ≡ nodesOf WordPiece bytes
   unknown : u ≡ headerOf bytes .unknown
-  most : c ≡ headerOf bytes .maxChars
-  start : off ≡ headerOf bytes .prefixOff
-  size : len ≡ headerOf bytes .prefixLen
+  most : c ≡ headerOf bytes .«max_chars»
+  start : off ≡ headerOf bytes .«prefix_off»
+  size : len ≡ headerOf bytes .«prefix_len»
 
 told-wordpiece : (bytes : List ℕ) {n u c off len : ℕ} → wordpiece n u c off len ≡ reportOf (theKind bytes) bytes → ToldWordPiece bytes n u c off len
 unfolding reportOf kindTold
@@ -160,7 +143,7 @@ told-wordpiece bytes {n = n} {u = u} {c = c} {off = off} {len = len} e =
     let k : theKind bytes ≡ WordPiece = sym (ap kindTold e ∙ kind-told (theKind bytes) bytes) in
     let h = headerOf bytes in
     let t : wordpiece n u c off len ≡
-    wordpiece (nodesOf WordPiece bytes) (h .unknown) (h .maxChars) (h .prefixOff) (h .prefixLen) =
+    wordpiece (nodesOf WordPiece bytes) (h .unknown) (h .«max_chars») (h .«prefix_off») (h .«prefix_len») =
     e ∙ ap (λ (x : Kind). reportOf x bytes) k in
     record { kind = k; count = cc; unknown = cc; most = cc; start = cc; size = cc }
 
@@ -265,7 +248,7 @@ module _ (bytes : List ℕ) (m after : Memory) (n unknown most off len : ℕ) (g
   pub wordpiece-unknown : unknown ≡ headerOf bytes .unknown
   wordpiece-unknown = spoke .unknown
 
-  pub wordpiece-most : most ≡ headerOf bytes .maxChars
+  pub wordpiece-most : most ≡ headerOf bytes .«max_chars»
   wordpiece-most = spoke .most
 
   -- the prefix lies in the strings, is short enough, and is text

@@ -31,16 +31,16 @@ module _ (bytes : List ℕ) {kind : Kind} (laid : kindOf bytes ≡ some kind) wh
   right : laidOut bytes (headerOf bytes) ≡ true
   right = kind-laid bytes laid
 
-  pub strings-start : headerOf bytes .stringsOff ≤ length bytes
+  pub strings-start : headerOf bytes .«strings_off» ≤ length bytes
   strings-start = omega (arith, strings-end bytes (headerOf bytes) right)
 
-  pub strings-length : length (stringsOf bytes) ≡ headerOf bytes .stringsLen
+  pub strings-length : length (stringsOf bytes) ≡ headerOf bytes .«strings_len»
   unfolding stringsOf
   strings-length =
-      omega (arith, strings-end bytes (headerOf bytes) right, length-drop (headerOf bytes .stringsOff) bytes)
+      omega (arith, strings-end bytes (headerOf bytes) right, length-drop (headerOf bytes .«strings_off») bytes)
 
 -- the part of the file that is lent as the strings
-pub strings-are : (bytes : List ℕ) (start : ℕ) → start ≡ headerOf bytes .stringsOff → take (length bytes - start) (drop start bytes) ≡ stringsOf bytes
+pub strings-are : (bytes : List ℕ) (start : ℕ) → start ≡ headerOf bytes .«strings_off» → take (length bytes - start) (drop start bytes) ≡ stringsOf bytes
 unfolding stringsOf
 strings-are bytes start e =
     take-all (length bytes - start) (drop start bytes) (omega (arith, length-drop start bytes)) ∙ ap (λ (k : ℕ). drop k bytes) e
@@ -63,7 +63,7 @@ module _ (kind : Kind) (bytes : List ℕ) where
     -- the prefix decides where no row is bad, by its span in a table that is not too large
     pub before-prefix :
         bad ≡ none → length (stringsOf bytes) ≤ maxTable
-        → contentFault kind bytes ≡ called (spanFault (stringsOf bytes) (headerOf bytes .prefixOff) (headerOf bytes .prefixLen))
+        → contentFault kind bytes ≡ called (spanFault (stringsOf bytes) (headerOf bytes .«prefix_off») (headerOf bytes .«prefix_len»))
     unfolding contentFault
     before-prefix fine l = not-found _ _ _ fits ∙ none-first _ fine ∙ sym (ap called (fault-part (stringsOf bytes) _ _ l))
 
@@ -82,12 +82,12 @@ module _ (kind : Kind) (bytes : List ℕ) where
     prefixes : prefixFault bytes ≡ none
     prefixes = called-none (prefixFault bytes) (both-passed bad (called (prefixFault bytes)) (sizes .1) .1)
 
-    pub prefix-inside : headerOf bytes .prefixOff + headerOf bytes .prefixLen ≤ length (stringsOf bytes)
-    prefix-inside = part-lies (stringsOf bytes) (headerOf bytes .prefixOff) (headerOf bytes .prefixLen) prefixes
+    pub prefix-inside : headerOf bytes .«prefix_off» + headerOf bytes .«prefix_len» ≤ length (stringsOf bytes)
+    prefix-inside = part-lies (stringsOf bytes) (headerOf bytes .«prefix_off») (headerOf bytes .«prefix_len») prefixes
 
     pub prefix-text : wellFormed (prefixOf bytes) ≡ true
     unfolding prefixOf
-    prefix-text = part-text (stringsOf bytes) (headerOf bytes .prefixOff) (headerOf bytes .prefixLen) prefixes
+    prefix-text = part-text (stringsOf bytes) (headerOf bytes .«prefix_off») (headerOf bytes .«prefix_len») prefixes
 
 -- no fault before the room has the number 7
 pub content-early : (kind : Kind) (bytes : List ℕ) {r : Reason} → contentFault kind bytes ≡ some r → NotOf 7 r
@@ -96,7 +96,7 @@ content-early kind bytes e =
     let h = headerOf bytes in
     refused-so (NotOf 7) (largeHeader h) (reason.Call fault.Size) _ refl
     (first-so (NotOf 7) (bad kind bytes) _ (bad-not-room kind (stringsOf bytes) 0 (rowsOf kind bytes))
-    (called-so (Not 7) (prefixFault bytes) (λ f. part-not (stringsOf bytes) (h .prefixOff) (h .prefixLen) 7 refl refl)))
+    (called-so (Not 7) (prefixFault bytes) (λ f. part-not (stringsOf bytes) (h .«prefix_off») (h .«prefix_len») 7 refl refl)))
     e
 
 -- ---- what `judge` finds

@@ -15,12 +15,12 @@ use Rattle.rows.specs.Scores.{unknownScore}
 use Rattle.build.specs.Rules.{scoresOf}
 use Rattle.build.specs.Memory.{zeroScores}
 use Rattle.scored.specs.NodeScores.{filledScores}
-use Rattle.pack.specs.declared.header.Header as code-header
+use Rattle.pack.specs.declared.header.Header.{Header}
 use Rattle.pack.specs.declared.PackAnswer.the-variants as answer-is
-use Rattle.pack.specs.Pack.{Header, headerOf, rowsFrom, rowsOf, stringsOf}
+use Rattle.pack.specs.Pack.{headerOf, rowsFrom, rowsOf, stringsOf}
 use Rattle.build.specs.Promise.{built}
 use Rattle.pack.specs.Build.{nodesOf, unigram, wordpiece, told, reportOf}
-use Rattle.pack.specs.Reading.{headerIs, FineRows, FiniteRows, PackFine, ScoresLeft}
+use Rattle.pack.specs.Reading.{FineRows, FiniteRows, PackFine, ScoresLeft}
 use Rattle.pack.proofs.Headers.{rows-inside, kind-laid, few-rows}
 use Rattle.pack.proofs.Resting.{none-bad}
 use Rattle.pack.proofs.Faults.{strings-start, strings-are, not-large, rows-fine}
@@ -36,18 +36,16 @@ unigram-told bytes = refl
 wordpiece-told :
     (bytes : List ℕ)
     → (let h = headerOf bytes in
-    wordpiece (nodesOf WordPiece bytes) (h .unknown) (h .maxChars) (h .prefixOff) (h .prefixLen) ≡ reportOf WordPiece bytes)
+    wordpiece (nodesOf WordPiece bytes) (h .unknown) (h .«max_chars») (h .«prefix_off») (h .«prefix_len») ≡ reportOf WordPiece bytes)
 unfolding reportOf
 wordpiece-told bytes = refl
 
-module _ {bytes : List ℕ} {kind : Kind} {h : code-header.Header} (f : PackFine bytes kind h) where
+module _ {bytes : List ℕ} {kind : Kind} {h : Header} (f : PackFine bytes kind h) where
   pub rows-are : h .rows ≡ headerOf bytes .rows
-  unfolding headerIs
   rows-are = ap (λ (x : Header). x .rows) (f .header)
 
-  start-is : h .«strings_off» ≡ headerOf bytes .stringsOff
-  unfolding headerIs
-  start-is = ap (λ (x : Header). x .stringsOff) (f .header)
+  start-is : h .«strings_off» ≡ headerOf bytes .«strings_off»
+  start-is = ap (λ (x : Header). x .«strings_off») (f .header)
 
   pub start-inside : h .«strings_off» ≤ length bytes
   start-inside = omega (arith, start-is, strings-start bytes (f .laid))
@@ -78,7 +76,7 @@ module _ {bytes : List ℕ} {kind : Kind} {h : code-header.Header} (f : PackFine
   pub told-unigram :
       {n : ℕ} (x : Float) → kind ≡ Unigram → units x ≡ unknownScore (scoresOf (rowsFrom Unigram bytes 36 (h .rows))) → n ≡ nodesOf kind bytes
       → told (answer-is.Unigram n (h .unknown) x) ≡ built (reportOf kind bytes)
-  unfolding told headerIs
+  unfolding told
   told-unigram {n = n} x k e c =
       let u : h .unknown ≡ headerOf bytes .unknown = ap (λ (y : Header). y .unknown) (f .header) in
       let s : units x ≡ unknownScore (scoresOf (rowsOf Unigram bytes)) = e ∙ ap (λ rows. unknownScore (scoresOf rows)) (rows-read Unigram) in
@@ -88,11 +86,11 @@ module _ {bytes : List ℕ} {kind : Kind} {h : code-header.Header} (f : PackFine
   pub told-wordpiece :
       {n : ℕ} → kind ≡ WordPiece → n ≡ nodesOf kind bytes
       → told (answer-is.WordPiece n (h .unknown) (h .«max_chars») (h .«prefix_off») (h .«prefix_len»)) ≡ built (reportOf kind bytes)
-  unfolding told headerIs
+  unfolding told
   told-wordpiece {n = n} k c =
       let count : n ≡ nodesOf WordPiece bytes = c ∙ ap (λ (y : Kind). nodesOf y bytes) k in
       ap built
-      ((λ i. wordpiece (count i) (f .header i .unknown) (f .header i .maxChars) (f .header i .prefixOff) (f .header i .prefixLen))
+      ((λ i. wordpiece (count i) (f .header i .unknown) (f .header i .«max_chars») (f .header i .«prefix_off») (f .header i .«prefix_len»))
       ∙ wordpiece-told bytes ∙ ap (λ (y : Kind). reportOf y bytes) (sym k))
 
   -- ---- the score column

@@ -16,7 +16,8 @@ use Rattle.rows.specs.declared.Kind.{Kind}
 use Rattle.rows.specs.declared.Kind.the-variants.{Unigram, WordPiece}
 use Rattle.rows.specs.Columns.{tooLarge}
 use Rattle.rows.proofs.ListFaults.{within-limits}
-use Rattle.pack.specs.Pack.{Header, word, headerOf, laidOut, kindLaidOut, kindOf}
+use Rattle.pack.specs.declared.header.Header.{Header}
+use Rattle.pack.specs.Pack.{word, headerOf, laidOut, kindLaidOut, kindOf}
 use Rattle.pack.specs.Build.{largeHeader}
 use Rattle.pack.specs.Reading.{rowStart}
 
@@ -24,21 +25,21 @@ use Rattle.pack.specs.Reading.{rowStart}
 
 module _ (bytes : List ℕ) (h : Header) where
   module _ (long : 36 ≤ length bytes) where
-    pub wrong-rows : (h .rowsOff ≡ 36 → ⊥) → false ≡ laidOut bytes h
+    pub wrong-rows : (h .«rows_off» ≡ 36 → ⊥) → false ≡ laidOut bytes h
     unfolding laidOut
-    wrong-rows n = rw (le-leb 36 (length bytes) long, ne-eqb (h .rowsOff) 36 n)
+    wrong-rows n = rw (le-leb 36 (length bytes) long, ne-eqb (h .«rows_off») 36 n)
 
-    module _ (rows : h .rowsOff ≡ 36) where
-      pub wrong-strings : (h .stringsOff ≡ 36 + 16 * h .rows → ⊥) → false ≡ laidOut bytes h
+    module _ (rows : h .«rows_off» ≡ 36) where
+      pub wrong-strings : (h .«strings_off» ≡ 36 + 16 * h .rows → ⊥) → false ≡ laidOut bytes h
       unfolding laidOut
-      wrong-strings n = rw (le-leb 36 (length bytes) long, eq-eqb (h .rowsOff) 36 rows, ne-eqb (h .stringsOff) (36 + 16 * h .rows) n)
+      wrong-strings n = rw (le-leb 36 (length bytes) long, eq-eqb (h .«rows_off») 36 rows, ne-eqb (h .«strings_off») (36 + 16 * h .rows) n)
 
       pub right-end :
-          h .stringsOff ≡ 36 + 16 * h .rows → eqb (36 + 16 * h .rows + h .stringsLen) (length bytes) ≡ laidOut bytes h
+          h .«strings_off» ≡ 36 + 16 * h .rows → eqb (36 + 16 * h .rows + h .«strings_len») (length bytes) ≡ laidOut bytes h
       unfolding laidOut
       right-end e =
-          rw (le-leb 36 (length bytes) long, eq-eqb (h .rowsOff) 36 rows, eq-eqb (h .stringsOff) (36 + 16 * h .rows) e)
-          (ap (λ (s : ℕ). eqb (s + h .stringsLen) (length bytes)) (sym e))
+          rw (le-leb 36 (length bytes) long, eq-eqb (h .«rows_off») 36 rows, eq-eqb (h .«strings_off») (36 + 16 * h .rows) e)
+          (ap (λ (s : ℕ). eqb (s + h .«strings_len») (length bytes)) (sym e))
 
   pub too-short : length bytes < 36 → laidOut bytes h ≡ false
   unfolding laidOut
@@ -50,30 +51,30 @@ module _ (bytes : List ℕ) (h : Header) where
     long = leb 36 (length bytes)
 
     abbrev rows : Bool
-    rows = eqb (h .rowsOff) 36
+    rows = eqb (h .«rows_off») 36
 
     abbrev strings : Bool
-    strings = eqb (h .stringsOff) (36 + 16 * h .rows)
+    strings = eqb (h .«strings_off») (36 + 16 * h .rows)
 
     abbrev ends : Bool
-    ends = eqb (h .stringsOff + h .stringsLen) (length bytes)
+    ends = eqb (h .«strings_off» + h .«strings_len») (length bytes)
 
     all : (long && rows && strings && ends) ≡ true
     unfolding laidOut
     all = laid
 
-    pub strings-follow : h .stringsOff ≡ 36 + 16 * h .rows
-    strings-follow = eqb-true (h .stringsOff) (36 + 16 * h .rows) (tests.second (long && rows) strings (tests.first (long && rows && strings) ends all))
+    pub strings-follow : h .«strings_off» ≡ 36 + 16 * h .rows
+    strings-follow = eqb-true (h .«strings_off») (36 + 16 * h .rows) (tests.second (long && rows) strings (tests.first (long && rows && strings) ends all))
 
-    pub strings-end : h .stringsOff + h .stringsLen ≡ length bytes
-    strings-end = eqb-true (h .stringsOff + h .stringsLen) (length bytes) (tests.second (long && rows && strings) ends all)
+    pub strings-end : h .«strings_off» + h .«strings_len» ≡ length bytes
+    strings-end = eqb-true (h .«strings_off» + h .«strings_len») (length bytes) (tests.second (long && rows && strings) ends all)
 
     pub rows-inside : rowStart (h .rows) ≤ length bytes
     rows-inside = omega (arith, strings-follow, strings-end)
 
   -- ---- the kind
 
-  pub kind-bare : {b : Bool} → b ≡ (eqb (h .maxChars) 0 && eqb (h .prefixOff) 0 && eqb (h .prefixLen) 0) → h .kind ≡ 1 → cond b (some Unigram) none ≡ kindLaidOut bytes h
+  pub kind-bare : {b : Bool} → b ≡ (eqb (h .«max_chars») 0 && eqb (h .«prefix_off») 0 && eqb (h .«prefix_len») 0) → h .kind ≡ 1 → cond b (some Unigram) none ≡ kindLaidOut bytes h
   unfolding kindLaidOut
   kind-bare e k = rw (eq-eqb (h .kind) 1 k) (ap (λ (b : Bool). cond b (some Unigram) none) e)
 
@@ -110,21 +111,21 @@ module _ (bytes : List ℕ) where
 
 module _ (h : Header) where
   abbrev sizes : Bool
-  sizes = tooLarge (h .rows) (h .stringsLen)
+  sizes = tooLarge (h .rows) (h .«strings_len»)
 
   pub by-sizes : sizes ≡ true → true ≡ largeHeader h
-  by-sizes e = sym (or-left sizes (above maxPrefix (h .prefixLen)) e)
+  by-sizes e = sym (or-left sizes (above maxPrefix (h .«prefix_len»)) e)
 
-  pub by-prefix : sizes ≡ false → above maxPrefix (h .prefixLen) ≡ largeHeader h
-  by-prefix e = sym (ap (λ (b : Bool). b || above maxPrefix (h .prefixLen)) e)
+  pub by-prefix : sizes ≡ false → above maxPrefix (h .«prefix_len») ≡ largeHeader h
+  by-prefix e = sym (ap (λ (b : Bool). b || above maxPrefix (h .«prefix_len»)) e)
 
   -- what is known where none is
   module _ (fits : largeHeader h ≡ false) where
-    tested : (sizes ≡ false) × (above maxPrefix (h .prefixLen) ≡ false)
-    tested = neither-says sizes (above maxPrefix (h .prefixLen)) fits
+    tested : (sizes ≡ false) × (above maxPrefix (h .«prefix_len») ≡ false)
+    tested = neither-says sizes (above maxPrefix (h .«prefix_len»)) fits
 
     pub few-rows : h .rows ≤ maxRows
-    few-rows = within-limits (h .rows) (h .stringsLen) (tested .0) .0
+    few-rows = within-limits (h .rows) (h .«strings_len») (tested .0) .0
 
-    pub small-table : h .stringsLen ≤ maxTable
-    small-table = within-limits (h .rows) (h .stringsLen) (tested .0) .1
+    pub small-table : h .«strings_len» ≤ maxTable
+    small-table = within-limits (h .rows) (h .«strings_len») (tested .0) .1

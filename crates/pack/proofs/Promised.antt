@@ -27,7 +27,7 @@ use Rattle.build.proofs.Rooms.{scored-room-for, scores-roomy, scored-decides, n
 use Rattle.build.proofs.Outcomes.{core-fits, core-room}
 use Rattle.build.proofs.Promises.{built-bad, core-short, core-left, core-held}
 use Rattle.scored.proofs.Builds.{scores-filled}
-use Rattle.pack.specs.declared.header.Header as code-header
+use Rattle.pack.specs.declared.header.Header.{Header}
 use Rattle.pack.specs.declared.PackAnswer.the-variants as answer-is
 use Rattle.pack.specs.Pack.{rowsFrom, rowsOf, stringsOf}
 use Rattle.pack.specs.Build.{nodesOf, packJudged, Report, told, reportOf, theKind, PackBuilt}
@@ -44,7 +44,7 @@ pack-bad {bytes = bytes} m b =
 
 -- ---- a fine pack
 
-module _ {bytes : List ℕ} {kind : Kind} {h : code-header.Header} (f : PackFine bytes kind h) where
+module _ {bytes : List ℕ} {kind : Kind} {h : Header} (f : PackFine bytes kind h) where
   abbrev strings : List ℕ
   strings = stringsOf bytes
 

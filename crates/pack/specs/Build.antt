@@ -24,7 +24,8 @@ use Rattle.build.specs.Promise.{trieIn, scoresIn, buildFault, Told, built, refu
 use Rattle.unigram.specs.Pieces.{Model}
 use Rattle.pack.specs.declared.PackAnswer.{PackAnswer}
 use Rattle.pack.specs.declared.PackAnswer.the-variants as answer-is
-use Rattle.pack.specs.Pack.{Header, headerOf, kindOf, rowsOf, stringsOf}
+use Rattle.pack.specs.declared.header.Header.{Header}
+use Rattle.pack.specs.Pack.{headerOf, kindOf, rowsOf, stringsOf}
 
 -- how many nodes the pack's trie has
 abbrev pub nodesOf : Kind → List ℕ → ℕ
@@ -32,11 +33,11 @@ nodesOf kind bytes = builds.nodesOf (stringsOf bytes) (rowsOf kind bytes)
 
 -- "1 (prefix length too)"
 abbrev pub largeHeader : Header → Bool
-largeHeader h = tooLarge (h .rows) (h .stringsLen) || above maxPrefix (h .prefixLen)
+largeHeader h = tooLarge (h .rows) (h .«strings_len») || above maxPrefix (h .«prefix_len»)
 
 -- "2 for a prefix outside the strings, 4 for the prefix"
 abbrev pub prefixFault : List ℕ → Option Fault
-prefixFault bytes = partFault (stringsOf bytes) (headerOf bytes .prefixOff) (headerOf bytes .prefixLen)
+prefixFault bytes = partFault (stringsOf bytes) (headerOf bytes .«prefix_off») (headerOf bytes .«prefix_len»)
 
 -- "1, rows," and then the prefix
 unfoldable pub contentFault : Kind → List ℕ → Option Reason
@@ -63,7 +64,7 @@ unfoldable pub reportOf : Kind → List ℕ → Report
 reportOf Unigram bytes = unigram (nodesOf Unigram bytes) (headerOf bytes .unknown) (unknownScore (scoresOf (rowsOf Unigram bytes)))
 reportOf WordPiece bytes =
     let h = headerOf bytes in
-    wordpiece (nodesOf WordPiece bytes) (h .unknown) (h .maxChars) (h .prefixOff) (h .prefixLen)
+    wordpiece (nodesOf WordPiece bytes) (h .unknown) (h .«max_chars») (h .«prefix_off») (h .«prefix_len»)
 
 -- the kind of a pack that is not refused
 unfoldable pub theKind : List ℕ → Kind

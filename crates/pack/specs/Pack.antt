@@ -11,6 +11,7 @@ use Rattle.trie.specs.Sound.{every}
 use Rattle.rows.specs.declared.Kind.{Kind}
 use Rattle.rows.specs.declared.Kind.the-variants.{Unigram, WordPiece}
 use Rattle.rows.specs.Rows.{Row, Worth, score, id}
+use Rattle.pack.specs.declared.header.Header.{Header}
 
 -- "Little-endian u32": the word at byte `at`
 unfoldable pub word : List ℕ → ℕ → ℕ
@@ -18,40 +19,29 @@ word bytes at = getD bytes at 0 + 2 ^ 8 * getD bytes (at + 1) 0 + 2 ^ 16 * getD 
 
 -- "header, 36 bytes: kind (1 Unigram, 2 WordPiece), rows, rows offset, strings offset, strings length, unknown id, max_chars, prefix offset,
 -- prefix length"
-pub record Header : Type 0 where
-  pub kind : ℕ
-  pub rows : ℕ
-  pub rowsOff : ℕ
-  pub stringsOff : ℕ
-  pub stringsLen : ℕ
-  pub unknown : ℕ
-  pub maxChars : ℕ
-  pub prefixOff : ℕ
-  pub prefixLen : ℕ
-
 unfoldable pub headerOf : List ℕ → Header
 headerOf bytes =
     record {
       kind = word bytes 0;
       rows = word bytes 4;
-      rowsOff = word bytes 8;
-      stringsOff = word bytes 12;
-      stringsLen = word bytes 16;
+      «rows_off» = word bytes 8;
+      «strings_off» = word bytes 12;
+      «strings_len» = word bytes 16;
       unknown = word bytes 20;
-      maxChars = word bytes 24;
-      prefixOff = word bytes 28;
-      prefixLen = word bytes 32;
+      «max_chars» = word bytes 24;
+      «prefix_off» = word bytes 28;
+      «prefix_len» = word bytes 32;
     }
 
 -- "Rows offset is 36, strings offset 36 + 16 x rows, and the file ends with the strings."
 unfoldable pub laidOut : List ℕ → Header → Bool
 laidOut bytes h =
-    leb 36 (length bytes) && eqb (h .rowsOff) 36 && eqb (h .stringsOff) (36 + 16 * h .rows) && eqb (h .stringsOff + h .stringsLen) (length bytes)
+    leb 36 (length bytes) && eqb (h .«rows_off») 36 && eqb (h .«strings_off») (36 + 16 * h .rows) && eqb (h .«strings_off» + h .«strings_len») (length bytes)
 
 -- "For kind 1 the last three are 0." "a row is 16 bytes: .. an id (u32, then four zero bytes)".
 unfoldable pub kindLaidOut : List ℕ → Header → Option Kind
 kindLaidOut bytes h =
-    let unigram = cond (eqb (h .maxChars) 0 && eqb (h .prefixOff) 0 && eqb (h .prefixLen) 0) (some Unigram) none in
+    let unigram = cond (eqb (h .«max_chars») 0 && eqb (h .«prefix_off») 0 && eqb (h .«prefix_len») 0) (some Unigram) none in
     let wordpiece = cond (every (h .rows) (λ i. eqb (word bytes (36 + 16 * i + 12)) 0)) (some WordPiece) none in
     let other = cond (eqb (h .kind) 2) wordpiece none in
     cond (eqb (h .kind) 1) unigram other
@@ -80,7 +70,7 @@ unfoldable pub rowsOf : Kind → List ℕ → List Row
 rowsOf kind bytes = rowsFrom kind bytes 36 (headerOf bytes .rows)
 
 unfoldable pub stringsOf : List ℕ → List ℕ
-stringsOf bytes = drop (headerOf bytes .stringsOff) bytes
+stringsOf bytes = drop (headerOf bytes .«strings_off») bytes
 
 unfoldable pub prefixOf : List ℕ → List ℕ
-prefixOf bytes = spanOf (stringsOf bytes) (headerOf bytes .prefixOff) (headerOf bytes .prefixLen)
+prefixOf bytes = spanOf (stringsOf bytes) (headerOf bytes .«prefix_off») (headerOf bytes .«prefix_len»)

@@ -17,28 +17,13 @@ use Rattle.build.specs.Held.{Enterable}
 use Rattle.build.specs.Memory.{zeroScores}
 use Rattle.build.specs.Rules.{scoresOf}
 use Rattle.scored.specs.NodeScores.{filledScores}
-use Rattle.pack.specs.declared.header.Header as code-header
+use Rattle.pack.specs.declared.header.Header.{Header}
 use Rattle.pack.specs.declared.header.Layout.{Layout}
 use Rattle.pack.specs.declared.header.Layout.the-variants.{Of, Wrong}
 use Rattle.pack.specs.declared.judge.Found.{Found}
 use Rattle.pack.specs.declared.judge.Found.the-variants.{Refused, Fine}
-use Rattle.pack.specs.Pack.{Header, headerOf, kindOf, word, rowAt, rowsOf}
+use Rattle.pack.specs.Pack.{headerOf, kindOf, word, rowAt, rowsOf}
 use Rattle.pack.specs.Build.{contentFault, packJudged}
-
--- the code's header
-unfoldable pub headerIs : code-header.Header → Header
-headerIs h =
-    record {
-      kind = h .kind;
-      rows = h .rows;
-      rowsOff = h .«rows_off»;
-      stringsOff = h .«strings_off»;
-      stringsLen = h .«strings_len»;
-      unknown = h .unknown;
-      maxChars = h .«max_chars»;
-      prefixOff = h .«prefix_off»;
-      prefixLen = h .«prefix_len»;
-    }
 
 -- the kind that a layout names
 abbrev pub kindIn : Layout → Option Kind
@@ -104,8 +89,8 @@ pub record PackBad (bytes : List ℕ) (r : Reason) : Type 0 where
   pub other : eqb (numberOf r) 7 ≡ false
 
 -- nothing is wrong with the pack: only the room may be too little
-pub record PackFine (bytes : List ℕ) (kind : Kind) (h : code-header.Header) : Type 0 where
-  pub header : headerIs h ≡ headerOf bytes
+pub record PackFine (bytes : List ℕ) (kind : Kind) (h : Header) : Type 0 where
+  pub header : h ≡ headerOf bytes
   pub laid : kindOf bytes ≡ some kind
   pub fine : contentFault kind bytes ≡ none
 

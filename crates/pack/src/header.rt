@@ -7,7 +7,7 @@ ghost use lib.Dec.{eqb};
 ghost use lib.ListN.{length};
 ghost use Rattle.trie.specs.Sound.{every};
 ghost use Rattle.pack.specs.Pack.{word, headerOf, laidOut, kindLaidOut, kindOf};
-ghost use Rattle.pack.specs.Reading.{headerIs, kindIn, rowStart};
+ghost use Rattle.pack.specs.Reading.{kindIn, rowStart};
 ghost use Rattle.refusal.specs.Lent.{was};
 
 // The header's length and a row's, in bytes.
@@ -47,7 +47,7 @@ pub fn word(bytes: &[u8], at: usize) -> u32
 // The header of a file that is long enough for one.
 pub(crate) fn read_header(bytes: &[u8]) -> Header
     requires { ⌜ 36 ≤ length (now bytes) ⌝ }
-    ensures { λ r. ⌜ headerIs r ≡ headerOf (was bytes) ⌝ }
+    ensures { λ r. ⌜ r ≡ headerOf (was bytes) ⌝ }
 {
     Header {
         kind: word(bytes, 0),
@@ -65,7 +65,7 @@ pub(crate) fn read_header(bytes: &[u8]) -> Header
 // Whether the rows follow the header, the strings follow the rows, and the file ends with the strings. The sums are wider than the words.
 fn is_laid_out(bytes: &[u8], h: Header) -> bool
     requires { ⌜ 36 ≤ length (now bytes) ⌝ }
-    ensures { λ r. ⌜ r ≡ laidOut (was bytes) (headerIs h) ⌝ }
+    ensures { λ r. ⌜ r ≡ laidOut (was bytes) (h) ⌝ }
 {
     let strings = HEADER + ROW * (h.rows as usize);
     if h.rows_off != 36 {
@@ -80,7 +80,7 @@ fn is_laid_out(bytes: &[u8], h: Header) -> bool
 // "For kind 1 the last three are 0."
 fn is_bare(h: Header) -> bool
     ensures { λ r.
-        ⌜ r ≡ (eqb (headerIs h .maxChars) 0 && eqb (headerIs h .prefixOff) 0 && eqb (headerIs h .prefixLen) 0) ⌝ }
+        ⌜ r ≡ (eqb (h .«max_chars») 0 && eqb (h .«prefix_off») 0 && eqb (h .«prefix_len») 0) ⌝ }
 {
     if h.max_chars != 0 {
         return false;
@@ -109,7 +109,7 @@ fn is_padded(bytes: &[u8], rows: usize) -> bool
 // The kind of a file whose parts stand where they should.
 fn kind_laid_out(bytes: &[u8], h: Header) -> Layout
     requires { ⌜ rowStart (h .rows) ≤ length (now bytes) ⌝ }
-    ensures { λ r. ⌜ kindIn r ≡ kindLaidOut (was bytes) (headerIs h) ⌝ }
+    ensures { λ r. ⌜ kindIn r ≡ kindLaidOut (was bytes) (h) ⌝ }
 {
     if h.kind == 1 {
         if is_bare(h) {
@@ -128,7 +128,7 @@ fn kind_laid_out(bytes: &[u8], h: Header) -> Layout
 
 // The kind of a file with this header.
 pub(crate) fn layout_of(bytes: &[u8], h: Header) -> Layout
-    requires { ⌜ (36 ≤ length (now bytes)) × (headerIs h ≡ headerOf (now bytes)) ⌝ }
+    requires { ⌜ (36 ≤ length (now bytes)) × (h ≡ headerOf (now bytes)) ⌝ }
     ensures { λ r. ⌜ kindIn r ≡ kindOf (was bytes) ⌝ }
 {
     if !is_laid_out(bytes, h) {

@@ -12,7 +12,7 @@ ghost use mathlib.Core.Option.{some};
 ghost use Rattle.rows.specs.Answers.{reasonIn};
 ghost use Rattle.pack.specs.Pack.{headerOf, kindOf};
 ghost use Rattle.pack.specs.Build.{largeHeader, contentFault};
-ghost use Rattle.pack.specs.Reading.{headerIs, FoundIs};
+ghost use Rattle.pack.specs.Reading.{FoundIs};
 ghost use Rattle.refusal.specs.Lent.{was};
 
 // What is found of a pack: why it is refused, or its kind and header.
@@ -23,7 +23,7 @@ pub enum Found {
 
 // Whether a number of the header is above its limit.
 fn is_large(h: Header) -> bool
-    ensures { λ r. ⌜ r ≡ largeHeader (headerIs h) ⌝ }
+    ensures { λ r. ⌜ r ≡ largeHeader (h) ⌝ }
 {
     if rows::columns::is_large(h.rows as usize, h.strings_len as usize) {
         return true;
@@ -33,7 +33,7 @@ fn is_large(h: Header) -> bool
 
 // The sizes, the rows, and then the prefix's span and text.
 fn judge_rows(kind: Kind, bytes: &[u8], h: Header) -> RowsAnswer
-    requires { ⌜ (headerIs h ≡ headerOf (now bytes)) × (kindOf (now bytes) ≡ some kind) ⌝ }
+    requires { ⌜ (h ≡ headerOf (now bytes)) × (kindOf (now bytes) ≡ some kind) ⌝ }
     ensures { λ r. ⌜ reasonIn r ≡ contentFault kind (was bytes) ⌝ }
 {
     if is_large(h) {

@@ -12,7 +12,7 @@ use Rattle.output.proofs.prefix_of.Statement.{statement}
 use Rattle.output.proofs.prefix_of.Tie as tie
 
 -- where the strings begin
-start-is : (c : tie.After-word) → c .word .result ≡ headerOf (c .before .before .args .pack .now) .stringsOff
+start-is : (c : tie.After-word) → c .word .result ≡ headerOf (c .before .before .args .pack .now) .«strings_off»
 unfolding headerOf
 start-is c = c .word .ensures
 
@@ -20,7 +20,7 @@ inside : (c : tie.After-word) → c .word .result ≤ length (c .before .before 
 inside c = omega (arith, start-is c, c .before .before .pre .1)
 
 -- the part from there on
-strings-are : (bytes : List ℕ) (at : ℕ) → at ≡ headerOf bytes .stringsOff → take (length bytes - at) (drop at bytes) ≡ stringsOf bytes
+strings-are : (bytes : List ℕ) (at : ℕ) → at ≡ headerOf bytes .«strings_off» → take (length bytes - at) (drop at bytes) ≡ stringsOf bytes
 unfolding stringsOf
 strings-are bytes at e =
     take-all (length bytes - at) (drop at bytes) (omega (arith, length-drop at bytes)) ∙ ap (λ (n : ℕ). drop n bytes) e

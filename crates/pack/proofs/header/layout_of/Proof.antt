@@ -3,7 +3,6 @@ use mathlib.Core.Path.{_≡_, sym, ap, _∙_}
 use borrow.Author.Needs.{needs}
 use borrow.Author.Tests.{not-true, not-false}
 use Rattle.pack.specs.Pack.{headerOf, laidOut, kindLaidOut}
-use Rattle.pack.specs.Reading.{headerIs}
 use Rattle.pack.proofs.Headers.{rows-inside, kind-wrong, kind-right}
 use Rattle.pack.proofs.header.layout_of.Statement.{statement}
 use Rattle.pack.proofs.header.layout_of.Tie as tie
@@ -21,11 +20,10 @@ returns c =
     sym (kind-wrong (entry l .args .bytes .now) (sym (tested l) ∙ not-true _ (c .if1 .taken)))
 
 kind-laid-out-requires : tie.Need-kind-laid-out-requires
-unfolding headerIs
 kind-laid-out-requires c κs =
     let l = c .before in
     let s = entry l in
-    rows-inside (s .args .bytes .now) (headerIs (s .args .h)) (sym (l .is-laid-out .ensures) ∙ not-false _ (c .if1 .left))
+    rows-inside (s .args .bytes .now) (s .args .h) (sym (l .is-laid-out .ensures) ∙ not-false _ (c .if1 .left))
 
 returns-2 : tie.Need-returns-2
 returns-2 c =

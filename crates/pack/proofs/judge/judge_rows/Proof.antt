@@ -14,9 +14,9 @@ use Rattle.text.specs.Span.{TextAnswered}
 use Rattle.text.proofs.Spans.{refused-exactly, accepted-exactly}
 use Rattle.rows.specs.Rows.{firstBad}
 use Rattle.rows.specs.Answers.{reasonIn}
-use Rattle.pack.specs.Pack.{Header, headerOf, rowsFrom, rowsOf, stringsOf}
+use Rattle.pack.specs.declared.header.Header.{Header}
+use Rattle.pack.specs.Pack.{headerOf, rowsFrom, rowsOf, stringsOf}
 use Rattle.pack.specs.Build.{largeHeader}
-use Rattle.pack.specs.Reading.{headerIs}
 use Rattle.pack.proofs.Headers.{rows-inside, kind-laid, few-rows, small-table}
 use Rattle.pack.proofs.Faults.{strings-start, strings-length, strings-are, before-large, before-rows, before-prefix}
 use Rattle.pack.proofs.judge.judge_rows.Statement.{statement}
@@ -40,9 +40,8 @@ sized c = c .is-large .ensures ∙ ap largeHeader (entry c .pre .0)
 not-large : (c : tie.Else1) → largeHeader (headerOf (entry (c .before) .args .bytes .now)) ≡ false
 not-large c = sym (sized (c .before)) ∙ c .if1 .left
 
-start-is : (s : tie.Start) → s .args .h .«strings_off» ≡ headerOf (s .args .bytes .now) .stringsOff
-unfolding headerIs
-start-is s = ap (λ (h : Header). h .stringsOff) (s .pre .0)
+start-is : (s : tie.Start) → s .args .h .«strings_off» ≡ headerOf (s .args .bytes .now) .«strings_off»
+start-is s = ap (λ (h : Header). h .«strings_off») (s .pre .0)
 
 start-inside : (s : tie.Start) → s .args .h .«strings_off» ≤ length (s .args .bytes .now)
 start-inside s = omega (arith, start-is s, strings-start (s .args .bytes .now) (s .pre .1))
@@ -52,7 +51,7 @@ rows-are :
     (c : tie.After-first-bad)
     → (let s = entry (fits c .before) in
     reasonIn (c .first-bad .result) ≡ firstBad (s .args .kind) (stringsOf (s .args .bytes .now)) 0 (rowsOf (s .args .kind) (s .args .bytes .now)))
-unfolding rowsOf headerIs
+unfolding rowsOf
 rows-are c =
     let s = entry (fits c .before) in
     let kind = s .args .kind in
@@ -66,12 +65,11 @@ prefix-is :
     (c : tie.After-text-answer)
     → (let s = entry (fits (judged c) .before) in
     let h = headerOf (s .args .bytes .now) in
-    TextAnswered (stringsOf (s .args .bytes .now)) (h .prefixOff) (h .prefixLen) (c .text-answer .result))
-unfolding headerIs
+    TextAnswered (stringsOf (s .args .bytes .now)) (h .«prefix_off») (h .«prefix_len») (c .text-answer .result))
 prefix-is c =
     let s = entry (fits (judged c) .before) in
     let bytes = s .args .bytes .now in
-    subst (λ (h : Header). TextAnswered (stringsOf bytes) (h .prefixOff) (h .prefixLen) (c .text-answer .result)) (s .pre .0)
+    subst (λ (h : Header). TextAnswered (stringsOf bytes) (h .«prefix_off») (h .«prefix_len») (c .text-answer .result)) (s .pre .0)
     (subst (λ (tab : List ℕ). TextAnswered tab (s .args .h .«prefix_off») (s .args .h .«prefix_len») (c .text-answer .result))
     (strings-are bytes (s .args .h .«strings_off») (start-is s)) (c .text-answer .ensures))
 
@@ -95,7 +93,6 @@ returns c =
     sym (before-large (s .args .kind) (s .args .bytes .now) (sym (sized l) ∙ c .if1 .taken))
 
 first-bad-requires : tie.Need-first-bad-requires
-unfolding headerIs
 first-bad-requires c κs =
     let e = c .before .before .before in
     let s = entry (e .before) in
