@@ -13,7 +13,7 @@ use Rattle.refusal.specs.declared.Reason.{Reason}
 use Rattle.refusal.specs.declared.Reason.the-variants as reason
 use Rattle.refusal.specs.Sizes.{maxTable}
 use Rattle.refusal.specs.Refusal.{first, called}
-use Rattle.refusal.proofs.Tests.{found, not-found, found-first, none-first, passed, both-passed, called-none, Not, NotOf, refused-so, first-so, called-so}
+use Rattle.refusal.proofs.Tests.{found, not-found, found-first, none-first, passed, both-passed, called-none, Not, NotOf, some-so, refused-so, first-so, called-so}
 use Rattle.text.specs.Text.{wellFormed}
 use Rattle.text.specs.Span.{spanFault}
 use Rattle.text.proofs.Spans.{fault-part, part-lies, part-text, part-not}
@@ -22,7 +22,6 @@ use Rattle.rows.specs.Rows.{firstBad}
 use Rattle.rows.proofs.NeverRoom.{bad-not-room}
 use Rattle.pack.specs.Pack.{headerOf, kindOf, laidOut, rowsOf, stringsOf, prefixOf}
 use Rattle.pack.specs.Build.{largeHeader, prefixFault, contentFault, packJudged}
-use Rattle.pack.specs.Reading.{PackBad}
 use Rattle.pack.proofs.Headers.{strings-end, kind-laid}
 
 -- ---- the strings
@@ -110,8 +109,10 @@ module _ (bytes : List ℕ) where
   unfolding packJudged
   judged-laid e = rw (e, packJudged)
 
-  pub bad-layout : kindOf bytes ≡ none → PackBad bytes (reason.Call fault.Pack)
-  bad-layout e = record { fault = judged-wrong e; other = refl }
-
-  pub bad-before : {kind : Kind} {r : Reason} → kindOf bytes ≡ some kind → contentFault kind bytes ≡ some r → PackBad bytes r
-  bad-before {kind = kind} laid e = record { fault = judged-laid laid ∙ e; other = content-early kind bytes e }
+  -- and none of this has the number 7
+  pub judged-early : {r : Reason} → packJudged bytes ≡ some r → NotOf 7 r
+  judged-early {r = r} found = go (kindOf bytes) refl
+    where
+      go : (o : Option Kind) → kindOf bytes ≡ o → NotOf 7 r
+      go none e = some-so (NotOf 7) (sym (judged-wrong e) ∙ found) refl
+      go (some kind) e = content-early kind bytes (sym (judged-laid e) ∙ found)

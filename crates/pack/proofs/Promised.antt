@@ -31,16 +31,16 @@ use Rattle.pack.specs.declared.header.Header.{Header}
 use Rattle.pack.specs.declared.PackAnswer.the-variants as answer-is
 use Rattle.pack.specs.Pack.{rowsFrom, rowsOf, stringsOf}
 use Rattle.pack.specs.Build.{nodesOf, packJudged, Report, told, reportOf, theKind, PackBuilt}
-use Rattle.pack.specs.Reading.{FineRows, PackBad, PackFine, ScoresLeft}
+use Rattle.pack.specs.Reading.{FineRows, PackFine, ScoresLeft}
 use Rattle.pack.proofs.Resting.{from-length}
-use Rattle.pack.proofs.Faults.{judged-laid, rows-fine}
+use Rattle.pack.proofs.Faults.{judged-laid, judged-early, rows-fine}
 use Rattle.pack.proofs.FinePacks.{lent-strings, fine-rows, rows-read}
 
 -- a pack that is refused before the room
-pub pack-bad : {bytes : List ℕ} {r : Reason} (m : Memory) → PackBad bytes r → PackBuilt bytes m (answer-is.Refused r) m
+pub pack-bad : (bytes : List ℕ) {r : Reason} (m : Memory) → packJudged bytes ≡ some r → PackBuilt bytes m (answer-is.Refused r) m
 unfolding told
-pack-bad {bytes = bytes} m b =
-    let kind = theKind bytes in built-bad kind (stringsOf bytes) (rowsOf kind bytes) (reportOf kind bytes) m (b .fault) (b .other)
+pack-bad bytes m b =
+    let kind = theKind bytes in built-bad kind (stringsOf bytes) (rowsOf kind bytes) (reportOf kind bytes) m b (judged-early bytes b)
 
 -- ---- a fine pack
 

@@ -83,19 +83,15 @@ pub record RowReady (kind : Kind) (bytes strings edgeN id work : List ℕ) (room
 
 -- ---- what is found
 
--- r is found before the room is looked at, and is not 7
-pub record PackBad (bytes : List ℕ) (r : Reason) : Type 0 where
-  pub fault : packJudged bytes ≡ some r
-  pub other : eqb (numberOf r) 7 ≡ false
-
 -- nothing is wrong with the pack: only the room may be too little
 pub record PackFine (bytes : List ℕ) (kind : Kind) (h : Header) : Type 0 where
   pub header : h ≡ headerOf bytes
   pub laid : kindOf bytes ≡ some kind
   pub fine : contentFault kind bytes ≡ none
 
+-- what was found before the room is looked at
 abbrev pub FoundIs : List ℕ → Found → Type 0
-FoundIs bytes (Refused r) = PackBad bytes r
+FoundIs bytes (Refused r) = packJudged bytes ≡ some r
 FoundIs bytes (Fine kind h) = PackFine bytes kind h
 
 -- ---- the score column

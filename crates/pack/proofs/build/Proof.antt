@@ -43,7 +43,8 @@ returns c =
     let b = c .before in
     let j = b .before .before in
     let s = entry j in
-    pack-bad (lent s) (subst (FoundIs (s .args .bytes .now)) (b .found .given .1) (j .judge .ensures))
+    let bytes = s .args .bytes .now in
+    pack-bad bytes (lent s) (subst (FoundIs bytes) (b .found .given .1) (j .judge .ensures))
 
 pub build-spec : {M : Type 1} → statement M
 build-spec =

@@ -6,7 +6,7 @@ use Rattle.rows.specs.Answers.{reasonIn}
 use Rattle.pack.specs.Pack.{headerOf, kindOf}
 use Rattle.pack.specs.Reading.{kindIn}
 use Rattle.pack.proofs.Headers.{too-short, kind-wrong}
-use Rattle.pack.proofs.Faults.{bad-layout, bad-before}
+use Rattle.pack.proofs.Faults.{judged-wrong, judged-laid}
 use Rattle.pack.proofs.judge.judge.Statement.{statement}
 use Rattle.pack.proofs.judge.judge.Tie as tie
 
@@ -25,12 +25,12 @@ known c = sym (laid c .layout-of .ensures) ∙ ap kindIn (c .before .before .kin
 returns : tie.Need-returns
 returns c =
     let bytes = c .before .before .args .bytes .now in
-    bad-layout bytes (kind-wrong bytes (too-short bytes (headerOf bytes) (c .if1 .taken)))
+    judged-wrong bytes (kind-wrong bytes (too-short bytes (headerOf bytes) (c .if1 .taken)))
 
 returns-2 : tie.Need-returns-2
 returns-2 c =
     let l = c .before .before in
-    bad-layout (entry l .args .bytes .now) (sym (l .layout-of .ensures) ∙ ap kindIn (c .enum-told .given .1))
+    judged-wrong (entry l .args .bytes .now) (sym (l .layout-of .ensures) ∙ ap kindIn (c .enum-told .given .1))
 
 judge-rows-requires : tie.Need-judge-rows-requires
 judge-rows-requires c κs =
@@ -42,7 +42,7 @@ returns-3 : tie.Need-returns-3
 returns-3 c =
     let bound = c .before in
     let f = bound .before .before in
-    bad-before (entry (laid f) .args .bytes .now) (known f) (sym (f .judge-rows .ensures) ∙ ap reasonIn (bound .r .given .1))
+    judged-laid (entry (laid f) .args .bytes .now) (known f) ∙ (sym (f .judge-rows .ensures) ∙ ap reasonIn (bound .r .given .1))
 
 returns-4 : tie.Need-returns-4
 returns-4 c =
