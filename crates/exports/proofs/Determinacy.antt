@@ -15,27 +15,35 @@ use Rattle.rows.specs.Columns.{Columns}
 use Rattle.build.specs.Memory.{Memory, withScores}
 use Rattle.build.specs.Promise.{Told}
 use Rattle.build.proofs.Promises.{promised-once}
-use Rattle.scored.specs.Build.{Report}
+use Rattle.scored.specs.Build.{Report, told, Built}
 use Rattle.unigram.specs.Pieces.{Model}
-use Rattle.unigram.specs.Segment.{Scratch}
+use Rattle.unigram.specs.Segment.{Scratch, Segmented}
 use Rattle.unigram.specs.Checked.{scratchOf, Cut}
 use Rattle.unigram.proofs.Determinacy.{scratch-once, cut-once}
+use Rattle.wordpiece.specs.Build as from-rows
+use Rattle.wordpiece.specs.Encode.{Encoded}
 use Rattle.wordpiece.proofs.Determinacy as words
 use Rattle.pack.specs.Build as packs
-use Rattle.exports.specs.Flat.{codeNumber, EncodedAs, SegmentedAs, fromRowsNumber, FromRowsAs, toldNumber, toldScore, BuiltAs, packNumber, packScore, PackBuiltAs, PrintedAs}
+use Rattle.exports.specs.Flat.{As, codeNumber, fromRowsNumber, toldNumber, toldScore, packNumber, packScore, PrintedAs}
 
 -- A call that is lent nothing to write: `sk_valid_up_to`, `sk_char_len`, `sk_is_boundary`, `sk_characters`, `sk_text`, `sk_text_len`, `sk_sound`,
 -- `sk_sound_scored`, `sk_exact`, `sk_exact_unscored`, `sk_exact_checked`.
 pub answer-once : {A : Type 0} {a b c : A} → a ≡ c → b ≡ c → a ≡ b
 answer-once p q = p ∙ sym q
 
+-- an answer that is what a call says, as a number: one where the numbers are one
+as-once :
+    {A : Type 0} {number : A → ℕ} {P Q : A → Type 0} {r s : ℕ} (p : As number P r) (q : As number Q s)
+    → number (p .said) ≡ number (q .said) → r ≡ s
+as-once p q e = p .answered ∙ e ∙ sym (q .answered)
+
 -- `sk_encode`: the answer, and the id places
-pub encoded-once :
-    {t : Trie} {unknown maxChars : ℕ} {prefix w before a b : List ℕ} {r s : ℕ} → EncodedAs t unknown maxChars prefix w before r a
-    → EncodedAs t unknown maxChars prefix w before s b → (r ≡ s) × (a ≡ b)
-encoded-once p q =
-    let one = coded-once (p .promised) (q .promised) in
-    (p .answered ∙ ap codeNumber (one .0) ∙ sym (q .answered), one .1)
+module _ (t : Trie) (unknown maxChars : ℕ) (prefix w before : List ℕ) where
+  abbrev EncodedAs : ℕ → List ℕ → Type 0
+  EncodedAs r after = As codeNumber (λ said. Encoded t unknown maxChars prefix w before said after) r
+
+  pub encoded-once : {a b : List ℕ} {r s : ℕ} → EncodedAs r a → EncodedAs s b → (r ≡ s) × (a ≡ b)
+  encoded-once p q = let one = coded-once (p .promised) (q .promised) in (as-once p q (ap codeNumber (one .0)), one .1)
 
 -- `sk_encode_checked`: the same
 pub ids-once : {r s n : ℕ} {a b left : List ℕ} → (r ≡ n) × (a ≡ left) → (s ≡ n) × (b ≡ left) → (r ≡ s) × (a ≡ b)
@@ -44,12 +52,12 @@ ids-once p q = (p .0 ∙ sym (q .0), p .1 ∙ sym (q .1))
 -- `sk_segment`, `sk_segment_checked`: the answer, and start, slot id, slot score, path and id places
 module _ {a b c d a′ b′ c′ d′ : List ℕ} (x x′ : List Float) (held : T (allHeld x)) (held′ : T (allHeld x′)) where
   pub segmented-once :
-      {m : Model} {s : List ℕ} {before : Scratch} {r r′ : ℕ} → SegmentedAs m s before r (scratchOf a b x c d)
-      → SegmentedAs m s before r′ (scratchOf a′ b′ x′ c′ d′) → (r ≡ r′) × (a ≡ a′) × (b ≡ b′) × (x ≡ x′) × (c ≡ c′) × (d ≡ d′)
+      {m : Model} {s : List ℕ} {before : Scratch} {r r′ : ℕ} → As codeNumber (λ said. Segmented m s before said (scratchOf a b x c d)) r
+      → As codeNumber (λ said. Segmented m s before said (scratchOf a′ b′ x′ c′ d′)) r′ → (r ≡ r′) × (a ≡ a′) × (b ≡ b′) × (x ≡ x′) × (c ≡ c′) × (d ≡ d′)
   segmented-once p q =
       let one = coded-once (p .promised .coded) (q .promised .coded) in
       let left = scratch-once x x′ held held′ (one .1) in
-      (p .answered ∙ ap codeNumber (one .0) ∙ sym (q .answered), left .0, left .1, left .2, left .3, left .4)
+      (as-once p q (ap codeNumber (one .0)), left .0, left .1, left .2, left .3, left .4)
 
   pub segmented-checked-once :
       {m : Model} {s : List ℕ} {before : Scratch} {r r′ : ℕ} → Cut m s before (scratchOf a b x c d) r
@@ -60,11 +68,14 @@ module _ {a b c d a′ b′ c′ d′ : List ℕ} (x x′ : List Float) (held : 
       (once .0, left .0, left .1, left .2, left .3, left .4)
 
 -- `sk_from_rows`
-pub from-rows-once :
-    {tab : List ℕ} {c : Columns} {m m₁ m₂ : Memory} {r s : ℕ} → FromRowsAs tab c m r m₁ → FromRowsAs tab c m s m₂ → (r ≡ s) × (m₁ ≡ m₂)
-from-rows-once {tab = tab} {c = c} {m = m} p q =
-    let one = words.built-once tab c m (p .said) (q .said) (p .promised) (q .promised) in
-    (p .answered ∙ ap fromRowsNumber (one .0) ∙ sym (q .answered), one .1)
+module _ (tab : List ℕ) (c : Columns) (before : Memory) where
+  abbrev FromRowsAs : ℕ → Memory → Type 0
+  FromRowsAs r after = As fromRowsNumber (λ said. from-rows.Built tab c before said after) r
+
+  pub from-rows-once : {m₁ m₂ : Memory} {r s : ℕ} → FromRowsAs r m₁ → FromRowsAs s m₂ → (r ≡ s) × (m₁ ≡ m₂)
+  from-rows-once p q =
+      let one = words.built-once tab c before (p .said) (q .said) (p .promised) (q .promised) in
+      (as-once p q (ap fromRowsNumber (one .0)), one .1)
 
 -- the lent memory with its score column, and the place of the unknown score
 module _ (m₁ m₂ : Memory) (x y u v : List Float) (hx : T (allHeld x)) (hy : T (allHeld y)) (hu : T (allHeld u)) (hv : T (allHeld v)) where
@@ -77,22 +88,28 @@ module _ (m₁ m₂ : Memory) (x y u v : List Float) (hx : T (allHeld x)) (hy : 
       (a, ap (λ (l : Memory). withScores l []) m, column-once x y hx hy (ap (λ (l : Memory). l .score) m), column-once u v hu hv w)
 
   -- `sk_build`
-  pub built-once :
-      {tab : List ℕ} {c : Columns} {m : Memory} {e : List Double} {r s : ℕ} → BuiltAs tab c m e r (withScores m₁ (map units x)) (map units u)
-      → BuiltAs tab c m e s (withScores m₂ (map units y)) (map units v) → One r s
-  built-once {e = e} p q =
-      let one = promised-once (p .promised) (q .promised) in
-      one-of (p .answered ∙ ap toldNumber (one .0) ∙ sym (q .answered)) (one .1)
-      (p .unknown ∙ ap (λ (t : Told Report). toldScore t e) (one .0) ∙ sym (q .unknown))
+  module _ (tab : List ℕ) (c : Columns) (before : Memory) (e : List Double) where
+    abbrev BuiltAs : ℕ → Memory → List Double → Type 0
+    BuiltAs r after unknown = As (λ said. toldNumber (told said)) (λ said. Built tab c before said after × (unknown ≡ toldScore (told said) e)) r
+
+    pub built-once : {r s : ℕ} → BuiltAs r (withScores m₁ (map units x)) (map units u) → BuiltAs s (withScores m₂ (map units y)) (map units v) → One r s
+    built-once p q =
+        let one = promised-once (p .promised .0) (q .promised .0) in
+        one-of (as-once p q (ap toldNumber (one .0))) (one .1)
+        (p .promised .1 ∙ ap (λ (t : Told Report). toldScore t e) (one .0) ∙ sym (q .promised .1))
 
   -- `sk_pack_build`
-  pub pack-built-once :
-      {bytes : List ℕ} {m : Memory} {e : List Double} {r s : ℕ} → PackBuiltAs bytes m e r (withScores m₁ (map units x)) (map units u)
-      → PackBuiltAs bytes m e s (withScores m₂ (map units y)) (map units v) → One r s
-  pack-built-once {e = e} p q =
-      let one = promised-once (p .promised) (q .promised) in
-      one-of (p .answered ∙ ap packNumber (one .0) ∙ sym (q .answered)) (one .1)
-      (p .unknown ∙ ap (λ (t : Told packs.Report). packScore t e) (one .0) ∙ sym (q .unknown))
+  module _ (bytes : List ℕ) (before : Memory) (e : List Double) where
+    abbrev PackBuiltAs : ℕ → Memory → List Double → Type 0
+    PackBuiltAs r after unknown =
+        As (λ said. packNumber (packs.told said)) (λ said. packs.PackBuilt bytes before said after × (unknown ≡ packScore (packs.told said) e)) r
+
+    pub pack-built-once :
+        {r s : ℕ} → PackBuiltAs r (withScores m₁ (map units x)) (map units u) → PackBuiltAs s (withScores m₂ (map units y)) (map units v) → One r s
+    pack-built-once p q =
+        let one = promised-once (p .promised .0) (q .promised .0) in
+        one-of (as-once p q (ap packNumber (one .0))) (one .1)
+        (p .promised .1 ∙ ap (λ (t : Told packs.Report). packScore t e) (one .0) ∙ sym (q .promised .1))
 
 -- `sk_print`
 pub printed-once : {bytes input before a b : List ℕ} {r s : ℕ} → PrintedAs bytes input before r a → PrintedAs bytes input before s b → (r ≡ s) × (a ≡ b)

@@ -5,8 +5,9 @@ ghost use mathlib.Core.Path.{_≡_};
 ghost use Rattle.doubles.specs.Units.{units, scoresIs, scoresWas};
 ghost use Rattle.rows.specs.Answers.{columnsWas};
 ghost use Rattle.build.specs.Memory.{memoryIs, memoryWas, scoredMemoryIs, scoredMemoryWas};
-ghost use Rattle.exports.specs.Flat.{reasonNumber, fromRowsNumber, FromRowsAs, toldNumber, toldScore, withFirst, BuiltAs};
-ghost use Rattle.scored.specs.Build.{told};
+ghost use Rattle.exports.specs.Flat.{reasonNumber, fromRowsNumber, toldNumber, toldScore, withFirst, As};
+ghost use Rattle.scored.specs.Build.{told, Built};
+ghost use Rattle.wordpiece.specs.Build as from-rows;
 ghost use Rattle.refusal.specs.Lent.{was};
 
 // The reason as one number.
@@ -46,9 +47,8 @@ pub extern "C" fn sk_from_rows(
     work: &mut [u32],
 ) -> u64
     ensures { λ r.
-        ⌜ FromRowsAs (was tab) (columnsWas off len scored score id)
-        (memoryWas «edge_at» «edge_n» «node_id» byte to work) r (memoryIs «edge_at» «edge_n» «node_id» byte to work)
-        ⌝ }
+        ⌜ As fromRowsNumber (λ said. from-rows.Built (was tab) (columnsWas off len scored score id)
+        (memoryWas «edge_at» «edge_n» «node_id» byte to work) said (memoryIs «edge_at» «edge_n» «node_id» byte to work)) r ⌝ }
 {
     from_rows_number(wordpiece::from_rows(
         tab,
@@ -108,9 +108,10 @@ pub extern "C" fn sk_build(
     unknown_score: &mut [f64],
 ) -> u64
     ensures { λ r.
-        ⌜ BuiltAs (was tab) (columnsWas off len scored score id)
-        (scoredMemoryWas «edge_at» «edge_n» «node_id» «node_score» byte to work) (scoresWas «unknown_score») r
-        (scoredMemoryIs «edge_at» «edge_n» «node_id» «node_score» byte to work) (scoresIs «unknown_score») ⌝ }
+        ⌜ As (λ said. toldNumber (told said)) (λ said. Built (was tab) (columnsWas off len scored score id)
+        (scoredMemoryWas «edge_at» «edge_n» «node_id» «node_score» byte to work) said
+        (scoredMemoryIs «edge_at» «edge_n» «node_id» «node_score» byte to work)
+        × (scoresIs «unknown_score» ≡ toldScore (told said) (scoresWas «unknown_score»))) r ⌝ }
 {
     built_number(
         scored::build(

@@ -25,7 +25,9 @@ ghost use Rattle.unigram.specs.Checked.{Prepared, Cut, scratchIs, scratchWas};
 ghost use Rattle.wordpiece.specs.Pieces.{idsOf};
 ghost use Rattle.wordpiece.specs.Checked.{Ready};
 ghost use Rattle.refusal.specs.Places.{overlay};
-ghost use Rattle.exports.specs.Flat.{status, countFault, countNumber, lookupNumber, codeNumber, EncodedAs, SegmentedAs};
+ghost use Rattle.unigram.specs.Segment.{Segmented};
+ghost use Rattle.wordpiece.specs.Encode.{Encoded};
+ghost use Rattle.exports.specs.Flat.{status, countFault, countNumber, lookupNumber, codeNumber, As};
 ghost use Rattle.refusal.specs.Lent.{is, was};
 
 // The length of the longest prefix made of whole well-formed characters.
@@ -214,8 +216,8 @@ pub extern "C" fn sk_encode(
     ids: &mut [u32],
 ) -> usize
     ensures { λ r.
-        ⌜ EncodedAs (parts «edge_at» «edge_n» id byte to) unknown «max_chars» (was prefix) (was word) (was ids) r (is ids)
-        ⌝ }
+        ⌜ As codeNumber (λ said. Encoded (parts «edge_at» «edge_n» id byte to) unknown «max_chars» (was prefix) (was word)
+        (was ids) said (is ids)) r ⌝ }
 {
     code_number(wordpiece::encode(
         edge_at,
@@ -283,8 +285,8 @@ pub extern "C" fn sk_segment(
     ids: &mut [u32],
 ) -> usize
     ensures { λ r.
-        ⌜ SegmentedAs (model «edge_at» «edge_n» id score byte to unknown «unknown_score») (was text)
-        (scratchWas start «slot_id» «slot_score» path ids) r (scratchIs start «slot_id» «slot_score» path ids) ⌝ }
+        ⌜ As codeNumber (λ said. Segmented (model «edge_at» «edge_n» id score byte to unknown «unknown_score») (was text)
+        (scratchWas start «slot_id» «slot_score» path ids) said (scratchIs start «slot_id» «slot_score» path ids)) r ⌝ }
 {
     code_number(unigram::segment(
         edge_at,

@@ -5,8 +5,8 @@ use pack::PackAnswer;
 ghost use mathlib.Core.Path.{_≡_};
 ghost use Rattle.doubles.specs.Units.{scoresIs, scoresWas};
 ghost use Rattle.build.specs.Memory.{scoredMemoryIs, scoredMemoryWas};
-ghost use Rattle.pack.specs.Build.{told};
-ghost use Rattle.exports.specs.Flat.{packNumber, packScore, PackBuiltAs, PrintedAs};
+ghost use Rattle.pack.specs.Build.{told, PackBuilt};
+ghost use Rattle.exports.specs.Flat.{packNumber, packScore, As, PrintedAs};
 ghost use Rattle.refusal.specs.Lent.{is, was};
 
 // An answer of the build as one number, and its unknown score in the first of the lent places.
@@ -49,9 +49,10 @@ pub extern "C" fn sk_pack_build(
     unknown_score: &mut [f64],
 ) -> u64
     ensures { λ r.
-        ⌜ PackBuiltAs (was bytes) (scoredMemoryWas «edge_at» «edge_n» «node_id» «node_score» byte to work)
-        (scoresWas «unknown_score») r (scoredMemoryIs «edge_at» «edge_n» «node_id» «node_score» byte to work)
-        (scoresIs «unknown_score») ⌝ }
+        ⌜ As (λ said. packNumber (told said)) (λ said. PackBuilt (was bytes)
+        (scoredMemoryWas «edge_at» «edge_n» «node_id» «node_score» byte to work) said
+        (scoredMemoryIs «edge_at» «edge_n» «node_id» «node_score» byte to work)
+        × (scoresIs «unknown_score» ≡ packScore (told said) (scoresWas «unknown_score»))) r ⌝ }
 {
     pack_number(
         pack::build(bytes, edge_at, edge_n, node_id, node_score, byte, to, work),

@@ -15,9 +15,8 @@ returns c =
     let n = c .before .before in
     record {
       said = called n .build .result;
-      promised = called n .build .ensures;
+      promised = (called n .build .ensures, n .built-number .ensures .1);
       answered = n .built-number .ensures .0;
-      unknown = n .built-number .ensures .1;
     }
 
 pub sk-build-spec : {M : Type 1} → statement M

@@ -15,9 +15,8 @@ returns c =
     let n = c .before .before in
     record {
       said = called n .build .result;
-      promised = called n .build .ensures;
+      promised = (called n .build .ensures, n .pack-number .ensures .1);
       answered = n .pack-number .ensures .0;
-      unknown = n .pack-number .ensures .1;
     }
 
 pub sk-pack-build-spec : {M : Type 1} → statement M
