@@ -11,7 +11,7 @@ use lib.Dec.{eqb}
 use lib.ListN.{length}
 use Rattle.refusal.specs.declared.Fault.{Fault}
 use Rattle.refusal.specs.declared.CodeAnswer.{CodeAnswer}
-use Rattle.refusal.specs.Coding.{codeLeaves}
+use Rattle.refusal.specs.Refusal.{unlessFault}
 use Rattle.refusal.specs.Places.{overlay}
 use Rattle.refusal.proofs.Codings.{coded-once}
 use Rattle.text.specs.Text.{characters, part}
@@ -43,7 +43,7 @@ pub encoded-coded :
     (t : Trie) (unknown maxChars : ℕ) (prefix s : List ℕ) (before : Scratch) {answer : CodeAnswer} {places : List ℕ}
     → Encoded t unknown maxChars prefix s (before .ids) answer places
     → CodedIn (wordpieceOf t unknown maxChars prefix) s before answer (withPlaces places before)
-unfolding faultIn idsIn writesIn LawIn codeLeaves
+unfolding faultIn idsIn writesIn LawIn unlessFault
 encoded-coded t unknown maxChars prefix s before p =
     record {
       coded = record { answered = p .answered; left = ap (λ (l : List ℕ). withPlaces l before) (p .left) ∙ leaves (encodeFault (sound t) prefix s (length (before .ids))) };
@@ -52,8 +52,8 @@ encoded-coded t unknown maxChars prefix s before p =
   where
     leaves :
         (o : Option Fault)
-        → withPlaces (codeLeaves o (overlay (wordpiece.idsOf (idOf t) unknown maxChars prefix s) (before .ids)) (before .ids)) before
-        ≡ codeLeaves o (withIds (wordpiece.idsOf (idOf t) unknown maxChars prefix s) before) before
+        → withPlaces (unlessFault o (overlay (wordpiece.idsOf (idOf t) unknown maxChars prefix s) (before .ids)) (before .ids)) before
+        ≡ unlessFault o (withIds (wordpiece.idsOf (idOf t) unknown maxChars prefix s) before) before
     leaves none = refl
     leaves (some f) = refl
 

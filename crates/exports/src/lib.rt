@@ -11,12 +11,13 @@ pub mod builds;
 pub mod packs;
 
 ghost use mathlib.Core.Path.{_≡_};
+ghost use mathlib.Core.List.{[]};
 ghost use Prim.Native.Nat.{_+_, _^_};
 ghost use lib.ListN.{length};
 ghost use Rattle.doubles.specs.Units.{units, scoresWas};
-ghost use Rattle.refusal.specs.Refusal.{number};
+ghost use Rattle.refusal.specs.Refusal.{number, unlessFault};
 ghost use Rattle.text.specs.Text.{lengthOf, validUpTo, boundary, characters};
-ghost use Rattle.text.specs.Span.{spanFault, spanOf, givenFor};
+ghost use Rattle.text.specs.Span.{spanFault, spanOf};
 ghost use Rattle.trie.specs.Trie.{idOf, parts, partsNow};
 ghost use Rattle.trie.specs.Sound.{sound, soundScored, Sound};
 ghost use Rattle.trie.specs.Lookup.{lookupFault, found, lookupAnswer};
@@ -89,7 +90,7 @@ pub extern "C" fn sk_text(tab: &[u8], off: u32, len: u32) -> u32
 // How long the part is that the span check gives back: 0 for a refused span.
 #[no_mangle]
 pub extern "C" fn sk_text_len(tab: &[u8], off: u32, len: u32) -> usize
-    ensures { λ r. ⌜ r ≡ length (givenFor (spanFault (was tab) off len) (spanOf (was tab) off len)) ⌝ }
+    ensures { λ r. ⌜ r ≡ length (unlessFault (spanFault (was tab) off len) (spanOf (was tab) off len) []) ⌝ }
 {
     text::text(tab, off, len).len()
 }

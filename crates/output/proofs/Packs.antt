@@ -15,12 +15,12 @@ use Rattle.doubles.specs.Units.{units}
 use Rattle.refusal.specs.declared.Fault.{Fault}
 use Rattle.refusal.specs.declared.Fault.the-variants as fault
 use Rattle.refusal.specs.declared.Reason.{Reason}
-use Rattle.refusal.specs.Refusal.{faultOf}
+use Rattle.refusal.specs.Refusal.{faultOf, unlessFault}
 use Rattle.refusal.proofs.Tests.{neither-says}
 use Rattle.text.specs.Ascii.{ascii}
 use Rattle.text.specs.Text.{wellFormed}
 use Rattle.text.proofs.Spans.{fault-part, part-inside, text-fine}
-use Rattle.text.specs.Span.{spanOf, spanFault, givenFor}
+use Rattle.text.specs.Span.{spanOf, spanFault}
 use Rattle.trie.specs.Trie.{partsOf}
 use Rattle.trie.proofs.Every.{first, second}
 use Rattle.rows.specs.declared.Kind.{Kind}
@@ -218,9 +218,9 @@ module _ (pack edgeAt edgeN id : List ℕ) (scores : List Float) (byte to : List
         ∙ text-fine (spanOf strings off len) text
 
     prefix-is : {prefix : List ℕ} → PrefixGiven pack off len prefix → prefix ≡ prefixOf pack
-    unfolding givenFor
+    unfolding unlessFault
     prefix-is g =
-        g ∙ ap (λ (o : Option Fault). givenFor o (spanOf (stringsOf pack) off len)) prefix-fine
+        g ∙ ap (λ (o : Option Fault). unlessFault o (spanOf (stringsOf pack) off len) []) prefix-fine
         ∙ packs.wordpiece-prefix pack lentMemory left′ n unknown most off len good (j .built)
 
     pub judged-wordpiece :

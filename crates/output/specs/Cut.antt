@@ -1,11 +1,12 @@
 -- A pack's prefix, and a trie in the first places of lent columns. Definitions only; assumes nothing.
-use mathlib.Core.List.{List, map}
+use mathlib.Core.List.{List, [], map}
 use Prim.Native.Nat.{ℕ, _-_, _≤_}
 use mathlib.Core.Path.{_≡_}
 use lib.Ieee.{Float}
 use lib.ListN.{length, take}
 use Rattle.doubles.specs.Units.{units}
-use Rattle.text.specs.Span.{spanOf, spanFault, givenFor}
+use Rattle.refusal.specs.Refusal.{unlessFault}
+use Rattle.text.specs.Span.{spanOf, spanFault}
 use Rattle.build.specs.Memory.{memory, withScores}
 use Rattle.coder.specs.declared.Coder.{Coder}
 use Rattle.coder.specs.Vocabulary.{Vocabulary}
@@ -17,7 +18,7 @@ use Rattle.output.specs.Output.{lentMemory}
 
 -- what the span check gives of a pack's strings
 abbrev pub PrefixGiven : List ℕ → ℕ → ℕ → List ℕ → Type 0
-PrefixGiven pack off len prefix = let strings = stringsOf pack in prefix ≡ givenFor (spanFault strings off len) (spanOf strings off len)
+PrefixGiven pack off len prefix = let strings = stringsOf pack in prefix ≡ unlessFault (spanFault strings off len) (spanOf strings off len) []
 
 -- the columns have places for n nodes, of which there is at least the root, and their edges
 pub record Cuttable (n : ℕ) (edgeAt edgeN id : List ℕ) (score : List Float) (byte to : List ℕ) : Type 0 where

@@ -9,7 +9,8 @@ use lib.ListN.{length}
 use Rattle.refusal.specs.declared.Fault.{Fault}
 use Rattle.refusal.specs.declared.CodeAnswer.{CodeAnswer}
 use Rattle.refusal.specs.declared.CodeAnswer.the-variants.{Ids, Refused}
-use Rattle.refusal.specs.Coding.{codeAnswer, codeLeaves, Coded}
+use Rattle.refusal.specs.Refusal.{unlessFault}
+use Rattle.refusal.specs.Coding.{codeAnswer, Coded}
 
 refused-says : (o : Option Fault) (n : ℕ) {f : Fault} → codeAnswer o n ≡ Refused f → o ≡ some f
 unfolding codeAnswer
@@ -25,19 +26,19 @@ module _ {A : Type 0} {fault : Option Fault} {ids : List ℕ} {written before : 
   -- ---- the promise, from the fault that was found or from what was written
 
   pub coded-refused : {f : Fault} → fault ≡ some f → Coded fault ids written before (Refused f) before
-  unfolding codeAnswer codeLeaves
+  unfolding codeAnswer unlessFault
   coded-refused e =
       record {
         answered = sym (ap (λ (o : Option Fault). codeAnswer o (length ids)) e);
-        left = sym (ap (λ (o : Option Fault). codeLeaves o written before) e);
+        left = sym (ap (λ (o : Option Fault). unlessFault o written before) e);
       }
 
   pub coded-ids : {n : ℕ} {after : A} → fault ≡ none → n ≡ length ids → after ≡ written → Coded fault ids written before (Ids n) after
-  unfolding codeAnswer codeLeaves
+  unfolding codeAnswer unlessFault
   coded-ids e count left =
       record {
         answered = ap Ids count ∙ sym (ap (λ (o : Option Fault). codeAnswer o (length ids)) e);
-        left = left ∙ sym (ap (λ (o : Option Fault). codeLeaves o written before) e);
+        left = left ∙ sym (ap (λ (o : Option Fault). unlessFault o written before) e);
       }
 
   -- ---- what it tells
@@ -61,10 +62,10 @@ module _ {A : Type 0} {fault : Option Fault} {ids : List ℕ} {written before : 
 
     -- so many ids are all of them, and then it was written
     pub told-ids : {n : ℕ} → answer ≡ Ids n → (fault ≡ none) × (n ≡ length ids) × (after ≡ written)
-    unfolding codeLeaves
+    unfolding unlessFault
     told-ids q =
         let s = ids-say fault (length ids) (sym (p .answered) ∙ q) in
-        (s .0, s .1, p .left ∙ ap (λ (o : Option Fault). codeLeaves o written before) (s .0))
+        (s .0, s .1, p .left ∙ ap (λ (o : Option Fault). unlessFault o written before) (s .0))
 
   -- the promise met twice gives the same answer, and leaves the same
   pub coded-once :

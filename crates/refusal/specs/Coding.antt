@@ -6,6 +6,7 @@ use mathlib.Core.Option.{Option, none, some}
 use Prim.Native.Nat.{ℕ}
 use lib.ListN.{length}
 use Rattle.refusal.specs.declared.Fault.{Fault}
+use Rattle.refusal.specs.Refusal.{unlessFault}
 use Rattle.refusal.specs.declared.CodeAnswer.{CodeAnswer}
 use Rattle.refusal.specs.declared.CodeAnswer.the-variants.{Ids, Refused}
 
@@ -14,12 +15,7 @@ unfoldable pub codeAnswer : Option Fault → ℕ → CodeAnswer
 codeAnswer none count = Ids count
 codeAnswer (some f) count = Refused f
 
--- "Every other refusal writes nothing."
-unfoldable pub codeLeaves : {A : Type 0} → Option Fault → A → A → A
-codeLeaves none written before = written
-codeLeaves (some f) written before = before
-
--- What a coding promises of its answer and of the memory lent to it, before and after.
+-- What a coding promises of its answer and of the memory lent to it, before and after. "Every other refusal writes nothing."
 pub record Coded {A : Type 0} (fault : Option Fault) (ids : List ℕ) (written before : A) (answer : CodeAnswer) (after : A) : Type 0 where
   pub answered : answer ≡ codeAnswer fault (length ids)
-  pub left : after ≡ codeLeaves fault written before
+  pub left : after ≡ unlessFault fault written before

@@ -56,3 +56,8 @@ first (some f) later = some f
 abbrev pub faultIn : Judged → Option Fault
 faultIn Fine = none
 faultIn (Bad f) = some f
+
+-- `unlessFault found accepted refused`: the one where no fault is found, the other where there is one
+unfoldable pub unlessFault : {A : Type 0} → Option Fault → A → A → A
+unlessFault none accepted refused = accepted
+unlessFault (some f) accepted refused = refused

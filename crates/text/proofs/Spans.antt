@@ -6,7 +6,6 @@ use mathlib.Core.List.{List, []}
 use mathlib.Core.Logic.{_↔_}
 use mathlib.Core.Option.{Option, none, some}
 use Prim.Native.Nat.{ℕ, _+_, _-_, _≤_, _<_}
-use native.Mathlib.Nat.{add-zero}
 use native.Mathlib.Omega.{arith}
 use borrow.Author.Tests.{lt-ltb, le-ltb, ltb-false, eq-eqb, ne-eqb, not-false}
 use lib.ListN.{length, take, drop}
@@ -16,9 +15,10 @@ use Rattle.refusal.specs.declared.Fault.the-variants.{Size, Span, Text}
 use Rattle.refusal.specs.declared.Judged.{Judged}
 use Rattle.refusal.specs.declared.Judged.the-variants.{Fine, Bad}
 use Rattle.refusal.specs.Sizes.{maxTable}
+use Rattle.refusal.specs.Refusal.{unlessFault}
 use Rattle.refusal.proofs.Tests.{Not, found, not-found, passed, refused-so, nothing-so, bad-exactly, fine-exactly, judged-once}
 use Rattle.text.specs.Text.{validUpTo, wellFormed, textFault}
-use Rattle.text.specs.Span.{spanOf, outside, partFault, spanFault, givenFor, startFor, TextAnswered, PartGiven, NothingGiven}
+use Rattle.text.specs.Span.{spanOf, outside, partFault, spanFault, TextAnswered, PartGiven}
 use Rattle.text.proofs.Valid.{valid-le}
 
 -- ---- which fault
@@ -119,17 +119,17 @@ nothing-taken s at = let e : at - at ≡ 0 = omega arith in rw e
 
 -- the empty part in front is what is given of a span with a fault
 pub nothing-given :
-    {table part : RefT (List ℕ)} {off len : ℕ} (fault : Option Fault) (f : Fault) → fault ≡ some f → NothingGiven table part
+    {table part : RefT (List ℕ)} {off len : ℕ} (fault : Option Fault) (f : Fault) → fault ≡ some f → PartGiven none table 0 0 part
     → PartGiven fault table off len part
-unfolding givenFor startFor
+unfolding unlessFault
 nothing-given {table} {part} {off} {len} fault f e n =
     record {
-      gave = n .gave ∙ sym (ap (λ (o : Option Fault). givenFor o (spanOf (table .now) off len)) e);
+      gave = n .gave ∙ sym (ap (λ (o : Option Fault). unlessFault o (spanOf (table .now) off len) []) e);
       block = n .block;
-      stands = n .stands ∙ sym (ap (λ (o : Option Fault). table .ptr .1 + startFor o off) e ∙ add-zero (table .ptr .1));
+      stands = n .stands ∙ sym (ap (λ (o : Option Fault). table .ptr .1 + unlessFault o off 0) e);
     }
 
 -- what is given of a span without a fault: its bytes
 pub bytes-given : {table part : RefT (List ℕ)} {off len : ℕ} → PartGiven none table off len part → part .now ≡ spanOf (table .now) off len
-unfolding givenFor
+unfolding unlessFault
 bytes-given g = g .gave

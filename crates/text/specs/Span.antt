@@ -3,7 +3,7 @@ use mathlib.Core.Path.{_≡_}
 use Prim.Native.Nat.{ℕ, _+_}
 use mathlib.Core.Bool.{Bool}
 use mathlib.Core.List.{List, []}
-use mathlib.Core.Option.{Option, none, some}
+use mathlib.Core.Option.{Option}
 use lib.Dec.{ltb}
 use lib.ListN.{length, take, drop}
 use denote.Ref.{RefT}
@@ -11,7 +11,7 @@ use Rattle.refusal.specs.declared.Fault.{Fault}
 use Rattle.refusal.specs.declared.Fault.the-variants.{Size, Span}
 use Rattle.refusal.specs.declared.Judged.{Judged}
 use Rattle.refusal.specs.Sizes.{maxTable, above}
-use Rattle.refusal.specs.Refusal.{refuse, faultIn}
+use Rattle.refusal.specs.Refusal.{refuse, faultIn, unlessFault}
 use Rattle.text.specs.Text.{textFault}
 
 -- the len bytes of the table from off on
@@ -30,29 +30,13 @@ partFault tab off len = refuse (outside tab off len) Span (textFault (spanOf tab
 unfoldable pub spanFault : List ℕ → ℕ → ℕ → Option Fault
 spanFault tab off len = refuse (above maxTable (length tab)) Size (partFault tab off len)
 
--- The part that a span is, where no fault is found of it; else the empty part. And how far from the table's start it stands.
--- "An accepted span gives back that part of the lent string table itself. A refused one gives back the empty part at the table's start"
-unfoldable pub givenFor : Option Fault → List ℕ → List ℕ
-givenFor none bytes = bytes
-givenFor (some f) bytes = []
-
-unfoldable pub startFor : Option Fault → ℕ → ℕ
-startFor none off = off
-startFor (some f) off = 0
-
 -- What `text_answer(tab, off, len)` promises: "a call beside it answers accepted or the number".
 pub record TextAnswered (tab : List ℕ) (off len : ℕ) (answer : Judged) : Type 0 where
   pub answered : faultIn answer ≡ spanFault tab off len
 
--- What is promised of the part given back of a span with this fault: its bytes, and that it is a part of the lent table itself, in the same
--- block of memory.
+-- What is promised of the part given back of a span with this fault: its bytes, the block of memory that it stands in, and where.
+-- "An accepted span gives back that part of the lent string table itself. A refused one gives back the empty part at the table's start"
 pub record PartGiven (fault : Option Fault) (table : RefT (List ℕ)) (off len : ℕ) (part : RefT (List ℕ)) : Type 0 where
-  pub gave : part .now ≡ givenFor fault (spanOf (table .now) off len)
+  pub gave : part .now ≡ unlessFault fault (spanOf (table .now) off len) []
   pub block : part .ptr .0 ≡ table .ptr .0
-  pub stands : part .ptr .1 ≡ table .ptr .1 + startFor fault off
-
--- "the empty part at the table's start"
-pub record NothingGiven (table part : RefT (List ℕ)) : Type 0 where
-  pub gave : part .now ≡ []
-  pub block : part .ptr .0 ≡ table .ptr .0
-  pub stands : part .ptr .1 ≡ table .ptr .1
+  pub stands : part .ptr .1 ≡ table .ptr .1 + unlessFault fault off 0

@@ -9,7 +9,8 @@ mod strides;
 pub mod utf8;
 
 ghost use mathlib.Core.Path.{_≡_};
-ghost use Rattle.text.specs.Span.{outside, spanFault, TextAnswered, PartGiven, NothingGiven};
+ghost use mathlib.Core.Option.{none};
+ghost use Rattle.text.specs.Span.{outside, spanFault, TextAnswered, PartGiven};
 ghost use Rattle.refusal.specs.Lent.{was};
 
 // Whether the span of len bytes at off passes the table's end.
@@ -21,7 +22,7 @@ pub fn is_outside(tab: &[u8], off: u32, len: u32) -> bool
 
 // The empty part at the table's start.
 fn nothing<'a>(tab: &'a [u8]) -> &'a [u8]
-    ensures { λ r. ⌜ NothingGiven (tab .entry) r ⌝ }
+    ensures { λ r. ⌜ PartGiven none (tab .entry) 0 0 r ⌝ }
 {
     let start: usize = 0;
     &tab[start..start]

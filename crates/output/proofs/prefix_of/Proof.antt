@@ -1,11 +1,12 @@
 -- `output::prefix_of` meets its contract: the strings begin where the header's fourth word says. Assumes nothing.
 use mathlib.Core.Path.{_≡_, ap, _∙_}
-use mathlib.Core.List.{List}
+use mathlib.Core.List.{List, []}
 use Prim.Native.Nat.{ℕ, _≤_, _-_}
 use native.Mathlib.Omega.{arith}
 use lib.ListN.{length, take, drop, length-drop}
 use lib.Seq.{take-all}
-use Rattle.text.specs.Span.{spanOf, spanFault, givenFor}
+use Rattle.refusal.specs.Refusal.{unlessFault}
+use Rattle.text.specs.Span.{spanOf, spanFault}
 use Rattle.pack.specs.Pack.{headerOf, stringsOf}
 use borrow.Author.Needs.{needs}
 use Rattle.output.proofs.prefix_of.Statement.{statement}
@@ -35,7 +36,7 @@ returns : tie.Need-returns
 returns c =
     let w = c .before .before in
     let a = w .before .before .args in
-    let given : List ℕ → List ℕ = λ strings. givenFor (spanFault strings (a .off) (a .len)) (spanOf strings (a .off) (a .len)) in
+    let given : List ℕ → List ℕ = λ strings. unlessFault (spanFault strings (a .off) (a .len)) (spanOf strings (a .off) (a .len)) [] in
     c .text .ensures .gave ∙ ap given (strings-are (a .pack .now) (w .word .result) (start-is w))
 
 pub prefix-of-spec : {M : Type 1} → statement M

@@ -2,13 +2,13 @@
 use mathlib.Core.Path.{refl}
 use native.Mathlib.Nat.{add-comm}
 use borrow.Author.Needs.{needs}
-use Rattle.text.specs.Span.{givenFor, startFor}
+use Rattle.refusal.specs.Refusal.{unlessFault}
 use Rattle.text.proofs.Spans.{part-is}
 use Rattle.text.proofs.checked.span.Statement.{statement}
 use Rattle.text.proofs.checked.span.Tie as tie
 
 returns : tie.Need-returns
-unfolding givenFor startFor
+unfolding unlessFault
 returns c =
     let a = c .before .args in
     record { gave = part-is (a .tab .now) (a .off) (a .len); block = refl; stands = add-comm (a .off) (a .tab .ptr .1) }
