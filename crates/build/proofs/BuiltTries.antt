@@ -11,7 +11,8 @@ use native.Mathlib.Decide.{decLt}
 use lib.Dec.{T}
 use lib.ListN.{length, getD, take, length-map, List·getD-eq-default}
 use lib.Seq.{take-at}
-use Rattle.doubles.specs.Double.{Double, plusZero, isFinite, isDouble}
+use Rattle.doubles.specs.Double.{Double, plusZero, isFinite}
+use Rattle.doubles.proofs.Largest.{isDouble}
 use Rattle.refusal.specs.declared.Reason.{Reason}
 use Rattle.refusal.specs.Sizes.{maxRows}
 use Rattle.trie.specs.Trie.{Trie, partsOf}

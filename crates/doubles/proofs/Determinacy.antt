@@ -2,13 +2,13 @@
 -- each double; a number has one pattern. What the format holds is asked of the answers: every `f64` is so. Assumes nothing.
 use mathlib.Core.Path.{_≡_, refl, sym, ap, ap₂, _∙_, subst}
 use Prim.Native.Nat.{_^_, _<_}
-use mathlib.Core.Bool.{Bool, true}
+use mathlib.Core.Bool.{Bool, true, _&&_}
 use mathlib.Core.List.{List, [], _∷_, map}
 use lib.Dec.{T}
-use lib.Ieee.{Float}
+use lib.Ieee.{Float, fits, binary64}
 use lib.Ieee.Fits.{and-l, and-r}
 use Rattle.doubles.specs.Double.{Double, notANumber, infinite, isNumber, isFinite}
-use Rattle.doubles.specs.Units.{units, held, allHeld}
+use Rattle.doubles.specs.Units.{units}
 use Rattle.doubles.specs.Pattern.{Reads, Written}
 use Rattle.doubles.specs.declared.Pattern.{Pattern}
 use Rattle.doubles.specs.declared.Pattern.the-variants.{Finite, Infinite, NotANumber}
@@ -16,6 +16,15 @@ use Rattle.doubles.specs.declared.Bits.{Bits}
 use Rattle.doubles.specs.declared.Bits.the-variants.{Of, NotANumber as NoNumber}
 use Rattle.doubles.proofs.Floats.{units-injective}
 use Rattle.doubles.proofs.Patterns.{pattern-injective}
+
+-- The format holds the value, as it does that of every `f64`: the logic's values are more than those.
+abbrev pub held : Float → Bool
+held x = fits binary64 x
+
+-- and every value of a column, as of every `&[f64]`
+unfoldable pub allHeld : List Float → Bool
+allHeld [] = true
+allHeld (x ∷ xs) = held x && allHeld xs
 
 -- `added`, `lower`, `minus_ten`, and every other call that promises a score by its units
 pub float-once : {x y : Float} {d : Double} → T (held x) → T (held y) → units x ≡ d → units y ≡ d → x ≡ y

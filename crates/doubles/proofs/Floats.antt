@@ -17,12 +17,12 @@ use lib.Ieee.Nearest.{closest, closest-same}
 use lib.Ieee.Bits.{ofBits-toBits}
 use lib.Ieee.Scale
 use borrow.Author.Tests.{lt-ltb}
-use Rattle.doubles.specs.Double.{Double, notANumber, infinite, finite, one, rounded, round, sumFinite, sum, less, same, atMost, isNumber, isDouble}
+use Rattle.doubles.specs.Double.{Double, notANumber, infinite, finite, one, rounded, round, sumFinite, sum, less, same, atMost, isNumber}
 use Rattle.doubles.specs.Units.{units}
 use Rattle.doubles.proofs.Rounding.{drop, rounded-is, short-kept}
 use Rattle.doubles.proofs.Order.{same-test}
 use Rattle.doubles.proofs.Sums.{limit, round-is}
-use Rattle.doubles.proofs.Largest.{double-says}
+use Rattle.doubles.proofs.Largest.{isDouble, double-says}
 
 -- ---- the logic's rounding is ours
 

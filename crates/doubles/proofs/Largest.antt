@@ -3,10 +3,10 @@
 use mathlib.Core.Path.{_≡_, refl, sym}
 use Prim.Native.Nat.{ℕ, suc, _+_, _-_, _*_, _^_, _≤_, _<_}
 use native.Mathlib.Nat.{le-trans, le-of-eq, lt-of-lt-of-le, lt-of-le-of-lt, lt-irrefl, add-le-add, le-refl}
-use mathlib.Core.Bool.{Bool, true, false, not}
+use mathlib.Core.Bool.{Bool, true, false, not, _&&_}
 use lib.Dec.{T, leb, ltb, eqb, leb→le, nleb→lt, ltb→lt, eqb→eq, lit<, T-not}
 use lib.Ieee.Fits.{and-l, and-r}
-use Rattle.doubles.specs.Double.{Double, notANumber, infinite, finite, one, rounded, sum, sumFinite, less, atMost, isFinite, isDouble}
+use Rattle.doubles.specs.Double.{Double, notANumber, infinite, finite, one, rounded, sum, sumFinite, less, atMost, isFinite}
 use Rattle.doubles.proofs.Rounding.{rounded-mono}
 use Rattle.doubles.proofs.Order.{same-test, at-most-not-less, minus-plus, plus-plus, minus-minus}
 use Rattle.doubles.proofs.Sums.{limit, sum-below}
@@ -31,6 +31,13 @@ edge-up = refl
 largest-below : largest < limit
 unfolding largest limit
 largest-below = lit< tt
+
+-- A sign and a number of units is a double where rounding does not change it.
+unfoldable pub isDouble : Double → Bool
+unfolding rounded
+isDouble notANumber = true
+isDouble (infinite s) = true
+isDouble (finite s n) = eqb (rounded n) n && ltb n (2 ^ 1024 * one)
 
 pub double-says : (s : Bool) (m : ℕ) → T (isDouble (finite s m)) → (rounded m ≡ m) × (m < limit)
 unfolding isDouble limit

@@ -111,14 +111,7 @@ isFinite notANumber = false
 isFinite (infinite s) = false
 isFinite (finite s n) = true
 
--- ---- which values the format holds, and under which bit pattern
-
--- A sign and a number of units is a double where rounding does not change it.
-unfoldable pub isDouble : Double → Bool
-unfolding rounded
-isDouble notANumber = true
-isDouble (infinite s) = true
-isDouble (finite s n) = eqb (rounded n) n && ltb n (2 ^ 1024 * one)
+-- ---- which value a bit pattern stands for
 
 -- a pattern's sign, its 11 digits of exponent, its 52 digits of fraction
 unfoldable pub ofFields : Bool → ℕ → ℕ → Double

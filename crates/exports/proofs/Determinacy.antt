@@ -7,8 +7,8 @@ use mathlib.Core.List.{List, [], map}
 use lib.Dec.{T}
 use lib.Ieee.{Float}
 use Rattle.doubles.specs.Double.{Double}
-use Rattle.doubles.specs.Units.{units, allHeld}
-use Rattle.doubles.proofs.Determinacy.{column-once}
+use Rattle.doubles.specs.Units.{units}
+use Rattle.doubles.proofs.Determinacy.{allHeld, column-once}
 use Rattle.refusal.proofs.Codings.{coded-once}
 use Rattle.trie.specs.Trie.{Trie}
 use Rattle.rows.specs.Columns.{Columns}

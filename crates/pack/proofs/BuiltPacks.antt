@@ -12,9 +12,10 @@ use lib.Ieee.{Float, binary64, ofBits}
 use lib.Ieee.Bits.{ofBits-fits}
 use lib.ListN.{length, take, drop, length-drop}
 use lib.Seq.{getD-drop}
-use Rattle.doubles.specs.Double.{Double, isDouble, ofPattern}
+use Rattle.doubles.specs.Double.{Double, ofPattern}
 use Rattle.doubles.specs.Units.{units}
 use Rattle.doubles.proofs.Floats.{units-is-double}
+use Rattle.doubles.proofs.Largest.{isDouble}
 use Rattle.doubles.proofs.Patterns.{pattern-is-double}
 use Rattle.refusal.specs.declared.Fault.the-variants as fault
 use Rattle.refusal.specs.declared.Reason.the-variants as reason

@@ -9,9 +9,9 @@ use Prim.Native.Nat.{ℕ}
 use lib.Dec.{T}
 use lib.Ieee.{Float}
 use Rattle.refusal.proofs.Lists.{zero-one}
-use Rattle.doubles.specs.Units.{units, held, allHeld}
+use Rattle.doubles.specs.Units.{units}
 use Rattle.doubles.proofs.Floats.{units-injective}
-use Rattle.doubles.proofs.Determinacy.{column-once}
+use Rattle.doubles.proofs.Determinacy.{held, allHeld, column-once}
 use Rattle.refusal.specs.declared.Reason.{Reason}
 use Rattle.build.specs.Memory.{Memory, withScores}
 use Rattle.build.specs.Promise.{built, refused}

@@ -5,8 +5,8 @@ use mathlib.Core.List.{List, map}
 use Prim.Native.Nat.{ℕ}
 use lib.Dec.{T}
 use lib.Ieee.{Float}
-use Rattle.doubles.specs.Units.{units, held}
-use Rattle.doubles.proofs.Determinacy.{float-once}
+use Rattle.doubles.specs.Units.{units}
+use Rattle.doubles.proofs.Determinacy.{held, float-once}
 use Rattle.refusal.specs.declared.Judged.{Judged}
 use Rattle.refusal.specs.Refusal.{faultIn}
 use Rattle.refusal.proofs.Tests.{judged-once}

@@ -9,7 +9,8 @@ use lib.Dec.{T}
 use lib.Ieee.{Float, nan}
 use lib.ListN.{length, getD, take, drop, drop-of-length-le}
 use lib.Seq.{drop-cons, take-all}
-use Rattle.doubles.specs.Double.{Double, plusZero, minusTen, sum, atMost, isNumber, isFinite, isDouble, lowerOf}
+use Rattle.doubles.specs.Double.{Double, plusZero, minusTen, sum, atMost, isNumber, isFinite, lowerOf}
+use Rattle.doubles.proofs.Largest.{isDouble}
 use Rattle.doubles.specs.Units.{units}
 use Rattle.doubles.proofs.Order.{lower-is-one, lower-at-most, at-most-refl, at-most-trans}
 use Rattle.doubles.proofs.Largest.{minus-ten-finite}

@@ -11,9 +11,9 @@ use lib.Ieee.{Float}
 use Rattle.refusal.proofs.Lists.{zero-one}
 use Rattle.refusal.specs.declared.Reason.{Reason}
 use Rattle.doubles.specs.Double.{Double}
-use Rattle.doubles.specs.Units.{units, held, allHeld}
+use Rattle.doubles.specs.Units.{units}
 use Rattle.doubles.proofs.Floats.{units-injective}
-use Rattle.doubles.proofs.Determinacy.{column-once}
+use Rattle.doubles.proofs.Determinacy.{held, allHeld, column-once}
 use Rattle.rows.specs.declared.Kind.the-variants.{Unigram}
 use Rattle.rows.specs.Columns.{Columns, rowsOf, columnsFault}
 use Rattle.build.specs.Memory.{Memory, withScores, noScoredRoom}

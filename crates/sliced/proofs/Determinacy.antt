@@ -8,8 +8,8 @@ use Rattle.refusal.specs.declared.Reason.{Reason}
 use lib.Dec.{T}
 use lib.Ieee.{Float}
 use lib.ListN.{length}
-use Rattle.doubles.specs.Units.{units, allHeld}
-use Rattle.doubles.proofs.Determinacy.{column-once}
+use Rattle.doubles.specs.Units.{units}
+use Rattle.doubles.proofs.Determinacy.{allHeld, column-once}
 use Rattle.rows.specs.Rows.{Row}
 use Rattle.build.specs.Memory.{Memory, withScores}
 use Rattle.build.specs.Promise.{built, buildFault}

@@ -12,9 +12,10 @@ use native.Mathlib.Omega.{arith}
 use lib.Dec.{T}
 use lib.Ieee.{Float, nan, binary64, fits}
 use lib.ListN.{length, getD, take, length-map}
-use Rattle.doubles.specs.Double.{Double, plusZero, isDouble}
+use Rattle.doubles.specs.Double.{Double, plusZero}
 use Rattle.doubles.specs.Units.{units}
 use Rattle.doubles.proofs.Floats.{units-is-double}
+use Rattle.doubles.proofs.Largest.{isDouble}
 use Rattle.refusal.specs.declared.Fault.the-variants as fault
 use Rattle.refusal.specs.declared.CodeAnswer.the-variants.{Refused}
 use Rattle.refusal.proofs.Codings.{refused-exactly}

@@ -9,8 +9,7 @@ use mathlib.Core.Option.{none, some}
 use lib.Dec.{T}
 use lib.Ieee.{Float}
 use lib.ListN.{length}
-use Rattle.doubles.specs.Units.{allHeld}
-use Rattle.doubles.proofs.Determinacy.{column-once}
+use Rattle.doubles.proofs.Determinacy.{allHeld, column-once}
 use Rattle.refusal.specs.declared.Fault.{Fault}
 use Rattle.refusal.specs.declared.CodeAnswer.{CodeAnswer}
 use Rattle.refusal.specs.declared.CodeAnswer.the-variants.{Ids, Refused}
