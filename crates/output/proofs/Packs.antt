@@ -110,14 +110,15 @@ module _ (pack edgeAt edgeN id : List ℕ) (scores : List Float) (byte to : List
   -- the lent columns have room for so many nodes
   cuttable : {answer : PackAnswer} {n : ℕ} → Judged pack answer edgeAt edgeN id scores byte to → (1 ≤ n) × (n ≤ 4_096) → Cuttable n edgeAt edgeN id scores byte to
   cuttable j m =
+      let p = j .places in
       record {
         root = m .0;
-        starts = omega (arith, m .1, j .starts);
-        counts = omega (arith, m .1, j .counts);
-        ids = omega (arith, m .1, j .ids);
-        scores = omega (arith, m .1, j .places);
-        bytes = omega (arith, m .1, j .bytes);
-        targets = omega (arith, m .1, j .targets);
+        starts = omega (arith, m .1, p .starts);
+        counts = omega (arith, m .1, p .counts);
+        ids = omega (arith, m .1, p .ids);
+        scores = omega (arith, m .1, p .scores);
+        bytes = omega (arith, m .1, p .bytes);
+        targets = omega (arith, m .1, p .targets);
       }
 
   pub judged-refused :

@@ -40,9 +40,4 @@ pub record Judged (pack : List ℕ) (answer : PackAnswer) (edgeAt edgeN id : Lis
   pub work : List ℕ
   pub built : PackBuilt pack lentMemory answer (withScores (memory edgeAt edgeN id byte to work) (map units scores))
   pub small : length pack ≤ 65_536
-  pub starts : length edgeAt ≡ 4_096
-  pub counts : length edgeN ≡ 4_096
-  pub ids : length id ≡ 4_096
-  pub places : length scores ≡ 4_096
-  pub bytes : length byte ≡ 4_096
-  pub targets : length to ≡ 4_096
+  pub places : Cuttable 4_096 edgeAt edgeN id scores byte to

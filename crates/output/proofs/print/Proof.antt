@@ -7,6 +7,7 @@ use Rattle.doubles.proofs.Patterns.{zero-units}
 use Rattle.text.specs.Ascii.{ascii}
 use Rattle.output.proofs.Putting.{put-as}
 use Rattle.output.proofs.Packs.{lent-built, pack-large, pack-small}
+use native.Mathlib.Omega.{arith}
 use borrow.Author.Needs.{needs}
 use Rattle.output.proofs.print.Statement.{statement}
 use Rattle.output.proofs.print.Tie as tie
@@ -37,12 +38,16 @@ print-built-requires c κs =
         work = b .build .last .1 .1 .1 .1 .1 .1 .1 .0;
         built = lent-built (entry b .args .pack .now) (b .build .result) _ zero-units (b .build .ensures);
         small = tested b .if1 .left;
-        starts = kept .1 .0 ∙ n;
-        counts = kept .1 .1 .0 ∙ n;
-        ids = kept .1 .1 .1 .0 ∙ n;
-        places = kept .1 .1 .1 .1 .0 ∙ length-replicate {A = Float} 4_096 (ofBits binary64 0);
-        bytes = kept .1 .1 .1 .1 .1 .0 ∙ n;
-        targets = kept .1 .1 .1 .1 .1 .1 .0 ∙ n;
+        places =
+            record {
+              root = omega arith;
+              starts = omega (arith, kept .1 .0, n);
+              counts = omega (arith, kept .1 .1 .0, n);
+              ids = omega (arith, kept .1 .1 .1 .0, n);
+              scores = omega (arith, kept .1 .1 .1 .1 .0, length-replicate {A = Float} 4_096 (ofBits binary64 0));
+              bytes = omega (arith, kept .1 .1 .1 .1 .1 .0, n);
+              targets = omega (arith, kept .1 .1 .1 .1 .1 .1 .0, n);
+            };
       },
       entry b .pre,
     )
