@@ -1,5 +1,4 @@
 -- `output::print` meets its contract: a pack that is too large is refused, and else it is built in zero columns and printed. Assumes nothing.
-use mathlib.Core.Path.{_∙_}
 use Prim.Native.Nat.{ℕ}
 use lib.Ieee.{Float, binary64, ofBits}
 use lib.ListN.{length-replicate}
@@ -12,7 +11,12 @@ use borrow.Author.Needs.{needs}
 use Rattle.output.proofs.print.Statement.{statement}
 use Rattle.output.proofs.print.Tie as tie
 
--- ---- the ways back from the pack's build: to the test, and to the start
+-- ---- the ways back: from what is printed to the pack's build, from there to the test, and to the start
+
+abbrev built : tie.After-print-built-arg → tie.After-build
+built c =
+    let k = c .before .before .before .before .before .before .before in
+    k .before .before .before .before .before .before .before
 
 abbrev tested : tie.After-build → tie.Else1
 tested c = let k = c .before .before .before .before in k .before .before .before .before
@@ -30,8 +34,7 @@ returns c =
 
 print-built-requires : tie.Need-print-built-requires
 print-built-requires c κs =
-    let k = c .before .before .before .before .before .before .before in
-    let b = k .before .before .before .before .before .before .before in
+    let b = built c in
     let n = length-replicate {A = ℕ} 4_096 0 in
     let kept = b .build .kept in (
       record {
@@ -55,8 +58,7 @@ print-built-requires c κs =
 returns-2 : tie.Need-returns-2
 returns-2 c =
     let p = c .before .before in
-    let k = p .before .before .before .before .before .before .before .before in
-    let b = k .before .before .before .before .before .before .before in
+    let b = built (p .before) in
     let a = entry b .args in
     put-as (pack-small (a .pack .now) (a .input .now) (tested b .if1 .left)) (p .print-built .ensures)
 

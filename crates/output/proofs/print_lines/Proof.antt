@@ -16,6 +16,26 @@ use Rattle.output.proofs.print_lines.Tie as tie
 abbrev entry : tie.After-slice-known → tie.Start
 entry c = let k = c .before .before .before .before in k .before .before .before .before .before
 
+-- ---- and from each part that is cut out for `put_lines`, in turn
+
+abbrev cut : tie.After-put-lines-arg → tie.Start
+cut c = entry (c .before .before)
+
+abbrev cut2 : tie.After-put-lines-arg2 → tie.Start
+cut2 c = cut (c .before)
+
+abbrev cut3 : tie.After-put-lines-arg3 → tie.Start
+cut3 c = cut2 (c .before)
+
+abbrev cut4 : tie.After-put-lines-arg4 → tie.Start
+cut4 c = cut3 (c .before)
+
+abbrev cut5 : tie.After-put-lines-arg5 → tie.Start
+cut5 c = cut4 (c .before)
+
+abbrev cut6 : tie.After-put-lines-arg6 → tie.Start
+cut6 c = cut5 (c .before)
+
 -- what a line prints
 abbrev prints : tie.Start → List ℕ → List ℕ
 prints s =
@@ -31,22 +51,22 @@ returns c =
     put-as (lines-many (prints s) (s .args .input .now) (t .if1 .taken)) (p .put-refusal .ensures .0)
 
 slice-aggregate-put-lines : tie.Need-slice-aggregate-put-lines
-slice-aggregate-put-lines c = let s = entry (c .before .before) in cut-long (s .args .nodes) (s .args .edge-at .now) (s .pre .0 .starts)
+slice-aggregate-put-lines c = let s = cut c in cut-long (s .args .nodes) (s .args .edge-at .now) (s .pre .0 .starts)
 
 slice-aggregate-put-lines-2 : tie.Need-slice-aggregate-put-lines-2
-slice-aggregate-put-lines-2 c = let s = entry (c .before .before .before) in cut-long (s .args .nodes) (s .args .edge-n .now) (s .pre .0 .counts)
+slice-aggregate-put-lines-2 c = let s = cut2 c in cut-long (s .args .nodes) (s .args .edge-n .now) (s .pre .0 .counts)
 
 slice-aggregate-put-lines-3 : tie.Need-slice-aggregate-put-lines-3
-slice-aggregate-put-lines-3 c = let s = entry (c .before .before .before .before) in cut-long (s .args .nodes) (s .args .id .now) (s .pre .0 .ids)
+slice-aggregate-put-lines-3 c = let s = cut3 c in cut-long (s .args .nodes) (s .args .id .now) (s .pre .0 .ids)
 
 slice-aggregate-put-lines-4 : tie.Need-slice-aggregate-put-lines-4
-slice-aggregate-put-lines-4 c = let s = entry (c .before .before .before .before .before) in cut-long (s .args .nodes) (s .args .score .now) (s .pre .0 .scores)
+slice-aggregate-put-lines-4 c = let s = cut4 c in cut-long (s .args .nodes) (s .args .score .now) (s .pre .0 .scores)
 
 slice-aggregate-put-lines-5 : tie.Need-slice-aggregate-put-lines-5
-slice-aggregate-put-lines-5 c = let s = entry (c .before .before .before .before .before .before) in cut-long (s .args .nodes - 1) (s .args .byte .now) (s .pre .0 .bytes)
+slice-aggregate-put-lines-5 c = let s = cut5 c in cut-long (s .args .nodes - 1) (s .args .byte .now) (s .pre .0 .bytes)
 
 slice-aggregate-put-lines-6 : tie.Need-slice-aggregate-put-lines-6
-slice-aggregate-put-lines-6 c = let s = entry (c .before .before .before .before .before .before .before) in cut-long (s .args .nodes - 1) (s .args .to .now) (s .pre .0 .targets)
+slice-aggregate-put-lines-6 c = let s = cut6 c in cut-long (s .args .nodes - 1) (s .args .to .now) (s .pre .0 .targets)
 
 returns-2 : tie.Need-returns-2
 returns-2 c =
