@@ -37,7 +37,7 @@ segmented-coded p = record { coded = p .coded; law = p .law }
 
 -- the same scratch with these id places
 abbrev pub withPlaces : List ℕ → Scratch → Scratch
-withPlaces places b = record { start = b .start; id = b .id; score = b .score; path = b .path; ids = places }
+withPlaces places b = record { slots = b .slots; path = b .path; ids = places }
 
 pub encoded-coded :
     (t : Trie) (unknown maxChars : ℕ) (prefix s : List ℕ) (before : Scratch) {answer : CodeAnswer} {places : List ℕ}

@@ -34,9 +34,9 @@ cut-once p q = (p .count ∙ sym (q .count), p .left ∙ sym (q .left))
 module _ {a b c d a′ b′ c′ d′ : List ℕ} (x x′ : List Float) (held : T (allHeld x)) (held′ : T (allHeld x′)) where
   pub scratch-once : scratchOf a b x c d ≡ scratchOf a′ b′ x′ c′ d′ → (a ≡ a′) × (b ≡ b′) × (x ≡ x′) × (c ≡ c′) × (d ≡ d′)
   scratch-once e = (
-    ap (λ (u : Scratch). u .start) e,
-    ap (λ (u : Scratch). u .id) e,
-    column-once x x′ held held′ (ap (λ (u : Scratch). u .score) e),
+    ap (λ (u : Scratch). u .slots .start) e,
+    ap (λ (u : Scratch). u .slots .id) e,
+    column-once x x′ held held′ (ap (λ (u : Scratch). u .slots .score) e),
     ap (λ (u : Scratch). u .path) e,
     ap (λ (u : Scratch). u .ids) e,
   )

@@ -27,7 +27,7 @@ use Rattle.trie.proofs.SoundParts.{scored-of}
 use Rattle.trie.proofs.Lookups.{lookup-fine, sound-lookup}
 use Rattle.build.specs.Memory.{anyBelow}
 use Rattle.unigram.specs.Pieces.{Model, piecesOf, idsOf}
-use Rattle.unigram.specs.Segment.{Scratch, Lengths, lengthsOf, slotsIn, shortScratch, segmentFault, soundModel, written, writes, Segmented}
+use Rattle.unigram.specs.Segment.{Scratch, Lengths, lengthsOf, shortScratch, segmentFault, soundModel, written, writes, Segmented}
 use Rattle.unigram.specs.Work.{Ready}
 use Rattle.unigram.specs.Checked.{scratchOf, lengths, Prepared, Cut}
 use Rattle.unigram.proofs.Merging.{merged-few}
@@ -94,7 +94,7 @@ module _ (m : Model) (s : List ℕ) (b : Scratch) where
       record {
         left = sym stays;
         count = omega (arith, merging, pieces-few ready, characters-le s);
-        law = law-held ready (slotsIn b) (λ j l inside. absurd (omega arith));
+        law = law-held ready (b .slots) (λ j l inside. absurd (omega arith));
       }
 
   -- what the cutting leaves is what is promised

@@ -107,7 +107,7 @@ module _ {m : Model} {s : List ℕ} (ready : Ready m s) where
 -- ---- all together
 
 scratch : Slots → List ℕ → List ℕ → Scratch
-scratch c path ids = record { start = c .start; id = c .id; score = c .score; path = path; ids = ids }
+scratch c path ids = record { slots = c; path = path; ids = ids }
 
 pub cut-of :
     {m : Model} {s : List ℕ} (ready : Ready m s) {starts ids : List ℕ} {scores : List Float} {path places : List ℕ} (starts′ ids′ : List ℕ)

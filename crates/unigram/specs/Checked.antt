@@ -1,21 +1,20 @@
 -- What the cutting of a text rests on, once all has been tested, and what it leaves. Definitions only; assumes nothing.
 use mathlib.Core.Path.{_≡_}
 use Prim.Native.Nat.{ℕ, _≤_, _<_}
-use mathlib.Core.List.{List, map}
+use mathlib.Core.List.{List}
 use lib.Ieee.{Float}
 use lib.ListN.{length}
 use denote.Ref.{RefT, now}
-use Rattle.doubles.specs.Units.{units}
 use Rattle.refusal.specs.Lent.{Lent, was, is}
 use Rattle.text.specs.Text.{characters}
 use Rattle.unigram.specs.Pieces.{Model, idsOf}
-use Rattle.cutting.specs.Slots.{Inside}
+use Rattle.cutting.specs.Slots.{slotsOf, Inside}
 use Rattle.unigram.specs.Work.{Ready}
 use Rattle.unigram.specs.Segment.{Scratch, Lengths, writes, RecordLaw}
 
 -- the lent columns
 abbrev pub scratchOf : List ℕ → List ℕ → List Float → List ℕ → List ℕ → Scratch
-scratchOf start id score path ids = record { start = start; id = id; score = map units score; path = path; ids = ids }
+scratchOf start id score path ids = record { slots = slotsOf start id score; path = path; ids = ids }
 
 -- the same as a contract names the columns: as the call found them, and as it left them
 abbrev pub scratchWas : Lent ℕ → Lent ℕ → Lent Float → Lent ℕ → Lent ℕ → Scratch

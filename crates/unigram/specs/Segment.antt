@@ -6,7 +6,6 @@ use mathlib.Core.List.{List, [], _∷_}
 use mathlib.Core.Option.{Option, none}
 use lib.Dec.{T, ltb, eqb}
 use lib.ListN.{length}
-use Rattle.doubles.specs.Double.{Double}
 use Rattle.refusal.specs.declared.Fault.{Fault}
 use Rattle.refusal.specs.declared.Fault.the-variants as fault
 use Rattle.refusal.specs.declared.CodeAnswer.{CodeAnswer}
@@ -25,9 +24,7 @@ use Rattle.unigram.specs.Pieces.{Model, rule, idsOf}
 
 -- the lent slot columns, path and ids
 pub record Scratch : Type 0 where
-  pub start : List ℕ
-  pub id : List ℕ
-  pub score : List Double
+  pub slots : Slots
   pub path : List ℕ
   pub ids : List ℕ
 
@@ -41,7 +38,8 @@ pub record Lengths : Type 0 where
 
 abbrev pub lengthsOf : Scratch → Lengths
 lengthsOf b =
-    record { starts = length (b .start); slotIds = length (b .id); scores = length (b .score); path = length (b .path); ids = length (b .ids) }
+    let c = b .slots in
+    record { starts = length (c .start); slotIds = length (c .id); scores = length (c .score); path = length (b .path); ids = length (b .ids) }
 
 -- 9: "non-empty Unigram text, fewer slots in any lent column than bytes + 1 or fewer path places than characters"
 unfoldable pub shortScratch : List ℕ → Lengths → Bool
@@ -56,27 +54,15 @@ segmentFault soundParts s n =
     (refuse (shortScratch s n) fault.Scratch
     (refuse (ltb (n .ids) (characters s)) fault.Ids none))
 
--- the slot columns
-abbrev pub slotsIn : Scratch → Slots
-slotsIn b = record { start = b .start; id = b .id; score = b .score }
-
 -- "After success: ids in order; places past them unchanged; the first path places hold the end offsets of the pieces before
 -- merging, in order, the rest unchanged; slot 0 and slots inside characters are empty; other slots up to the text's length hold
 -- start, id and score; later slots unchanged." First the slots and the path, by the cutting alone.
 abbrev pub withCutting : Rule → ℕ → Scratch → Scratch
-withCutting rule n b =
-    let slots = slotsLeft rule n (slotsIn b) in
-    record {
-      start = slots .start;
-      id = slots .id;
-      score = slots .score;
-      path = pathLeft rule n (b .path);
-      ids = b .ids;
-    }
+withCutting rule n b = record { slots = slotsLeft rule n (b .slots); path = pathLeft rule n (b .path); ids = b .ids }
 
 -- then the ids, whatever the rest holds
 abbrev pub withIds : List ℕ → Scratch → Scratch
-withIds ids b = record { start = b .start; id = b .id; score = b .score; path = b .path; ids = overlay ids (b .ids) }
+withIds ids b = record { slots = b .slots; path = b .path; ids = overlay ids (b .ids) }
 
 unfoldable pub written : Model → List ℕ → Scratch → Scratch
 written m s b = withIds (idsOf m s) (withCutting (rule m s) (length s) b)
@@ -87,7 +73,7 @@ writes m s b = cond (eqb (length s) 0) b (written m s b)
 
 -- Demand 3, of the slots that stand when the call has ended, with at most one piece a character.
 abbrev pub RecordLaw : Model → List ℕ → Scratch → Type 0
-RecordLaw m s after = law.RecordLaw (rule m s) (λ j. T (boundary s j)) s (characters s) (slotsIn after)
+RecordLaw m s after = law.RecordLaw (rule m s) (λ j. T (boundary s j)) s (characters s) (after .slots)
 
 -- the parts and the unknown score are sound
 abbrev pub soundModel : Model → Bool
