@@ -5,14 +5,14 @@ use lib.Ieee.{Float}
 use denote.Ref.{RefT, now}
 use Rattle.refusal.specs.Lent.{Lent, was}
 use Rattle.trie.specs.Trie.{partsOf}
-use Rattle.unigram.specs.Work.{modelOf, pieceWith}
+use Rattle.unigram.specs.Work.{modelOf}
 use Rattle.coder.specs.declared.Coder.{Coder}
 use Rattle.coder.specs.declared.Coder.the-variants.{Unigram, WordPiece}
 use Rattle.coder.specs.Vocabulary.{Vocabulary, unigramOf, wordpieceOf}
 
 unfoldable pub vocabularyOf : Coder → List ℕ → List ℕ → List ℕ → List Float → List ℕ → List ℕ → List ℕ → Vocabulary
 vocabularyOf (Unigram unknown unknownScore) edgeAt edgeN id score byte to prefix =
-    unigramOf (modelOf edgeAt edgeN id score byte to (pieceWith unknown unknownScore))
+    unigramOf (modelOf edgeAt edgeN id score byte to unknown unknownScore)
 vocabularyOf (WordPiece unknown maxChars) edgeAt edgeN id score byte to prefix =
     wordpieceOf (partsOf edgeAt edgeN id byte to) unknown maxChars prefix
 

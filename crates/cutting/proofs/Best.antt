@@ -15,10 +15,10 @@ use Rattle.doubles.specs.Double.{Double, notANumber, infinite, finite, plusZero
 use Rattle.doubles.proofs.Order.{less-at-most, at-most-refl, not-less-at-most, at-most-antisymm, at-most-trans, at-most-less-trans, same-equal}
 use Rattle.doubles.proofs.Sums.{sum-number, sum-mono, never-minus-zero}
 use Rattle.cutting.specs.Cuttings.{Piece, Rule, Slot, nth, Cutting, empty, then, total, Through, whole, Best}
-use Rattle.cutting.specs.Records.{offered, candidate, offeredAll, best, standsAt}
+use Rattle.cutting.specs.Records.{offered, candidate, offeredAll, best}
 use Rattle.cutting.proofs.Laws.{keeps, takes}
 use Rattle.refusal.proofs.Lists.{none-some, true-false, below-or}
-use Rattle.cutting.proofs.Working.{Pieces, some-same, looked}
+use Rattle.cutting.proofs.Working.{Pieces, standsAt, some-same, looked}
 use Rattle.cutting.proofs.Working.{worked, passed, none-before, stands-first, stands-record, record-stands}
 
 pub is-true : (t : Bool) → T t → t ≡ true

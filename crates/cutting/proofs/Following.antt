@@ -11,9 +11,9 @@ use lib.ListN.{length, take, drop, length-append}
 use lib.Seq.{take-add, drop-drop}
 use Rattle.doubles.specs.Double.{Double, plusZero, sum}
 use Rattle.cutting.specs.Cuttings.{Piece, Rule, Slot, Step, nth, Chain, added, joined}
-use Rattle.cutting.specs.Records.{best, followed, standsAt}
+use Rattle.cutting.specs.Records.{best, followed}
 use Rattle.cutting.specs.Tracing.{Ends, no-more, and-then}
-use Rattle.cutting.proofs.Working.{Pieces, some-same, none-before, stands-first, stands-record}
+use Rattle.cutting.proofs.Working.{Pieces, standsAt, some-same, none-before, stands-first, stands-record}
 use Rattle.cutting.proofs.Best.{Standing, sooner-below, filled}
 
 -- a piece as the path has it

@@ -11,12 +11,19 @@ use borrow.Author.Tests.{lt-leb, le-leb}
 use Rattle.doubles.specs.Double.{Double, sum, less}
 use Rattle.refusal.specs.Sizes.{noId}
 use Rattle.cutting.specs.Cuttings.{Piece, Rule, Slot, nth, Best}
-use Rattle.cutting.specs.Records.{offered, candidate, offeredAll, best, shown, standsAt}
-use Rattle.cutting.specs.Slots.{Slots, slotAt, Cleared, taken, afterOffers}
+use Rattle.cutting.specs.Records.{offered, candidate, offeredAll, best, shown}
+use Rattle.cutting.specs.Slots.{Slots, slotAt, Cleared, taken}
 use Rattle.cutting.specs.Law.{Holds, Recorded}
-use Rattle.cutting.proofs.Working.{Pieces, worked, none-before, unchanged, absent, stands-first, record-stands, settled-le}
+use Rattle.cutting.proofs.Working.{Pieces, standsAt, worked, none-before, unchanged, absent, stands-first, record-stands, settled-le}
 use Rattle.cutting.proofs.Best.{sooner-below, stood, filled, is-best}
 use Rattle.cutting.proofs.Columns.{taken-empty, taken-weighed}
+
+-- the slot where pieces from `at` end, once it has been offered each in turn whose sum counts; x stands before them
+unfoldable pub afterOffers : (Double → Bool) → List Piece → Double → ℕ → Slot → Slot
+afterOffers counts [] x at r = r
+afterOffers counts (p ∷ ps) x at r =
+    let q = candidate x at p in
+    afterOffers counts ps x at (cond (counts (q .score)) (taken r q) r)
 
 -- each piece from `at` has been offered; x stands before them
 pub record AllOffered (rule : Rule) (at : ℕ) (x : Double) (before after : Slots) : Type 0 where
@@ -120,8 +127,14 @@ module _ {end : ℕ} {rule : Rule} (g : Pieces end rule) where
   holds-jumped {from} {upto} l off h =
       record { slots = λ j inside. h .slots j inside ∙ ap shown (sym (unchanged rule from upto j l (λ i a b. absent (rule .pieces i j) (λ k p e. off i j k p a b e)))) }
 
-  -- after the last start; something stands wherever is come to
-  pub recorded : {come : ℕ → Type 0} {from : ℕ} {before after : Slots} → ((j : ℕ) → j ≤ end → come j → (x : Double) × (standsAt rule j ≡ some x)) → from ≡ end → Holds rule end from after → ((k : ℕ) → end < k → slotAt after k ≡ slotAt before k) → Recorded rule come end before after
-  recorded {before = before} {after = after} reach e h past =
-      let all : Holds rule end end after = subst (λ (n : ℕ). Holds rule end n after) e h in
-      record { holds = all; best = λ j l inside at. let w = reach j inside at in best-held end after all j (w .0) l inside inside (w .1); past = past }
+  -- so the records stand, where something stands wherever is come to
+  pub recorded :
+      {come : ℕ → Type 0} {at from : ℕ} {before after : Slots} → ((j : ℕ) → j ≤ end → come j → (x : Double) × (standsAt rule j ≡ some x)) → at ≡ from
+      → from ≤ end → Holds rule end at after → ((k : ℕ) → end < k → slotAt after k ≡ slotAt before k) → Recorded rule come end from before after
+  recorded {from = from} {after = after} reach e inside h past =
+      let held : Holds rule end from after = subst (λ (n : ℕ). Holds rule end n after) e h in
+      record {
+        holds = held;
+        best = λ j l p at. let w = reach j (omega arith) at in best-held from after held j (w .0) l p (omega arith) (w .1);
+        past = past;
+      }

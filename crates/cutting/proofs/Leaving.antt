@@ -14,12 +14,12 @@ use Rattle.doubles.specs.Double.{Double, plusZero}
 use Rattle.refusal.specs.Sizes.{noId, maxText}
 use Rattle.refusal.specs.Places.{overlay}
 use Rattle.cutting.specs.Cuttings.{Rule, Slot, Best, Step}
-use Rattle.cutting.specs.Records.{best, shown, recordsFrom, followed, standsAt}
+use Rattle.cutting.specs.Records.{best, shown, recordsFrom, followed}
 use Rattle.cutting.specs.Slots.{Slots, slotAt}
-use Rattle.cutting.specs.Tracing.{followedIn, endsFrom, stepsAt, Ends, Falling, Traced}
+use Rattle.cutting.specs.Tracing.{followedIn, endsFrom, stepsAt, Ends, Falling}
 use Rattle.cutting.specs.Law.{Recorded, bestPieces, slotsLeft, pathLeft, RecordLaw}
 use Rattle.refusal.proofs.Lists.{below-or, map-inside}
-use Rattle.cutting.proofs.Working.{Pieces, settled-le}
+use Rattle.cutting.proofs.Working.{Pieces, standsAt, settled-le}
 use Rattle.cutting.proofs.Best.{sooner-below, filled, is-best}
 use Rattle.cutting.proofs.Following.{piece-to, map-more, followed-first, followed-more, chained, chain-ends, covers}
 use Rattle.cutting.proofs.Tracing.{falling}
@@ -135,7 +135,7 @@ module _
 
 -- ---- columns that hold the records
 
-module _ {end : ℕ} {rule : Rule} (g : Pieces end rule) {come : ℕ → Type 0} {b a : Slots} (r : Recorded rule come end b a) where
+module _ {end : ℕ} {rule : Rule} (g : Pieces end rule) {come : ℕ → Type 0} {b a : Slots} (r : Recorded rule come end end b a) where
   -- every slot up to the end holds its record
   pub slot-holds : (j : ℕ) → j ≤ end → slotAt a j ≡ shown (best rule j j)
   slot-holds j l = r .holds .slots j l ∙ ap shown (settled-le g end j l)
@@ -185,9 +185,9 @@ module _ {end : ℕ} {rule : Rule} (g : Pieces end rule) {come : ℕ → Type 0}
         ∙ steps-in a end end
         ∙ pieces-are
 
-    pub path-left : {before after : List ℕ} → Traced (a .start) end before after → after ≡ pathLeft rule end before
+    pub path-left : (before : List ℕ) {after : List ℕ} → after ≡ overlay (endsFrom (a .start) end end) before → after ≡ pathLeft rule end before
     unfolding pathLeft
-    path-left {before} t = t .path ∙ ap (λ (u : List ℕ). overlay u before) path-is
+    path-left before t = t ∙ ap (λ (u : List ℕ). overlay u before) path-is
 
 -- ---- demand 3
 

@@ -9,9 +9,8 @@ use native.Mathlib.Omega.{arith}
 use lib.Dec.{T}
 use Rattle.doubles.specs.Double.{Double}
 use Rattle.cutting.specs.Cuttings.{Piece, Rule, nth, Cutting, empty, then, total}
-use Rattle.cutting.specs.Records.{standsAt}
 use Rattle.refusal.proofs.Lists.{true-false, below-or}
-use Rattle.cutting.proofs.Working.{Pieces}
+use Rattle.cutting.proofs.Working.{Pieces, standsAt}
 use Rattle.cutting.proofs.Best.{at-most-best}
 
 -- pieces end at boundaries, and from each before the end there is one that reaches the next

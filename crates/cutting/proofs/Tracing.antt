@@ -12,10 +12,10 @@ use lib.Seq.{set-split, drop-at, length-take-le}
 use Rattle.doubles.specs.Double.{Double}
 use Rattle.refusal.specs.Sizes.{noId, maxText}
 use Rattle.cutting.specs.Cuttings.{Rule, Slot}
-use Rattle.cutting.specs.Records.{best, shown, standsAt}
+use Rattle.cutting.specs.Records.{best, shown}
 use Rattle.cutting.specs.Tracing.{endsFrom, Falling}
 use Rattle.refusal.proofs.Lists.{true-false, place-inside}
-use Rattle.cutting.proofs.Working.{Pieces}
+use Rattle.cutting.proofs.Working.{Pieces, standsAt}
 use Rattle.cutting.proofs.Best.{sooner-below, filled}
 
 module _ (starts : List ℕ) where

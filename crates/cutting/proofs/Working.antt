@@ -11,7 +11,7 @@ use native.Mathlib.Omega.{arith}
 use lib.Dec.{T}
 use Rattle.doubles.specs.Double.{Double, plusZero, sum, atMost, isNumber, isFinite}
 use Rattle.cutting.specs.Cuttings.{Piece, Rule, Slot, nth}
-use Rattle.cutting.specs.Records.{offeredAll, standing, best, standsAt}
+use Rattle.cutting.specs.Records.{offeredAll, standing, best}
 use Rattle.refusal.proofs.Lists.{none-some, below-or}
 
 -- What is asked of a rule. A piece is not empty, ends within the text and has a finite score. A sum that counts is a number,
@@ -24,6 +24,10 @@ pub record Pieces (end : ℕ) (rule : Rule) : Type 0 where
   pub number : (x : Double) → T (rule .counts x) → T (isNumber x)
   pub up : (x y : Double) → T (rule .counts x) → T (atMost x y) → T (rule .counts y)
   pub back : (x y : Double) → T (isFinite y) → T (rule .counts (sum x y)) → T (rule .counts x)
+
+-- what stands before i once the starts before it have been worked
+abbrev pub standsAt : Rule → ℕ → Option Double
+standsAt rule i = standing i (best rule i i)
 
 pub some-same : {A : Type 0} {x y : A} → some x ≡ some y → x ≡ y
 some-same e = cc

@@ -15,10 +15,11 @@ use Rattle.cutting.specs.Tracing.{followedIn}
 pub record Holds (rule : Rule) (n from : ℕ) (c : Slots) : Type 0 where
   pub slots : (k : ℕ) → k ≤ n → slotAt c k ≡ shown (best rule from k)
 
--- All of the work is done: every slot up to n holds its record, and demand 3's law holds at every position come to.
-pub record Recorded (rule : Rule) (come : ℕ → Type 0) (n : ℕ) (before after : Slots) : Type 0 where
-  pub holds : Holds rule n n after
-  pub best : (j : ℕ) → 0 < j → j ≤ n → come j → Best rule j (slotAt after j)
+-- The starts before `from` have been worked: the slots up to n hold the records, demand 3's law holds at every position come to
+-- so far, and later slots are unchanged. The work is done where `from` is n.
+pub record Recorded (rule : Rule) (come : ℕ → Type 0) (n from : ℕ) (before after : Slots) : Type 0 where
+  pub holds : Holds rule n from after
+  pub best : (j : ℕ) → 0 < j → j ≤ from → come j → Best rule j (slotAt after j)
   pub past : (k : ℕ) → n < k → slotAt after k ≡ slotAt before k
 
 -- the pieces of the best cutting before n, in order

@@ -8,11 +8,6 @@ use Rattle.doubles.specs.Double.{Double, plusZero, sum, less}
 use Rattle.refusal.specs.Sizes.{noId}
 use Rattle.cutting.specs.Cuttings.{Piece, Rule, Slot, Step}
 
--- the score that stands in a record; an empty one counts as no piece
-unfoldable pub scoreOf : Option Slot → Double
-scoreOf none = plusZero
-scoreOf (some r) = r .score
-
 -- "At each boundary the largest rounded sum stands; equal sums keep the earlier start." An empty record takes what it is
 -- offered, and a full one takes it where its score is greater; starts come earliest first.
 unfoldable pub offered : Option Slot → Slot → Slot
@@ -42,10 +37,6 @@ standing (suc i) (some r) = some (r .score)
 unfoldable pub best : Rule → ℕ → ℕ → Option Slot
 best rule zero j = none
 best rule (suc i) j = offeredAll (rule .counts) (standing i (best rule i i)) i (rule .pieces i j) (best rule i j)
-
--- what stands before i once the starts before it have been worked
-abbrev pub standsAt : Rule → ℕ → Option Double
-standsAt rule i = standing i (best rule i i)
 
 -- a record as a buffer holds it: "empty (start and id 4,294,967,295, score 0)"
 unfoldable pub shown : Option Slot → Slot

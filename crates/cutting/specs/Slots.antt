@@ -1,8 +1,8 @@
 -- What the lent slot columns hold, and what an offer leaves in them. Definitions only; assumes nothing.
 use mathlib.Core.Path.{_≡_}
 use Prim.Native.Nat.{ℕ, _<_}
-use mathlib.Core.Bool.{Bool, cond}
-use mathlib.Core.List.{List, [], _∷_, map}
+use mathlib.Core.Bool.{cond}
+use mathlib.Core.List.{List, map}
 use mathlib.Core.Option.{Option, none, some}
 use lib.Dec.{eqb, leb}
 use lib.Ieee.{Float}
@@ -60,13 +60,6 @@ pub record Cleared (before : Slots) (n : ℕ) (after : Slots) : Type 0 where
 -- A slot that is offered q: an empty one takes it, and a full one takes it where its score is greater.
 unfoldable pub taken : Slot → Slot → Slot
 taken r q = cond (eqb (r .start) noId) q (cond (less (r .score) (q .score)) q r)
-
--- the slot where pieces from `at` end, once it has been offered each in turn whose sum counts; x stands before them
-unfoldable pub afterOffers : (Double → Bool) → List Piece → Double → ℕ → Slot → Slot
-afterOffers counts [] x at r = r
-afterOffers counts (p ∷ ps) x at r =
-    let q = candidate x at p in
-    afterOffers counts ps x at (cond (counts (q .score)) (taken r q) r)
 
 -- the slot where a piece from `at` ends, if there is one, once it has been offered it; x stands before the piece
 unfoldable pub afterOffer : Option Piece → Double → ℕ → Slot → Slot

@@ -5,7 +5,6 @@ use mathlib.Core.Bool.{Bool, true}
 use mathlib.Core.List.{List, [], _∷_, _++_, map}
 use lib.ListN.{length, getD}
 use Rattle.refusal.specs.Sizes.{noId, maxText}
-use Rattle.refusal.specs.Places.{overlay}
 use Rattle.cutting.specs.Cuttings.{Step}
 use Rattle.cutting.specs.Slots.{Slots, slotAt}
 
@@ -42,7 +41,3 @@ pub record Falling (starts : List ℕ) (n : ℕ) : Type 0 where
   pub marked : marks n ≡ true
   pub falls : (j : ℕ) → 0 < j → j ≤ n → marks j ≡ true → getD starts j noId < j
   pub stays : (j : ℕ) → 0 < j → j ≤ n → marks j ≡ true → marks (getD starts j noId) ≡ true
-
--- "the first path places hold the end offsets of the pieces before merging, in order, the rest unchanged"
-pub record Traced (starts : List ℕ) (n : ℕ) (before after : List ℕ) : Type 0 where
-  pub path : after ≡ overlay (endsFrom starts n n) before

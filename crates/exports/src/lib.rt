@@ -12,6 +12,7 @@ pub mod packs;
 
 ghost use mathlib.Core.Path.{_≡_};
 ghost use mathlib.Core.List.{[]};
+ghost use mathlib.Core.Option.{none};
 ghost use Prim.Native.Nat.{_+_, _^_};
 ghost use lib.ListN.{length};
 ghost use Rattle.doubles.specs.Units.{units, scoresWas};
@@ -22,11 +23,11 @@ ghost use Rattle.trie.specs.Trie.{idOf, parts, partsNow};
 ghost use Rattle.trie.specs.Sound.{sound, soundScored, Sound};
 ghost use Rattle.trie.specs.Lookup.{lookupFault, found, lookupAnswer};
 ghost use Rattle.unigram.specs.Work.{model, modelNow};
-ghost use Rattle.unigram.specs.Checked.{Prepared, Cut, scratchIs, scratchWas};
+ghost use Rattle.unigram.specs.Checked.{Cut, scratchIs, scratchNow, scratchWas};
+ghost use Rattle.unigram.specs.Segment.{lengthsOf, segmentFault, soundModel, Segmented};
 ghost use Rattle.wordpiece.specs.Pieces.{idsOf};
-ghost use Rattle.wordpiece.specs.Checked.{Ready};
+ghost use Rattle.wordpiece.specs.Checked.{Encodable};
 ghost use Rattle.refusal.specs.Places.{overlay};
-ghost use Rattle.unigram.specs.Segment.{Segmented};
 ghost use Rattle.wordpiece.specs.Encode.{Encoded};
 ghost use Rattle.exports.specs.Flat.{status, countFault, countNumber, lookupNumber, codeNumber, As};
 ghost use Rattle.refusal.specs.Lent.{is, was};
@@ -248,7 +249,7 @@ pub extern "C" fn sk_encode_checked(
     word: &[u8],
     ids: &mut [u32],
 ) -> usize
-    requires { ⌜ Ready (partsNow «edge_at» «edge_n» id byte to) (now word) (now ids) ⌝ }
+    requires { ⌜ Encodable (partsNow «edge_at» «edge_n» id byte to) (now word) (now ids) ⌝ }
     ensures { λ r.
         ⌜ (let all = idsOf (idOf (parts «edge_at» «edge_n» id byte to)) unknown «max_chars» (was prefix) (was word) in
         (r ≡ length all) × (is ids ≡ overlay all (was ids))) ⌝ }
@@ -325,8 +326,8 @@ pub extern "C" fn sk_segment_checked(
     path: &mut [u32],
     ids: &mut [u32],
 ) -> usize
-    requires { ⌜ Prepared (modelNow «edge_at» «edge_n» id score byte to unknown «unknown_score») (now text) (now start)
-        (now «slot_id») (now «slot_score») (now path) (now ids) ⌝ }
+    requires { ⌜ segmentFault (soundModel (modelNow «edge_at» «edge_n» id score byte to unknown «unknown_score»)) (now text)
+        (lengthsOf (scratchNow start «slot_id» «slot_score» path ids)) ≡ none ⌝ }
     ensures { λ r.
         ⌜ Cut (model «edge_at» «edge_n» id score byte to unknown «unknown_score») (was text)
         (scratchWas start «slot_id» «slot_score» path ids) (scratchIs start «slot_id» «slot_score» path ids) r ⌝ }

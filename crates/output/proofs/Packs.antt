@@ -148,7 +148,7 @@ module _ (pack edgeAt edgeN id : List ℕ) (scores : List Float) (byte to : List
     unigram-cuttable = cuttable j unigram-nodes
 
     abbrev cut : Model
-    cut = work.modelOf (take n edgeAt) (take n edgeN) (take n id) (take n scores) (take (n - 1) byte) (take (n - 1) to) (work.pieceWith unknown lowest)
+    cut = work.modelOf (take n edgeAt) (take n edgeN) (take n id) (take n scores) (take (n - 1) byte) (take (n - 1) to) unknown lowest
 
     cut-is : cut ≡ modelOf pack
     cut-is =
@@ -156,7 +156,7 @@ module _ (pack edgeAt edgeN id : List ℕ) (scores : List Float) (byte to : List
         (λ (xs : List Double). record {
           trie = partsOf (take n edgeAt) (take n edgeN) (take n id) (take (n - 1) byte) (take (n - 1) to);
           score = xs;
-          unknown = work.pieceWith unknown lowest;
+          unknown = record { id = unknown; score = units lowest };
         })
         (take-map n scores)
         ∙ packs.unigram-model pack lentMemory left n unknown lowest good (j .built)

@@ -33,7 +33,6 @@ use Rattle.build.specs.Memory.{Memory}
 use Rattle.build.specs.Promise.{trieIn, scoresIn}
 use Rattle.build.proofs.Promises.{none-exactly, built-fine, built-roomy, built-says}
 use Rattle.build.proofs.BuiltTries.{partsIn, Doubles, rows-sound, rows-scored, built-parts, built-scores}
-use Rattle.unigram.specs.Work.{pieceWith}
 use Rattle.unigram.specs.Pieces.{Model}
 use Rattle.unigram.specs.Segment.{Lengths, segmentFault, soundModel}
 use Rattle.unigram.proofs.BuiltTries as tries
@@ -198,9 +197,9 @@ module _ (bytes : List ℕ) (m after : Memory) (n unknown : ℕ) (lowest : Float
 
   -- what `segment` is given is the model of the pack
   abbrev pub given : Model
-  given = tries.modelIn n after (pieceWith unknown lowest)
+  given = tries.modelIn n after (record { id = unknown; score = units lowest })
 
-  pub unigram-model : tries.modelIn n after (pieceWith unknown lowest) ≡ modelOf bytes
+  pub unigram-model : tries.modelIn n after (record { id = unknown; score = units lowest }) ≡ modelOf bytes
   unfolding modelOf trieIn scoresIn
   unigram-model =
       λ i. record {

@@ -48,7 +48,6 @@ use Rattle.scored.specs.Build.{Report, reportOf, told, Built}
 use Rattle.scored.proofs.Builds.{scores-are}
 use Rattle.cutting.specs.Cuttings.{Piece}
 use Rattle.refusal.proofs.Lists.{zero-one, none-some, below-or}
-use Rattle.unigram.specs.Work.{pieceWith}
 use Rattle.unigram.specs.Pieces.{Model, pieceAt, known}
 use Rattle.unigram.specs.Segment.{Scratch, Lengths, lengthsOf, segmentFault, soundModel, Segmented}
 use Rattle.unigram.proofs.Refusing.{sound-fault}
@@ -227,7 +226,7 @@ module _ (tab : List ℕ) (c : Columns) (m after : Memory) (s : Summary) (bytes 
     -- so `segment` does not find 8 in it, whatever the unknown id, the text and the scratch
     module _ (unknown : ℕ) where
       abbrev pub parts : Model
-      parts = modelIn (s .nodes) after (pieceWith unknown (s .«unknown_score»))
+      parts = modelIn (s .nodes) after (record { id = unknown; score = units (s .«unknown_score») })
 
       pub built-not-refused : (t : List ℕ) (n : Lengths) → segmentFault (soundModel parts) t n ≡ some fault.Trie → ⊥
       built-not-refused = sound-not-refused parts built-sound

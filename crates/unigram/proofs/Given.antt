@@ -1,8 +1,8 @@
 -- What a piece is in a Unigram trie meets what the laws of the records ask of any rule: for a well-formed text and sound scored parts. A node
 -- that a walk ends in is one of the parts, so its score is finite; the character at a boundary ends at the next. Assumes nothing.
 use mathlib.Core.Path.{_≡_, refl, sym, ap, subst, _∙_}
-use mathlib.Core.Bool.{Bool, true, false, _&&_}
-use mathlib.Core.List.{List}
+use mathlib.Core.Bool.{Bool, true, false, _&&_, cond}
+use mathlib.Core.List.{List, Option·toList}
 use mathlib.Core.Logic.{_⊎_, inl, inr, ⊎-elim}
 use mathlib.Core.Option.{Option, none, some}
 use Prim.Native.Nat.{ℕ, zero, suc, _+_, _-_, _≤_, _<_}
@@ -20,21 +20,26 @@ use Rattle.trie.specs.Sound.{SoundScored}
 use Rattle.trie.proofs.Walking.{walk-inside}
 use Rattle.trie.proofs.Every.{both}
 use Rattle.cutting.specs.Cuttings.{Piece, nth}
-use Rattle.cutting.specs.Records.{best, standsAt}
-use Rattle.unigram.specs.Pieces.{Model, pieceAt, known, pieceHere, pieceOf, listed, rule}
+use Rattle.cutting.specs.Records.{best}
+use Rattle.unigram.specs.Pieces.{Model, pieceAt, known, pieceOf, rule}
+use Rattle.refusal.specs.Refusal.{first}
 use Rattle.refusal.proofs.Lists.{none-some, true-false, below-or}
-use Rattle.cutting.proofs.Working.{Pieces, absent, none-before, unchanged}
+use Rattle.cutting.proofs.Working.{Pieces, standsAt, absent, none-before, unchanged}
 use Rattle.cutting.proofs.Best.{of-true, zero-number, total-number}
 use Rattle.cutting.proofs.Reaching.{Reach, all-stand}
 
 -- ---- taking the rule apart
+
+-- the piece that a string has, or the unknown one where it is one character
+abbrev pub pieceHere : Option Piece → Bool → Piece → Option Piece
+pieceHere o one unknown = first o (cond one (some unknown) none)
 
 module _ (m : Model) (s : List ℕ) (i j : ℕ) where
   -- from boundary to boundary
   pub piece-between : i < j → boundary s i ≡ true → boundary s j ≡ true → pieceOf m s i j ≡ pieceHere (known m (part s i j)) (eqb j (next s i)) (m .unknown)
   unfolding pieceOf
   piece-between l p q =
-      ap (λ (t : Bool). elim t [ true ↦ pieceHere (known m (part s i j)) (eqb j (next s i)) (m .unknown) | false ↦ none ])
+      ap (λ (t : Bool). cond t (pieceHere (known m (part s i j)) (eqb j (next s i)) (m .unknown)) none)
       (both (lt-ltb i j l) (both p q))
 
   pub record Between (p : Piece) : Type 0 where
@@ -49,7 +54,7 @@ module _ (m : Model) (s : List ℕ) (i j : ℕ) where
     where
       by-tests :
           (a b c : Bool) → ltb i j ≡ a → boundary s i ≡ b → boundary s j ≡ c
-          → elim (a && (b && c)) [ true ↦ pieceHere (known m (part s i j)) (eqb j (next s i)) (m .unknown) | false ↦ none ] ≡ some p → Between p
+          → cond (a && (b && c)) (pieceHere (known m (part s i j)) (eqb j (next s i)) (m .unknown)) none ≡ some p → Between p
       by-tests true true true a b c e = record { forward = ltb-true i j a; from = b; to = c; here = e }
       by-tests true true false a b c e = none-some e
       by-tests true false c' a b c e = none-some e
@@ -57,7 +62,7 @@ module _ (m : Model) (s : List ℕ) (i j : ℕ) where
 
 -- what a piece is where it is
 pub here-known : (o : Option Piece) (one : Bool) (u p : Piece) → pieceHere o one u ≡ some p → (o ≡ some p) ⊎ ((o ≡ none) × (one ≡ true) × (u ≡ p))
-unfolding pieceHere
+unfolding first
 here-known (some q) one u p e = inl e
 here-known none true u p e = inr (refl, refl, let same : u ≡ p = cc in same)
 here-known none false u p e = none-some e
@@ -76,20 +81,20 @@ known-node m s p = by-walk (walk (m .trie) 0 s) refl
     by-walk (some k) w e = at-node k (idAt (m .trie) k) w e
 
 pub one-there : (o : Option Piece) (u : Piece) → (p : Piece) × (pieceHere o true u ≡ some p)
-unfolding pieceHere
+unfolding first
 one-there none u = (u, refl)
 one-there (some p) u = (p, refl)
 
 -- what a list of at most one piece has
-listed-has : (o : Option Piece) (k : ℕ) (p : Piece) → nth (listed o) k ≡ some p → o ≡ some p
-unfolding nth listed
+listed-has : (o : Option Piece) (k : ℕ) (p : Piece) → nth (Option·toList o) k ≡ some p → o ≡ some p
+unfolding nth Option·toList
 listed-has none k p e = none-some e
 listed-has (some q) zero p e = e
 listed-has (some q) (suc k) p e = none-some e
 
-listed-first : (o : Option Piece) (p : Piece) → o ≡ some p → nth (listed o) 0 ≡ some p
-unfolding nth listed
-listed-first o p e = ap (λ (q : Option Piece). nth (listed q) 0) e
+listed-first : (o : Option Piece) (p : Piece) → o ≡ some p → nth (Option·toList o) 0 ≡ some p
+unfolding nth Option·toList
+listed-first o p e = ap (λ (q : Option Piece). nth (Option·toList q) 0) e
 
 back-number : (x y : Double) → T (isNumber (sum x y)) → T (isNumber x)
 unfolding sum isNumber

@@ -3,9 +3,9 @@
 -- so the slots hold the records of one start more. Assumes nothing.
 use mathlib.Core.Path.{_≡_, refl, sym, ap, subst, _∙_}
 use mathlib.Core.Bool.{Bool, true, false, _&&_, _||_, cond}
-use mathlib.Core.List.{List, [], _∷_, _++_}
+use mathlib.Core.List.{List, [], _∷_, _++_, Option·toList}
 use mathlib.Core.Logic.{_⊎_, inl, inr, ⊎-elim}
-use mathlib.Core.Option.{Option, none, some, bind}
+use mathlib.Core.Option.{Option, none, some, bind, Option·elim}
 use Prim.Native.Nat.{ℕ, suc, _+_, _-_, _≤_, _<_}
 use native.Mathlib.Omega.{arith}
 use borrow.Author.Tests.{eq-eqb, ne-eqb, lt-ltb, le-ltb, lt-leb, le-leb}
@@ -15,21 +15,22 @@ use lib.Seq.{take-suc, getD-drop, take-add}
 use Rattle.doubles.specs.Double.{Double, plusZero, sum, isNumber}
 use Rattle.doubles.proofs.Sums.{sum-number}
 use Rattle.text.specs.Text.{wellFormed, boundary, next, part}
-use Rattle.text.proofs.Boundaries.{boundary-le, next-above, next-boundary, next-first}
+use Rattle.text.proofs.Boundaries.{boundary-le, next-above, next-inside, next-boundary, next-first}
 use Rattle.trie.specs.Trie.{step, walk, idAt}
 use Rattle.trie.proofs.Every.{both, fails}
 use Rattle.trie.proofs.Walking.{walk-snoc, walk-append-none, walk-nil}
 use Rattle.cutting.specs.Cuttings.{Piece, Slot, nth}
-use Rattle.cutting.specs.Records.{candidate, best, standsAt}
-use Rattle.unigram.specs.Pieces.{Model, pieceAt, known, pieceHere, pieceOf, listed, rule}
-use Rattle.cutting.specs.Slots.{Slots, slotAt, PutAt, taken, afterOffer, afterOffers}
+use Rattle.cutting.specs.Records.{candidate, best}
+use Rattle.unigram.specs.Pieces.{Model, pieceAt, known, pieceOf, rule}
+use Rattle.cutting.specs.Slots.{Slots, slotAt, PutAt, taken, afterOffer}
 use Rattle.cutting.specs.Law.{Holds}
-use Rattle.unigram.specs.Work.{isSome, endsHere, Ended, knownTo, KnownOffered, Ready, Worked}
+use Rattle.unigram.specs.Work.{isSome, endsHere, Ended, knownTo, KnownOffered, Ready, Recorded}
+use Rattle.refusal.specs.Refusal.{first}
 use Rattle.refusal.proofs.Lists.{true-false, below-or}
-use Rattle.cutting.proofs.Working.{Pieces, looked}
+use Rattle.cutting.proofs.Working.{Pieces, standsAt, looked}
 use Rattle.cutting.proofs.Best.{is-true, stands-counts}
-use Rattle.cutting.proofs.Holding.{AllOffered, best-held, stands-held, offered-past, holds-more, holds-jumped}
-use Rattle.unigram.proofs.Given.{given, boundary-stands, starts-on, piece-between, between}
+use Rattle.cutting.proofs.Holding.{afterOffers, AllOffered, stands-held, offered-past, holds-more, holds-jumped, recorded}
+use Rattle.unigram.proofs.Given.{pieceHere, given, boundary-stands, starts-on, piece-between, between}
 use Rattle.cutting.proofs.Columns.{put-as, put-back, Filled, filled-of, filled-more, filled-below, filled-above}
 
 -- ---- the piece that a node ends
@@ -60,7 +61,7 @@ or-that false false = refl
 module _ (m : Model) (s : List ℕ) (node i one : ℕ) (single : Bool) (at : ℕ) (x : Double) (b : Slots) where
   -- no piece ends here
   pub ended-none : endsHere m s node i ≡ none → Ended m s node i one single at x b b single
-  unfolding afterOffer isSome
+  unfolding afterOffer isSome Option·elim
   ended-none e =
       record {
         put = put-back b i (ap (λ (o : Option Piece). afterOffer o x at (slotAt b i)) (sym e));
@@ -69,7 +70,7 @@ module _ (m : Model) (s : List ℕ) (node i one : ℕ) (single : Bool) (at : ℕ
 
   -- a piece does
   pub ended-some : (p : Piece) (a : Slots) (r : Bool) → endsHere m s node i ≡ some p → PutAt b i (taken (slotAt b i) (candidate x at p)) a → r ≡ (single || eqb i one) → Ended m s node i one single at x b a r
-  unfolding afterOffer isSome
+  unfolding afterOffer isSome Option·elim
   ended-some p a r e put seen =
       record {
         put = put-as put (ap (λ (o : Option Piece). afterOffer o x at (slotAt b i)) (sym e));
@@ -222,7 +223,7 @@ module _ (m : Model) (s : List ℕ) (at one : ℕ) (x : Double) (b : Slots) wher
       ends = ends-known m s at (i + 1) node (omega arith) w
 
   pub offered-all : {i : ℕ} {now : Slots} {single : Bool} → Offered i now single → ((j : ℕ) → i < j → knownTo m s at j ≡ none) → KnownOffered m s at one x b now single
-  unfolding isSome
+  unfolding isSome Option·elim
   offered-all {i} {now} {single} o none-past =
       record {
         slots = λ k.
@@ -237,25 +238,25 @@ pub record EachOffered (m : Model) (s : List ℕ) (at : ℕ) (x : Double) (befor
   pub slots : (k : ℕ) → slotAt after k ≡ afterOffer (pieceOf m s at k) x at (slotAt before k)
 
 here-other : (o : Option Piece) (u : Piece) → pieceHere o false u ≡ o
-unfolding pieceHere
+unfolding first
 here-other none u = refl
 here-other (some p) u = refl
 
 here-one : (o : Option Piece) (u p : Piece) → o ≡ some p → pieceHere o true u ≡ some p
-unfolding pieceHere
+unfolding first
 here-one o u p e = ap (λ (q : Option Piece). pieceHere q true u) e
 
 here-unknown : (o : Option Piece) (u : Piece) → o ≡ none → pieceHere o true u ≡ some u
-unfolding pieceHere
+unfolding first
 here-unknown o u e = ap (λ (q : Option Piece). pieceHere q true u) e
 
 is-some : (o : Option Piece) → isSome o ≡ true → (p : Piece) × (o ≡ some p)
-unfolding isSome
+unfolding isSome Option·elim
 is-some none e = absurd (true-false e refl)
 is-some (some p) e = (p, refl)
 
 is-none : (o : Option Piece) → isSome o ≡ false → o ≡ none
-unfolding isSome
+unfolding isSome Option·elim
 is-none none e = refl
 is-none (some p) e = absurd (true-false refl e)
 
@@ -331,23 +332,18 @@ module _ (m : Model) (s : List ℕ) (at : ℕ) (on : boundary s at ≡ true) whe
 -- ---- the slots hold the records of one start more
 
 -- as a list of at most one
-offer-listed : (o : Option Piece) (x : Double) (at : ℕ) (r : Slot) → ((p : Piece) → o ≡ some p → isNumber (sum x (p .score)) ≡ true) → afterOffer o x at r ≡ afterOffers isNumber (listed o) x at r
-unfolding afterOffer afterOffers listed candidate
+offer-listed : (o : Option Piece) (x : Double) (at : ℕ) (r : Slot) → ((p : Piece) → o ≡ some p → isNumber (sum x (p .score)) ≡ true) → afterOffer o x at r ≡ afterOffers isNumber (Option·toList o) x at r
+unfolding afterOffer afterOffers Option·toList candidate
 offer-listed none x at r number = refl
 offer-listed (some p) x at r number = ap (λ (t : Bool). cond t (taken r (candidate x at p)) r) (sym (number p refl))
 
 pub worked-all :
-    {m : Model} {s : List ℕ} (ready : Ready m s) (at : ℕ) (on : boundary s at ≡ true) (below : at < length s) {x : Double} {before after : Slots}
-    → Holds (rule m s) (length s) at before → x ≡ slotAt before at .score → EachOffered m s at x before after
-    → Worked m s at before after (next s at)
-unfolding listed nth
-worked-all {m} {s} ready at on below {x} {before} {after} h e o =
-    record {
-      next = refl;
-      holds = held;
-      best = λ j l p b. let w = boundary-stands m s well (ready .sound) j (boundary-le s j b) b in best-held laws (next s at) after held j (w .0) l p (boundary-le s j b) (w .1);
-      past = offered-past laws all;
-    }
+    {m : Model} {s : List ℕ} (ready : Ready m s) (at : ℕ) (on : boundary s at ≡ true) (below : at < length s) {r : ℕ} {x : Double} {before after : Slots}
+    → r ≡ next s at → Holds (rule m s) (length s) at before → x ≡ slotAt before at .score → EachOffered m s at x before after
+    → Recorded m s r before after
+unfolding Option·toList nth
+worked-all {m} {s} ready at on below {r} {x} {before} {after} there h e o =
+    recorded laws (boundary-stands m s well (ready .sound)) (sym there) (omega (arith, there, next-inside s well at on below)) held (offered-past laws all)
   where
     well : wellFormed s ≡ true
     well = ready .well
@@ -366,7 +362,7 @@ worked-all {m} {s} ready at on below {x} {before} {after} h e o =
           slots = λ k.
               o .slots k
               ∙ offer-listed (pieceOf m s at k) x at (slotAt before k)
-              (λ p q. is-true (isNumber (sum x (p .score))) (sum-number x (p .score) (stands-counts laws at x stands) (laws .finite at k 0 p (ap (λ (u : Option Piece). nth (listed u) 0) q))));
+              (λ p q. is-true (isNumber (sum x (p .score))) (sum-number x (p .score) (stands-counts laws at x stands) (laws .finite at k 0 p (ap (λ (u : Option Piece). nth (Option·toList u) 0) q))));
         }
 
     held : Holds (rule m s) (length s) (next s at) after

@@ -16,7 +16,7 @@ use Rattle.refusal.specs.Places.{overlay}
 use Rattle.cutting.specs.Cuttings.{Step}
 use Rattle.unigram.specs.Runs.{runId, merged}
 use Rattle.cutting.specs.Tracing.{stepsAt, Ends, and-then}
-use Rattle.unigram.specs.Merge.{runOf, waiting, runIds, closing, Placed}
+use Rattle.unigram.specs.Merge.{runIds, closing, Placed}
 use Rattle.refusal.proofs.Lists.{below-or}
 use Rattle.cutting.proofs.Following.{piece-to}
 use Rattle.unigram.proofs.Merging.{begun, owed, merged-end, merged-more}
@@ -78,6 +78,10 @@ rest-more a b n r l e =
 
 -- ---- the turns
 
+-- the run from `run` up to `at`, whose id is still to come: none where the two are one
+unfoldable pub runOf : ℕ → ℕ → Option ℕ
+runOf run at = cond (ltb run at) (some run) none
+
 run-there : (run at : ℕ) → run < at → runOf run at ≡ some run
 unfolding runOf
 run-there run at l = ap (λ (t : Bool). cond t (some run) none) (lt-ltb run at l)
@@ -85,14 +89,6 @@ run-there run at l = ap (λ (t : Bool). cond t (some run) none) (lt-ltb run at l
 run-none : (run at : ℕ) → at ≤ run → runOf run at ≡ none
 unfolding runOf
 run-none run at l = ap (λ (t : Bool). cond t (some run) none) (le-ltb run at l)
-
-pub waits : (run at : ℕ) → run < at → waiting run at ≡ 1
-unfolding waiting
-waits run at l = ap (λ (t : Bool). cond t 1 0) (lt-ltb run at l)
-
-pub waits-not : (run at : ℕ) → at ≤ run → waiting run at ≡ 0
-unfolding waiting
-waits-not run at l = ap (λ (t : Bool). cond t 1 0) (le-ltb run at l)
 
 module _ (idOf : ℕ → ℕ → Option ℕ) (unknown : ℕ) where
   pub ids-there : (run at : ℕ) → run < at → runIds idOf unknown run at ≡ runId idOf unknown run at ∷ []
@@ -102,10 +98,6 @@ module _ (idOf : ℕ → ℕ → Option ℕ) (unknown : ℕ) where
   pub ids-none : (run at : ℕ) → at ≤ run → runIds idOf unknown run at ≡ []
   unfolding runIds
   ids-none run at l = ap (λ (t : Bool). cond t (runId idOf unknown run at ∷ []) []) (le-ltb run at l)
-
-  pub ids-length : (run at : ℕ) → length (runIds idOf unknown run at) ≡ waiting run at
-  ids-length run at =
-      ⊎-elim (λ (l : run < at). ap length (ids-there run at l) ∙ sym (waits run at l)) (λ (l : at ≤ run). ap length (ids-none run at l) ∙ sym (waits-not run at l)) (below-or run at)
 
   pub closes-not : (run at x : ℕ) → x ≡ unknown → closing idOf unknown run at x ≡ []
   unfolding closing
@@ -160,14 +152,14 @@ module _ (idOf : ℕ → ℕ → Option ℕ) (unknown : ℕ) where
             ∙ ap (λ (u : List ℕ). u ++ merged idOf unknown (runOf (next-run x run e) e) e es) (sym (closes run at x other))
 
     -- what is waiting and written stays at most one a piece
-    pub turn-few : (n k : ℕ) → n + waiting run at ≤ k → n + length (closing idOf unknown run at x) + waiting (next-run x run e) e ≤ k + 1
+    pub turn-few : (n k : ℕ) → n + length (runIds idOf unknown run at) ≤ k → n + length (closing idOf unknown run at x) + length (runIds idOf unknown (next-run x run e) e) ≤ k + 1
     turn-few n k l = by-test (eqb x unknown) refl
       where
-        by-test : (t : Bool) → eqb x unknown ≡ t → n + length (closing idOf unknown run at x) + waiting (next-run x run e) e ≤ k + 1
+        by-test : (t : Bool) → eqb x unknown ≡ t → n + length (closing idOf unknown run at x) + length (runIds idOf unknown (next-run x run e) e) ≤ k + 1
         by-test true h =
-            omega (arith, ap length (closes-not run at x (eqb-true x unknown h)), waits run e (omega arith), ap (λ (t : Bool). waiting (cond t run e) e) h)
+            omega (arith, ap length (closes-not run at x (eqb-true x unknown h)), ap length (ids-there run e (omega arith)), ap (λ (t : Bool). length (runIds idOf unknown (cond t run e) e)) h)
         by-test false h =
-            omega (arith, ap length (closes run at x (eqb-false x unknown h)), length-append (runIds idOf unknown run at) (x ∷ []), ids-length run at, waits-not e e (omega arith), ap (λ (t : Bool). waiting (cond t run e) e) h)
+            omega (arith, ap length (closes run at x (eqb-false x unknown h)), length-append (runIds idOf unknown run at) (x ∷ []), ap length (ids-none e e (omega arith)), ap (λ (t : Bool). length (runIds idOf unknown (cond t run e) e)) h)
 
     -- and the next run begins at or before the piece's end
     pub next-back : next-run x run e ≤ e
@@ -178,12 +170,12 @@ module _ (idOf : ℕ → ℕ → Option ℕ) (unknown : ℕ) where
         by-test false = omega arith
 
     -- what is written has room
-    pub closing-few : length (closing idOf unknown run at x) ≤ waiting run at + 1
+    pub closing-few : length (closing idOf unknown run at x) ≤ length (runIds idOf unknown run at) + 1
     closing-few = by-test (eqb x unknown) refl
       where
-        by-test : (t : Bool) → eqb x unknown ≡ t → length (closing idOf unknown run at x) ≤ waiting run at + 1
+        by-test : (t : Bool) → eqb x unknown ≡ t → length (closing idOf unknown run at x) ≤ length (runIds idOf unknown run at) + 1
         by-test true h = omega (arith, ap length (closes-not run at x (eqb-true x unknown h)))
-        by-test false h = omega (arith, ap length (closes run at x (eqb-false x unknown h)), length-append (runIds idOf unknown run at) (x ∷ []), ids-length run at)
+        by-test false h = omega (arith, ap length (closes run at x (eqb-false x unknown h)), length-append (runIds idOf unknown run at) (x ∷ []))
 
 -- ---- the loop over the path
 
@@ -196,7 +188,7 @@ pub record Going (idOf : ℕ → ℕ → Option ℕ) (unknown limit : ℕ) (slot
   pub back : run ≤ at
   pub inside : at ≤ limit
   pub ends : Ends limit at (drop k path)
-  pub few : n + waiting run at ≤ k
+  pub few : n + length (runIds idOf unknown run at) ≤ k
   pub level : length ids ≡ length before
   pub all : merged idOf unknown none 0 (stepsAt slotIds path) ≡ take n ids ++ merged idOf unknown (runOf run at) at (stepsAt slotIds (drop k path))
   pub rest : drop n ids ≡ drop n before
@@ -209,7 +201,7 @@ module _ (idOf : ℕ → ℕ → Option ℕ) (unknown limit : ℕ) (slotIds path
         back = omega arith;
         inside = omega arith;
         ends = e;
-        few = omega (arith, waits-not 0 0 (omega arith));
+        few = omega (arith, ap length (ids-none idOf unknown 0 0 (omega arith)));
         level = refl;
         all = ap (λ (o : Option ℕ). merged idOf unknown o 0 (stepsAt slotIds path)) (sym (run-none 0 0 (omega arith)));
         rest = refl;
@@ -253,10 +245,10 @@ module _ (idOf : ℕ → ℕ → Option ℕ) (unknown limit : ℕ) (slotIds path
     -- at the end the run's id is written
     pub going-end :
         {after : List ℕ} {r : ℕ} → length path ≤ k → length path ≤ length before → Placed (runIds idOf unknown run at) ids n after r
-        → (after ≡ overlay (merged idOf unknown none 0 (stepsAt slotIds path)) before) × (r ≡ length (merged idOf unknown none 0 (stepsAt slotIds path)))
+        → let all = merged idOf unknown none 0 (stepsAt slotIds path) in (r ≡ length all) × (after ≡ overlay all before)
     going-end {after} {r} l room p =
         let fits : n + length (runIds idOf unknown run at) ≤ length ids =
-        omega (arith, ids-length idOf unknown run at, g .few, g .level, g .within)
+        omega (arith, g .few, g .level, g .within)
         in
         let total = merged idOf unknown none 0 (stepsAt slotIds path) in
         let whole : total ≡ take n ids ++ runIds idOf unknown run at =
@@ -266,9 +258,9 @@ module _ (idOf : ℕ → ℕ → Option ℕ) (unknown limit : ℕ) (slotIds path
         in
         let count : r ≡ length total = sym (ap length whole ∙ front-is p fits) in
         let rest : drop r ids ≡ drop r before = rest-more ids before n r (omega (arith, p .next)) (g .rest) in (
+          count,
           split-is p fits
               ∙ ap (λ (u : List ℕ). u ++ drop r ids) (sym whole)
               ∙ ap (λ (u : List ℕ). total ++ u) rest
               ∙ ap (λ (j : ℕ). total ++ drop j before) count,
-          count,
         )

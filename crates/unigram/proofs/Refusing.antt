@@ -26,10 +26,11 @@ use Rattle.trie.specs.Lookup.{lookupFault}
 use Rattle.trie.proofs.SoundParts.{scored-of}
 use Rattle.trie.proofs.Lookups.{lookup-fine, sound-lookup}
 use Rattle.build.specs.Memory.{anyBelow}
+use Rattle.cutting.specs.Slots.{Inside}
 use Rattle.unigram.specs.Pieces.{Model, piecesOf, idsOf}
 use Rattle.unigram.specs.Segment.{Scratch, Lengths, lengthsOf, shortScratch, segmentFault, soundModel, written, writes, Segmented}
 use Rattle.unigram.specs.Work.{Ready}
-use Rattle.unigram.specs.Checked.{scratchOf, lengths, Prepared, Cut}
+use Rattle.unigram.specs.Checked.{scratchOf, lengths, Cut}
 use Rattle.unigram.proofs.Merging.{merged-few}
 use Rattle.unigram.proofs.Segmenting.{pieces-few, law-held}
 
@@ -157,15 +158,22 @@ pub lengths-are :
 lengths-are starts ids scores path places =
     ap (λ (n : ℕ). lengths (length starts) (length ids) n (length path) (length places)) (length-map scores units)
 
+-- all that can be refused has been tested; an empty text asks for no slots
+pub record Prepared (m : Model) (s starts slotIds : List ℕ) (scores : List Float) (paths places : List ℕ) : Type 0 where
+  pub ready : Ready m s
+  pub slots : 0 < length s → Inside starts slotIds scores (length s)
+  pub path : characters s ≤ length paths
+  pub ids : characters s ≤ length places
+
 -- what the cutting rests on: an empty text asks for no slots, and has no characters
 pub prepared-for :
     (m : Model) (s starts ids : List ℕ) (scores : List Float) (path places : List ℕ)
-    → segmentFault (soundModel m) s (lengths (length starts) (length ids) (length scores) (length path) (length places)) ≡ none
-    → Prepared m s starts ids scores path places
+    → segmentFault (soundModel m) s (lengthsOf (scratchOf starts ids scores path places)) ≡ none → Prepared m s starts ids scores path places
 unfolding shortScratch
-prepared-for m s starts ids scores path places free =
+prepared-for m s starts ids scores path places none-found =
     let n = length s in
     let lent = lengths (length starts) (length ids) (length scores) (length path) (length places) in
+    let free : segmentFault (soundModel m) s lent ≡ none = sym (ap (segmentFault (soundModel m) s) (lengths-are starts ids scores path places)) ∙ none-found in
     let all : 0 < n → (n < length starts) × (n < length ids) × (n < length scores) × (characters s ≤ length path) =
     λ h. enough-room n (characters s) (length starts) (length ids) (length scores) (length path) h (enough-scratch (soundModel m) s lent free)
     in

@@ -17,19 +17,19 @@ use Rattle.doubles.specs.Units.{units}
 use Rattle.refusal.specs.Places.{overlay}
 use Rattle.text.specs.Text.{boundary, characters}
 use Rattle.text.proofs.Boundaries.{boundary-end}
-use Rattle.cutting.specs.Records.{best, shown, standsAt}
+use Rattle.cutting.specs.Records.{best, shown}
 use Rattle.cutting.specs.Slots.{Slots, slotsOf, slotAt, Inside}
-use Rattle.cutting.specs.Tracing.{endsFrom, stepsAt, Ends, Falling, Traced}
+use Rattle.cutting.specs.Tracing.{endsFrom, stepsAt, Ends, Falling}
 use Rattle.cutting.specs.Law.{bestPieces, slotsLeft, pathLeft}
 use Rattle.cutting.specs.Law as law
-use Rattle.cutting.proofs.Working.{Pieces}
+use Rattle.cutting.proofs.Working.{Pieces, standsAt}
 use Rattle.cutting.proofs.Best.{is-true}
 use Rattle.cutting.proofs.Following.{few}
 use Rattle.cutting.proofs.Leaving.{slot-holds, slots-are, falls, path-is, path-left, ends-rise, steps-are, law-of}
 use Rattle.unigram.specs.Runs.{merged}
 use Rattle.unigram.specs.Pieces.{Model, rule, piecesOf, idsOf}
 use Rattle.unigram.specs.Work.{Ready, Recorded, BestCutting}
-use Rattle.unigram.specs.Merge.{partId, Mergeable, Merged}
+use Rattle.unigram.specs.Merge.{partId, Mergeable}
 use Rattle.unigram.specs.Segment.{Scratch, written, writes}
 use Rattle.unigram.specs.Checked.{scratchOf, Cut}
 use Rattle.unigram.proofs.Given.{given, boundary-stands, piece-rises}
@@ -58,7 +58,7 @@ module _ {m : Model} {s : List ℕ} (ready : Ready m s) where
 
   -- ---- the slots and the path
 
-  module _ {b a : Slots} (r : Recorded m s b a) where
+  module _ {b a : Slots} (r : Recorded m s (length s) b a) where
     pub starts-fall : length s < length (a .start) → Falling (a .start) (length s)
     starts-fall inside = falls laws r (last .0) (last .1) inside (ready .size)
 
@@ -71,8 +71,10 @@ module _ {m : Model} {s : List ℕ} (ready : Ready m s) where
     pub ends-few : length (endsFrom (a .start) (length s) (length s)) ≤ characters s
     ends-few = omega (arith, ends-count, pieces-few)
 
-    pub best-cutting : {path path′ : List ℕ} {n : ℕ} → Traced (a .start) (length s) path path′ → n ≡ length (endsFrom (a .start) (length s) (length s)) → BestCutting m s b path a path′ n
-    best-cutting t e = record { slots = r; path = path-left laws r (last .0) (last .1) t; count = e ∙ ends-count }
+    pub best-cutting :
+        {path path′ : List ℕ} {n : ℕ} → let ends = endsFrom (a .start) (length s) (length s) in
+        (n ≡ length ends) × (path′ ≡ overlay ends path) → BestCutting m s b path a path′ n
+    best-cutting t = record { slots = r; path = path-left laws r (last .0) (last .1) _ (t .1); count = t .0 ∙ ends-count }
 
   -- ---- the ids
 
@@ -114,7 +116,8 @@ pub cut-of :
     (scores′ : List Float) {path′ places′ : List ℕ} {n count : ℕ} → (length s ≡ 0 → ⊥) → Inside starts ids scores (length s)
     → length starts′ ≡ length starts → length ids′ ≡ length ids → length scores′ ≡ length scores
     → BestCutting m s (slotsOf starts ids scores) path (slotsOf starts′ ids′ scores′) path′ n
-    → Merged (m .trie) (m .unknown .id) s ids′ (take n path′) places places′ count
+    → let all = merged (partId (m .trie) s) (m .unknown .id) none 0 (stepsAt ids′ (take n path′)) in
+    (count ≡ length all) × (places′ ≡ overlay all places)
     → Cut m s (scratchOf starts ids scores path places) (scratchOf starts′ ids′ scores′ path′ places′) count
 unfolding written writes scratch
 cut-of {m} {s} ready {starts} {ids} {scores} {path} {places} starts′ ids′ scores′ {path′} {places′} {n} {count} some-text inside level-start level-id level-score w g =
@@ -130,8 +133,8 @@ cut-of {m} {s} ready {starts} {ids} {scores} {path} {places} starts′ ids′ sc
       left =
           ap (λ (c : Slots). scratch c path′ places′) now
           ∙ ap (λ (u : List ℕ). scratch (slotsLeft P (length s) (slotsOf starts ids scores)) u places′) (w .path)
-          ∙ ap (λ (u : List ℕ). scratch (slotsLeft P (length s) (slotsOf starts ids scores)) (pathLeft P (length s) path) u) (g .ids ∙ ap (λ (u : List ℕ). overlay u places) (ids-are ready w))
+          ∙ ap (λ (u : List ℕ). scratch (slotsLeft P (length s) (slotsOf starts ids scores)) (pathLeft P (length s) path) u) (g .1 ∙ ap (λ (u : List ℕ). overlay u places) (ids-are ready w))
           ∙ sym (ap (λ (t : Bool). cond t before (written m s before)) (ne-eqb (length s) 0 some-text));
-      count = g .count ∙ ap length (ids-are ready w);
+      count = g .0 ∙ ap length (ids-are ready w);
       law = law-held ready after (λ j p l. slot-holds (laws ready) (w .slots) j l);
     }

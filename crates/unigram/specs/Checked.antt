@@ -1,15 +1,13 @@
 -- What the cutting of a text rests on, once all has been tested, and what it leaves. Definitions only; assumes nothing.
 use mathlib.Core.Path.{_≡_}
-use Prim.Native.Nat.{ℕ, _≤_, _<_}
+use Prim.Native.Nat.{ℕ}
 use mathlib.Core.List.{List}
 use lib.Ieee.{Float}
 use lib.ListN.{length}
 use denote.Ref.{RefT, now}
 use Rattle.refusal.specs.Lent.{Lent, was, is}
-use Rattle.text.specs.Text.{characters}
 use Rattle.unigram.specs.Pieces.{Model, idsOf}
-use Rattle.cutting.specs.Slots.{slotsOf, Inside}
-use Rattle.unigram.specs.Work.{Ready}
+use Rattle.cutting.specs.Slots.{slotsOf}
 use Rattle.unigram.specs.Segment.{Scratch, Lengths, writes, RecordLaw}
 
 -- the lent columns
@@ -30,13 +28,6 @@ scratchNow start id score path ids = scratchOf (now start) (now id) (now score) 
 -- so many places as a function is told that it is lent
 abbrev pub lengths : ℕ → ℕ → ℕ → ℕ → ℕ → Lengths
 lengths starts slotIds scores path ids = record { starts = starts; slotIds = slotIds; scores = scores; path = path; ids = ids }
-
--- all that can be refused has been tested; an empty text asks for no slots
-pub record Prepared (m : Model) (s starts slotIds : List ℕ) (scores : List Float) (paths places : List ℕ) : Type 0 where
-  pub ready : Ready m s
-  pub slots : 0 < length s → Inside starts slotIds scores (length s)
-  pub path : characters s ≤ length paths
-  pub ids : characters s ≤ length places
 
 -- "After success", "Empty text writes nothing", and the record law of demand 3
 pub record Cut (m : Model) (s : List ℕ) (before after : Scratch) (r : ℕ) : Type 0 where

@@ -3,29 +3,20 @@ use mathlib.Core.Path.{_≡_}
 use Prim.Native.Nat.{ℕ, _+_, _≤_, _<_}
 use mathlib.Core.Bool.{cond}
 use mathlib.Core.List.{List, [], _∷_, _++_}
-use mathlib.Core.Option.{Option, none, some}
+use mathlib.Core.Option.{Option}
 use lib.Dec.{ltb, eqb}
 use lib.ListN.{length, take, drop}
-use Rattle.refusal.specs.Places.{overlay}
 use Rattle.text.specs.Text.{part}
 use Rattle.trie.specs.Trie.{Trie, idOf}
 use Rattle.trie.specs.Sound.{Sound}
-use Rattle.cutting.specs.Tracing.{stepsAt, Ends}
-use Rattle.unigram.specs.Runs.{runId, merged}
+use Rattle.cutting.specs.Tracing.{Ends}
+use Rattle.unigram.specs.Runs.{runId}
 
 -- the id of the bytes from i up to j, where they have one
 abbrev pub partId : Trie → List ℕ → ℕ → ℕ → Option ℕ
 partId t s i j = idOf t (part s i j)
 
--- the run from `run` up to `at`, whose id is still to come: none where the two are one
-unfoldable pub runOf : ℕ → ℕ → Option ℕ
-runOf run at = cond (ltb run at) (some run) none
-
--- how many ids it will take
-unfoldable pub waiting : ℕ → ℕ → ℕ
-waiting run at = cond (ltb run at) 1 0
-
--- its ids
+-- the ids of the run from `run` up to `at`: none where the two are one
 unfoldable pub runIds : (ℕ → ℕ → Option ℕ) → ℕ → ℕ → ℕ → List ℕ
 runIds idOf unknown run at = cond (ltb run at) (runId idOf unknown run at ∷ []) []
 
@@ -50,8 +41,3 @@ pub record Mergeable (t : Trie) (s slotIds path ids : List ℕ) : Type 0 where
   pub ends : Ends (length s) 0 path
   pub slots : length s < length slotIds
   pub room : length path ≤ length ids
-
--- "ids in order; places past them unchanged": the path's ids, merged
-pub record Merged (t : Trie) (unknown : ℕ) (s slotIds path before after : List ℕ) (r : ℕ) : Type 0 where
-  pub ids : after ≡ overlay (merged (partId t s) unknown none 0 (stepsAt slotIds path)) before
-  pub count : r ≡ length (merged (partId t s) unknown none 0 (stepsAt slotIds path))

@@ -1,11 +1,12 @@
 -- Which pieces a text has in a Unigram trie, and its ids. Definitions only; assumes nothing.
 use Prim.Native.Nat.{ℕ}
-use mathlib.Core.Bool.{Bool, true, false, _&&_}
-use mathlib.Core.List.{List, [], _∷_}
+use mathlib.Core.Bool.{_&&_, cond}
+use mathlib.Core.List.{List, Option·toList}
 use mathlib.Core.Option.{Option, none, some}
 use lib.Dec.{ltb, eqb}
 use lib.ListN.{length, getD}
 use Rattle.doubles.specs.Double.{Double, plusZero, isNumber}
+use Rattle.refusal.specs.Refusal.{first}
 use Rattle.text.specs.Text.{boundary, next, part}
 use Rattle.trie.specs.Trie.{Trie, walk, idAt, idOf}
 use Rattle.cutting.specs.Cuttings.{Piece, Rule, Step}
@@ -26,29 +27,17 @@ pieceAt m k = elim (idAt (m .trie) k) [ none ↦ none | some i ↦ some (record 
 unfoldable pub known : Model → List ℕ → Option Piece
 known m s = elim (walk (m .trie) 0 s) [ none ↦ none | some k ↦ pieceAt m k ]
 
--- "If none is exactly one character long, that one character is also a piece, with the unknown id and score."
-unfoldable pub pieceHere : Option Piece → Bool → Piece → Option Piece
-pieceHere (some p) one unknown = some p
-pieceHere none true unknown = some unknown
-pieceHere none false unknown = none
-
--- "From each character boundary, a piece is any non-empty string with an id that matches there and ends on a boundary."
+-- "From each character boundary, a piece is any non-empty string with an id that matches there and ends on a boundary. If none
+-- is exactly one character long, that one character is also a piece, with the unknown id and score."
 unfoldable pub pieceOf : Model → List ℕ → ℕ → ℕ → Option Piece
 pieceOf m s i j =
-    elim (ltb i j && (boundary s i && boundary s j)) [
-      | true ↦ pieceHere (known m (part s i j)) (eqb j (next s i)) (m .unknown)
-      | false ↦ none
-    ]
-
--- the piece, if there is one, as a list
-unfoldable pub listed : Option Piece → List Piece
-listed none = []
-listed (some p) = p ∷ []
+    let unknown = cond (eqb j (next s i)) (some (m .unknown)) none in
+    cond (ltb i j && (boundary s i && boundary s j)) (first (known m (part s i j)) unknown) none
 
 -- The rule of Unigram: a span has at most one piece. "A sum beyond the largest double is infinite as IEEE 754 has it and still
 -- compares": every sum that is a number counts.
 abbrev pub rule : Model → List ℕ → Rule
-rule m s = record { pieces = λ i j. listed (pieceOf m s i j); counts = isNumber }
+rule m s = record { pieces = λ i j. Option·toList (pieceOf m s i j); counts = isNumber }
 
 -- the pieces of the best cutting of s, in order
 abbrev pub piecesOf : Model → List ℕ → List Step

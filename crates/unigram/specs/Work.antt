@@ -3,7 +3,7 @@ use mathlib.Core.Path.{_≡_}
 use Prim.Native.Nat.{ℕ, _≤_, _<_}
 use mathlib.Core.Bool.{Bool, true, false, _&&_, _||_}
 use mathlib.Core.List.{List, map}
-use mathlib.Core.Option.{Option, none, some}
+use mathlib.Core.Option.{Option, none, Option·elim}
 use lib.Dec.{ltb, eqb}
 use lib.Ieee.{Float}
 use lib.ListN.{length}
@@ -12,35 +12,33 @@ use Rattle.doubles.specs.Units.{units}
 use denote.Ref.{RefT, now}
 use Rattle.refusal.specs.Lent.{Lent, was}
 use Rattle.refusal.specs.Sizes.{maxText}
-use Rattle.text.specs.Text.{wellFormed, boundary, next, part}
+use Rattle.text.specs.Text.{wellFormed, boundary, part}
 use Rattle.trie.specs.Trie.{partsOf}
 use Rattle.trie.specs.Sound.{Sound, SoundScored}
-use Rattle.cutting.specs.Cuttings.{Piece, Best}
+use Rattle.cutting.specs.Cuttings.{Piece}
 use Rattle.cutting.specs.Slots.{Slots, slotAt, afterOffer, Inside, PutAt}
 use Rattle.cutting.specs.Law.{Holds, pathLeft}
 use Rattle.cutting.specs.Law as law
 use Rattle.unigram.specs.Pieces.{Model, pieceAt, known, rule, piecesOf}
 
 -- the model in lent columns
-abbrev pub modelOf : List ℕ → List ℕ → List ℕ → List Float → List ℕ → List ℕ → Piece → Model
-modelOf edgeAt edgeN id score byte to unknown = record { trie = partsOf edgeAt edgeN id byte to; score = map units score; unknown = unknown }
+abbrev pub modelOf : List ℕ → List ℕ → List ℕ → List Float → List ℕ → List ℕ → ℕ → Float → Model
+modelOf edgeAt edgeN id score byte to unknown unknownScore =
+    let piece : Piece = record { id = unknown; score = units unknownScore } in
+    record { trie = partsOf edgeAt edgeN id byte to; score = map units score; unknown = piece }
 
-abbrev pub pieceWith : ℕ → Float → Piece
-pieceWith id score = record { id = id; score = units score }
-
--- the model with its unknown piece, as a contract names the columns: as the call found them, and in a `requires`
+-- the same as a contract names the columns: as the call found them, and in a `requires`
 abbrev pub model : Lent ℕ → Lent ℕ → Lent ℕ → Lent Float → Lent ℕ → Lent ℕ → ℕ → Float → Model
 model edgeAt edgeN id score byte to unknown unknownScore =
-    modelOf (was edgeAt) (was edgeN) (was id) (was score) (was byte) (was to) (pieceWith unknown unknownScore)
+    modelOf (was edgeAt) (was edgeN) (was id) (was score) (was byte) (was to) unknown unknownScore
 
 abbrev pub modelNow :
     RefT (List ℕ) → RefT (List ℕ) → RefT (List ℕ) → RefT (List Float) → RefT (List ℕ) → RefT (List ℕ) → ℕ → Float → Model
 modelNow edgeAt edgeN id score byte to unknown unknownScore =
-    modelOf (now edgeAt) (now edgeN) (now id) (now score) (now byte) (now to) (pieceWith unknown unknownScore)
+    modelOf (now edgeAt) (now edgeN) (now id) (now score) (now byte) (now to) unknown unknownScore
 
 unfoldable pub isSome : Option Piece → Bool
-isSome none = false
-isSome (some p) = true
+isSome o = Option·elim o false (λ p. true)
 
 -- the piece that node k ends at i, if i is a boundary
 unfoldable pub endsHere : Model → List ℕ → ℕ → ℕ → Option Piece
@@ -83,19 +81,13 @@ pub record Come (m : Model) (s : List ℕ) (at : ℕ) (starts ids : List ℕ) (s
   pub inside : Inside starts ids scores (length s)
   pub holds : Holds (rule m s) (length s) at c
 
--- The work at `at` is done, and r is the next boundary. The record law of demand 3 holds at every boundary come to so far.
-pub record Worked (m : Model) (s : List ℕ) (at : ℕ) (before after : Slots) (r : ℕ) : Type 0 where
-  pub next : r ≡ next s at
-  pub holds : Holds (rule m s) (length s) r after
-  pub best : (j : ℕ) → 0 < j → j ≤ r → boundary s j ≡ true → Best (rule m s) j (slotAt after j)
-  pub past : (k : ℕ) → length s < k → slotAt after k ≡ slotAt before k
-
--- All of the work is done: every slot up to the text's length holds its record, and demand 3's law holds at every boundary.
-abbrev pub Recorded : Model → List ℕ → Slots → Slots → Type 0
-Recorded m s before after = law.Recorded (rule m s) (λ j. boundary s j ≡ true) (length s) before after
+-- The starts before `from` have been worked: the slots up to the text's length hold the records, and the record law of demand 3
+-- holds at every boundary come to so far.
+abbrev pub Recorded : Model → List ℕ → ℕ → Slots → Slots → Type 0
+Recorded m s from before after = law.Recorded (rule m s) (λ j. boundary s j ≡ true) (length s) from before after
 
 -- The slots hold the records, and the first path places the ends of the best cutting's pieces; r is how many there are.
 pub record BestCutting (m : Model) (s : List ℕ) (before : Slots) (path₀ : List ℕ) (after : Slots) (path₁ : List ℕ) (r : ℕ) : Type 0 where
-  pub slots : Recorded m s before after
+  pub slots : Recorded m s (length s) before after
   pub path : path₁ ≡ pathLeft (rule m s) (length s) path₀
   pub count : r ≡ length (piecesOf m s)

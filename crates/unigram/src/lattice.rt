@@ -5,17 +5,17 @@ use trie::checked::NodeId;
 use trie::checked::Step;
 use trie::checked::Walk;
 ghost use mathlib.Core.Path.{_≡_};
-ghost use Prim.Native.Nat.{_≤_, _<_};
+ghost use Prim.Native.Nat.{ℕ, _≤_, _<_};
+ghost use lib.Ieee.{Float};
 ghost use lib.ListN.{length, getD};
 ghost use Rattle.doubles.specs.Units.{units, scoresWas};
 ghost use Rattle.trie.specs.Walks.{Leads};
-ghost use Rattle.cutting.specs.Cuttings.{Piece};
 ghost use Rattle.unigram.specs.Pieces.{Model};
 ghost use Rattle.cutting.specs.Slots.{Inside, slotsIs, slotsNow, slotsWas};
-ghost use Rattle.unigram.specs.Work.{modelOf, Ended, Walkable, KnownOffered, Ready, Come, Worked, Recorded, BestCutting};
+ghost use Rattle.unigram.specs.Work.{Ended, Walkable, KnownOffered, Ready, Come, Recorded, BestCutting};
 ghost use Rattle.unigram.specs.Work.{model, modelNow};
 ghost use Rattle.refusal.specs.Lent.{is, was};
-ghost use Rattle.text.specs.Text.{characters};
+ghost use Rattle.text.specs.Text.{characters, next};
 
 // A walk from `at` has come to `node` at i. If i is a boundary and the node has an id, the piece is offered to the slot at i.
 // Answers `single`, or true where that piece ends at `one`.
@@ -82,9 +82,8 @@ fn offer_known(
         Inside (now start) (now «slot_id») (now «slot_score») (length (now text)) × Leads (now byte) (now to)
         (getD (now «edge_at») 0 0) (getD (now «edge_n») 0 0) (now first) ⌝ }
     ensures { λ r.
-        ⌜ ((u : Piece) → KnownOffered (modelOf (was «edge_at») (was «edge_n») (was id) (was score) (was byte) (was to)
-        u) (was text) at one (units till) (slotsWas start «slot_id» «slot_score») (slotsIs start «slot_id» «slot_score»)
-        r) ⌝ }
+        ⌜ ((u : ℕ) (x : Float) → KnownOffered (model «edge_at» «edge_n» id score byte to u x) (was text) at one
+        (units till) (slotsWas start «slot_id» «slot_score») (slotsIs start «slot_id» «slot_score») r) ⌝ }
 {
     let mut node: u32 = 0;
     let mut single = false;
@@ -140,8 +139,8 @@ fn work_at(
         (now «slot_id») (now «slot_score») (slotsNow start «slot_id» «slot_score») × Leads (now byte) (now to)
         (getD (now «edge_at») 0 0) (getD (now «edge_n») 0 0) (now first) ⌝ }
     ensures { λ r.
-        ⌜ Worked (model «edge_at» «edge_n» id score byte to unknown «unknown_score») (was text) at
-        (slotsWas start «slot_id» «slot_score») (slotsIs start «slot_id» «slot_score») r ⌝ }
+        ⌜ (r ≡ next (was text) at) × Recorded (model «edge_at» «edge_n» id score byte to unknown «unknown_score»)
+        (was text) r (slotsWas start «slot_id» «slot_score») (slotsIs start «slot_id» «slot_score») ⌝ }
 {
     let till = slot_score[at];
     let one = at + text::lead::char_len(text[at]);
@@ -191,7 +190,7 @@ fn fill(
     requires { ⌜ Ready (modelNow «edge_at» «edge_n» id score byte to unknown «unknown_score») (now text) × Inside
         (now start) (now «slot_id») (now «slot_score») (length (now text)) ⌝ }
     ensures { λ _.
-        ⌜ Recorded (model «edge_at» «edge_n» id score byte to unknown «unknown_score») (was text)
+        ⌜ Recorded (model «edge_at» «edge_n» id score byte to unknown «unknown_score») (was text) (length (was text))
         (slotsWas start «slot_id» «slot_score») (slotsIs start «slot_id» «slot_score») ⌝ }
 {
     cutting::slots::clear(start, slot_id, slot_score, text.len());

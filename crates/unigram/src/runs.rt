@@ -3,13 +3,16 @@
 use trie::checked::NodeId;
 ghost use mathlib.Core.Path.{_≡_};
 ghost use mathlib.Core.Bool.{cond};
+ghost use mathlib.Core.Option.{none};
 ghost use Prim.Native.Nat.{_+_, _<_};
 ghost use lib.Dec.{eqb};
 ghost use lib.ListN.{length};
 ghost use Rattle.trie.specs.Trie.{parts, partsNow};
-ghost use Rattle.unigram.specs.Runs.{runId};
-ghost use Rattle.unigram.specs.Merge.{partId, waiting, runIds, closing, Placed, Run, Mergeable, Merged};
+ghost use Rattle.unigram.specs.Runs.{runId, merged};
+ghost use Rattle.unigram.specs.Merge.{partId, runIds, closing, Placed, Run, Mergeable};
+ghost use Rattle.cutting.specs.Tracing.{stepsAt};
 ghost use Rattle.refusal.specs.Lent.{is, was};
+ghost use Rattle.refusal.specs.Places.{overlay};
 
 // The id of the run's bytes, the second look-up; the unknown id if they have none.
 fn run_id(
@@ -74,8 +77,8 @@ fn stand(
     n: usize,
     ids: &mut [u32],
 ) -> usize
-    requires { ⌜ Run (partsNow «edge_at» «edge_n» id byte to) (now text) run at × (n + waiting run at < length (now ids))
-        ⌝ }
+    requires { ⌜ Run (partsNow «edge_at» «edge_n» id byte to) (now text) run at ×
+        (n + length (runIds (partId (partsNow «edge_at» «edge_n» id byte to) (now text)) unknown run at) < length (now ids)) ⌝ }
     ensures { λ r.
         ⌜ Placed (closing (partId (parts «edge_at» «edge_n» id byte to) (was text)) unknown run at x) (was ids) n (is ids)
         r ⌝ }
@@ -125,8 +128,8 @@ pub(crate) fn merge(
 ) -> usize
     requires { ⌜ Mergeable (partsNow «edge_at» «edge_n» id byte to) (now text) (now «slot_id») (now path) (now ids) ⌝ }
     ensures { λ r.
-        ⌜ Merged (parts «edge_at» «edge_n» id byte to) unknown (was text) (was «slot_id») (was path) (was ids) (is ids)
-        r ⌝ }
+        ⌜ (let all = merged (partId (parts «edge_at» «edge_n» id byte to) (was text)) unknown none 0
+        (stepsAt (was «slot_id») (was path)) in (r ≡ length all) × (is ids ≡ overlay all (was ids))) ⌝ }
 {
     let mut n: usize = 0;
     let mut run: usize = 0;

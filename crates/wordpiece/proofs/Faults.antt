@@ -18,7 +18,7 @@ use Rattle.trie.specs.Trie.{Trie}
 use Rattle.trie.specs.Sound.{sound}
 use Rattle.trie.proofs.SoundParts.{sound-of}
 use Rattle.wordpiece.specs.Encode.{encodeFault}
-use Rattle.wordpiece.specs.Checked.{Ready}
+use Rattle.wordpiece.specs.Checked.{Encodable}
 
 module _ (parts : Bool) (prefix w : List ℕ) (places : ℕ) where
   pub fault-word : maxText < length w → encodeFault parts prefix w places ≡ some fault.Size
@@ -67,7 +67,7 @@ module _ (parts : Bool) (prefix w : List ℕ) (places : ℕ) where
       let f = passed _ fault.Ids _ (d .1) in
       (not-false parts (b .0), fine-text w (c .0), ltb-false places (characters w) (f .0))
 
-pub ready : (t : Trie) (prefix w ids : List ℕ) → encodeFault (sound t) prefix w (length ids) ≡ none → Ready t w ids
+pub ready : (t : Trie) (prefix w ids : List ℕ) → encodeFault (sound t) prefix w (length ids) ≡ none → Encodable t w ids
 ready t prefix w ids e =
     let f = fine (sound t) prefix w (length ids) e in
     record { parts = sound-of t (f .0); well = f .1; room = f .2 }

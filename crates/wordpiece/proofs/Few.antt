@@ -10,13 +10,13 @@ use lib.Dec.{ltb}
 use lib.ListN.{length}
 use Rattle.text.specs.Text.{wellFormed, characters}
 use Rattle.text.proofs.Boundaries.{boundary-zero}
-use Rattle.wordpiece.specs.Pieces.{piecesOf, orUnknown, idsOf}
+use Rattle.wordpiece.specs.Pieces.{piecesOf, idsOf}
+use Rattle.wordpiece.proofs.Turns.{orUnknown}
 use Rattle.wordpiece.proofs.Rest.{pieces-few, some-character}
 use Rattle.wordpiece.proofs.Plans.{ids-long, ids-short, ids-empty}
 
 module _ (find : List ℕ → Option ℕ) (w : List ℕ) (well : wellFormed w ≡ true) where
   or-unknown-few : (unknown : ℕ) (o : Option (List ℕ)) → ((ids : List ℕ) → o ≡ some ids → length ids ≤ characters w) → 1 ≤ characters w → length (orUnknown unknown o) ≤ characters w
-  unfolding orUnknown
   or-unknown-few unknown none h one = omega arith
   or-unknown-few unknown (some ids) h one = h ids refl
 

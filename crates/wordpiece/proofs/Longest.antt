@@ -1,9 +1,9 @@
 -- The longest piece, as the walk finds it. Each byte more of the word is a step more of the walk; a piece that ends there is longer than those
 -- before it; and where the walk stops, nothing beyond is a piece. Assumes nothing.
 use mathlib.Core.Path.{_≡_, refl, sym, ap, _∙_}
-use mathlib.Core.Bool.{Bool, true, false, not, _&&_}
+use mathlib.Core.Bool.{Bool, true, false, not, _&&_, cond}
 use mathlib.Core.List.{List, [], _∷_, _++_}
-use mathlib.Core.Option.{Option, none, some, bind}
+use mathlib.Core.Option.{Option, none, some, bind, Option·map}
 use Prim.Native.Nat.{ℕ, zero, suc, _+_, _-_, _≤_, _<_}
 use native.Mathlib.Omega.{arith}
 use native.Mathlib.Decide.{decLt}
@@ -11,14 +11,16 @@ use borrow.Author.Tests.{lt-ltb, le-ltb, ltb-true, eqb-true, eqb-false, eq-eqb, 
 use lib.Dec.{ltb, eqb}
 use lib.ListN.{length, getD, take, drop, length-drop}
 use lib.Seq.{take-suc, take-add, drop-drop, getD-drop}
-use Rattle.refusal.proofs.Lists.{zero-one, none-some}
+use Rattle.refusal.specs.Refusal.{first}
+use Rattle.refusal.proofs.Lists.{none-some}
+use Rattle.refusal.proofs.Tests.{none-first}
 use Rattle.refusal.specs.Sizes.{noId}
 use Rattle.text.specs.Text.{boundary, part}
 use Rattle.trie.specs.Trie.{Trie, walk, step, idAt, idFrom}
-use Rattle.trie.proofs.Every.{first, second}
+use Rattle.trie.proofs.Every as every
 use Rattle.trie.proofs.Walking.{walk-snoc, walk-append-none, from-none, from-some, id-none, id-some}
 use Rattle.wordpiece.specs.Pieces.{Found, pieceTo, longestTo}
-use Rattle.wordpiece.specs.Checked.{pick, foundIf, foundSince, endAt}
+use Rattle.wordpiece.specs.Checked.{foundSince}
 
 -- ---- parts of a word
 
@@ -43,20 +45,39 @@ part-on w i j m p q =
 
 -- ---- the best piece as two numbers
 
+abbrev pub piece-to : ℕ → ℕ → Found
+piece-to end x = record { end = end; id = x }
+
 -- a piece that is not empty
-pub since-found : (i end x : ℕ) → i < end → foundSince i end x ≡ some (record { end = end; id = x })
-since-found i end x h = ap (λ (b : Bool). foundIf (not b) end x) (ne-eqb end i (λ e. omega arith))
+pub since-found : (i end x : ℕ) → (end ≡ i → ⊥) → foundSince i end x ≡ some (piece-to end x)
+since-found i end x h = ap (λ (b : Bool). cond b none (some (piece-to end x))) (ne-eqb end i h)
 
 pub since-none : (i end x : ℕ) → end ≡ i → foundSince i end x ≡ none
-since-none i end x e = ap (λ (b : Bool). foundIf (not b) end x) (eq-eqb end i e)
+since-none i end x e = ap (λ (b : Bool). cond b none (some (piece-to end x))) (eq-eqb end i e)
 
--- the id of a node that has one is what its place holds
-pub id-held : (t : Trie) (k : ℕ) {x : ℕ} → k < length (t .id) → idAt t k ≡ some x → x ≡ getD (t .id) k 0
-id-held t k {x} h e = go (eqb (getD (t .id) k 0) noId) refl
+-- the piece that ends at j with this id, where j may be an end; and by a test
+abbrev pub endAt : Bool → ℕ → Option ℕ → Option Found
+endAt b j id = cond b (Option·map (piece-to j) id) none
+
+abbrev pub foundIf : Bool → ℕ → ℕ → Option Found
+foundIf b j x = cond b (some (piece-to j x)) none
+
+-- whether a node's place holds an id, by what its id is
+pub id-told : (t : Trie) (k : ℕ) {o : Option ℕ} → k < length (t .id) → idAt t k ≡ o → not (eqb (getD (t .id) k 0) noId) ≡ elim o [ none ↦ false | some x ↦ true ]
+id-told t k {o} h e = go (eqb (getD (t .id) k 0) noId) refl
   where
-    go : (b : Bool) → eqb (getD (t .id) k 0) noId ≡ b → x ≡ getD (t .id) k 0
-    go true p = absurd (zero-one (cc (id-none t k h (eqb-true (getD (t .id) k 0) noId p))))
-    go false p = cc (id-some t k h (eqb-false (getD (t .id) k 0) noId p))
+    go : (b : Bool) → eqb (getD (t .id) k 0) noId ≡ b → not (eqb (getD (t .id) k 0) noId) ≡ elim o [ none ↦ false | some x ↦ true ]
+    go true p = rw (← e, id-none t k h (eqb-true (getD (t .id) k 0) noId p), p)
+    go false p = rw (← e, id-some t k h (eqb-false (getD (t .id) k 0) noId p), p)
+
+-- what ends at a node, by what its place holds
+pub ends-is : (t : Trie) (k j : ℕ) (b : Bool) → k < length (t .id) → endAt b j (idAt t k) ≡ foundIf (b && not (eqb (getD (t .id) k 0) noId)) j (getD (t .id) k 0)
+ends-is t k j false h = refl
+ends-is t k j true h = go (eqb (getD (t .id) k 0) noId) refl
+  where
+    go : (c : Bool) → eqb (getD (t .id) k 0) noId ≡ c → endAt true j (idAt t k) ≡ foundIf (not (eqb (getD (t .id) k 0) noId)) j (getD (t .id) k 0)
+    go true p = rw (id-none t k h (eqb-true (getD (t .id) k 0) noId p), p)
+    go false p = rw (id-some t k h (eqb-false (getD (t .id) k 0) noId p), p)
 
 -- ---- in any look-up, where p stands before the piece
 
@@ -68,12 +89,7 @@ module _ (find : List ℕ → Option ℕ) (p w : List ℕ) (i : ℕ) where
   -- a piece, by whether it is not empty and ends on a boundary, and by the id of what is spelled
   pub piece-is : (j : ℕ) → pieceTo find p w i j ≡ endAt (ltb i j && boundary w j) j (find (p ++ part w i j))
   unfolding pieceTo
-  piece-is j = go (ltb i j && boundary w j) (find (p ++ part w i j))
-    where
-      go : (b : Bool) (o : Option ℕ) → _≡_ {A = Option Found} (elim b [ true ↦ elim o [ none ↦ none | some x ↦ some (record { end = j; id = x }) ] | false ↦ none ]) (endAt b j o)
-      go true none = refl
-      go true (some x) = refl
-      go false o = refl
+  piece-is j = refl
 
   -- what a piece says
   pub piece-says : (j : ℕ) {f : Found} → pieceTo find p w i j ≡ some f → (i < j) × (boundary w j ≡ true) × (j ≡ f .end) × (find (p ++ part w i j) ≡ some (f .id))
@@ -81,7 +97,7 @@ module _ (find : List ℕ → Option ℕ) (p w : List ℕ) (i : ℕ) where
     where
       go : (b : Bool) (o : Option ℕ) → ltb i j && boundary w j ≡ b → endAt b j o ≡ some f → (i < j) × (boundary w j ≡ true) × (j ≡ f .end) × (o ≡ some (f .id))
       go true none q r = absurd (none-some r)
-      go true (some x) q r = (ltb-true i j (first (ltb i j) (boundary w j) q), second (ltb i j) (boundary w j) q, cc, cc)
+      go true (some x) q r = (ltb-true i j (every.first (ltb i j) (boundary w j) q), every.second (ltb i j) (boundary w j) q, cc, cc)
       go false o q r = absurd (none-some r)
 
   -- what is not spelled is no piece
@@ -92,13 +108,9 @@ module _ (find : List ℕ → Option ℕ) (p w : List ℕ) (i : ℕ) where
   piece-empty : (j : ℕ) → j ≤ i → pieceTo find p w i j ≡ none
   piece-empty j h = piece-is j ∙ rw (le-ltb i j h)
 
-  pub longest-more : (j : ℕ) → longestTo find p w i (suc j) ≡ pick (pieceTo find p w i (suc j)) (longestTo find p w i j)
+  pub longest-more : (j : ℕ) → longestTo find p w i (suc j) ≡ first (pieceTo find p w i (suc j)) (longestTo find p w i j)
   unfolding longestTo
-  longest-more j = go (pieceTo find p w i (suc j))
-    where
-      go : (o : Option Found) → _≡_ {A = Option Found} (elim o [ some f ↦ some f | none ↦ longestTo find p w i j ]) (pick o (longestTo find p w i j))
-      go none = refl
-      go (some f) = refl
+  longest-more j = refl
 
   -- where no piece ends after m, the longest is the one that ends at m or before
   pub longest-until : (m n : ℕ) → m ≤ n → ((j : ℕ) → m < j → j ≤ n → pieceTo find p w i j ≡ none) → longestTo find p w i n ≡ longestTo find p w i m
@@ -110,7 +122,7 @@ module _ (find : List ℕ → Option ℕ) (p w : List ℕ) (i : ℕ) where
           → longestTo find p w i (suc n) ≡ longestTo find p w i m
       go (no l) on = let same : suc n ≡ m = omega (arith, l) in ap (longestTo find p w i) same
       go (yes l) on =
-          longest-more n ∙ rw (none-at (suc n) l (omega arith)) (on (omega arith) (λ j a b. none-at j a (omega arith)))
+          longest-more n ∙ none-first _ (none-at (suc n) l (omega arith)) ∙ on (omega arith) (λ j a b. none-at j a (omega arith))
 
   pub longest-start : (j : ℕ) → j ≤ i → longestTo find p w i j ≡ none
   unfolding longestTo
@@ -124,7 +136,7 @@ module _ (t : Trie) (k : ℕ) (w : List ℕ) (i : ℕ) where
 
   -- one step more
   pub longest-step :
-      (j : ℕ) {n m : ℕ} → i ≤ j → j < length w → walk t k (part w i j) ≡ some n → step t n (getD w j 0) ≡ some m → (walk t k (part w i (suc j)) ≡ some m) × (best (suc j) ≡ pick (endAt (boundary w (suc j)) (suc j) (idAt t m)) (best j))
+      (j : ℕ) {n m : ℕ} → i ≤ j → j < length w → walk t k (part w i j) ≡ some n → step t n (getD w j 0) ≡ some m → (walk t k (part w i (suc j)) ≡ some m) × (best (suc j) ≡ first (endAt (boundary w (suc j)) (suc j) (idAt t m)) (best j))
   unfolding bind
   longest-step j {n} {m} h b e s =
       let on : walk t k (part w i (suc j)) ≡ some m =

@@ -3,25 +3,25 @@
 use mathlib.Core.Path.{_≡_, refl, sym, ap, _∙_}
 use mathlib.Core.Bool.{Bool, true, false}
 use mathlib.Core.List.{List, [], _∷_, _++_}
-use mathlib.Core.Option.{Option, none, some, bind}
+use mathlib.Core.Option.{Option, none, some, bind, Option·map}
 use Prim.Native.Nat.{ℕ, zero, suc, _+_, _-_, _≤_, _<_}
 use native.Mathlib.Omega.{arith}
 use borrow.Author.Tests.{ltb-true, ltb-false}
 use lib.Dec.{ltb, eqb}
 use lib.ListN.{length, take, drop}
 use lib.Seq.{take-add, take-all, take-length}
+use Rattle.refusal.specs.Refusal.{first}
 use Rattle.refusal.proofs.Lists.{none-some, false-true}
 use Rattle.text.specs.Text.{wellFormed, boundary, characters, next, part}
 use Rattle.text.proofs.Boundaries.{next-first, characters-next, characters-append, boundary-le, boundary-zero, boundary-end}
 use Rattle.trie.specs.Trie.{Trie, walk, idFrom, idOf}
 use Rattle.trie.proofs.Walking.{from-append, id-of}
-use Rattle.wordpiece.specs.Pieces.{Found, pieceTo, longestTo, before, piecesFrom, piecesOf}
-use Rattle.wordpiece.specs.Checked.{pick, restFrom, counted, more}
+use Rattle.wordpiece.specs.Pieces.{Found, pieceTo, longestTo, piecesFrom, piecesOf}
+use Rattle.wordpiece.specs.Checked.{restFrom}
 use Rattle.wordpiece.proofs.Longest.{piece-says, piece-absent, longest-more, longest-until}
-use Rattle.wordpiece.proofs.Turns.{turn, turn-same, pieces-turn, pieces-end, pieces-next, pieces-same}
+use Rattle.wordpiece.proofs.Turns.{before, turn, turn-same, pieces-turn, pieces-end, pieces-next, pieces-same}
 
 pub before-some : (x : ℕ) (o : Option (List ℕ)) {ys : List ℕ} → before x o ≡ some ys → (zs : List ℕ) × (o ≡ some zs) × (ys ≡ x ∷ zs)
-unfolding before
 before-some x none e = absurd (none-some e)
 before-some x (some zs) {ys} e = (zs, refl, cc)
 
@@ -40,11 +40,11 @@ module _ (find : List ℕ → Option ℕ) (p w : List ℕ) (i : ℕ) where
       record { above = omega (arith, s .0, s .2); below = omega (arith, s .2); at = ap (boundary w) (sym (s .2)) ∙ s .1 }
 
   pub longest-ends : (j : ℕ) {f : Found} → longestTo find p w i j ≡ some f → Ends w i j f
-  unfolding longestTo
+  unfolding longestTo first
   longest-ends zero {f} e = absurd (none-some e)
   longest-ends (suc j) {f} e = go (pieceTo find p w i (suc j)) refl (longest-ends j) (sym (longest-more find p w i j) ∙ e)
     where
-      go : (o : Option Found) → pieceTo find p w i (suc j) ≡ o → (longestTo find p w i j ≡ some f → Ends w i j f) → pick o (longestTo find p w i j) ≡ some f → Ends w i (suc j) f
+      go : (o : Option Found) → pieceTo find p w i (suc j) ≡ o → (longestTo find p w i j ≡ some f → Ends w i j f) → first o (longestTo find p w i j) ≡ some f → Ends w i (suc j) f
       go none q on r = let s = on r in record { above = s .above; below = omega (arith, s .below); at = s .at }
       go (some g) q on r = piece-ends (suc j) (q ∙ r)
 
@@ -90,7 +90,6 @@ module _ (find : List ℕ → Option ℕ) (prefix w : List ℕ) where
 
     -- a piece that is the whole word
     pub pieces-alone : {f : Found} → longestTo find [] w 0 (length w) ≡ some f → f .end ≡ length w → piecesOf find prefix w ≡ some (f .id ∷ [])
-    unfolding before
     pieces-alone {f} e last = pieces-first e ∙ ap (before (f .id)) (ended (length w) some-byte)
       where
         ended : (n : ℕ) → 0 < n → piecesFrom find prefix w n prefix (f .end) ≡ some []
@@ -100,7 +99,7 @@ module _ (find : List ℕ → Option ℕ) (prefix w : List ℕ) where
     -- "If no token begins with a non-empty prefix, only a whole-word token escapes unknown": where the first piece is not the
     -- whole word, the second is a miss
     pub pieces-absent : ((s : List ℕ) → find (prefix ++ s) ≡ none) → {f : Found} → longestTo find [] w 0 (length w) ≡ some f → f .end < length w → piecesOf find prefix w ≡ none
-    unfolding piecesFrom longestTo before
+    unfolding piecesFrom longestTo
     pieces-absent absent {f} e h = pieces-first e ∙ ap (before (f .id)) (stuck (length w))
       where
         stuck : (n : ℕ) → piecesFrom find prefix w n prefix (f .end) ≡ none
@@ -182,8 +181,11 @@ module _ (w : List ℕ) (well : wellFormed w ≡ true) where
 
 -- ---- counting and writing
 
-pub count-piece : (x : ℕ) (o : Option (List ℕ)) → counted (before x o) ≡ more 1 (counted o)
-unfolding before
+-- so many more
+abbrev pub more : ℕ → Option ℕ → Option ℕ
+more n o = Option·map (λ m. n + m) o
+
+pub count-piece : (x : ℕ) (o : Option (List ℕ)) → Option·map length (before x o) ≡ more 1 (Option·map length o)
 count-piece x none = refl
 count-piece x (some ids) = ap (λ (n : ℕ). some n) (omega arith)
 

@@ -1,19 +1,26 @@
 -- The pieces of a word, turn by turn; and two look-ups that agree on what stands after their prefixes find the same
 -- pieces. By induction on the bound: each turn finds the same longest piece and goes on alike. Assumes nothing.
 use mathlib.Core.Path.{_≡_, refl, sym, ap, fun-ext, _∙_}
-use mathlib.Core.Bool.{Bool, true, false}
-use mathlib.Core.List.{List, [], _++_}
-use mathlib.Core.Option.{Option, none, some}
+use mathlib.Core.Bool.{Bool, true, false, cond}
+use mathlib.Core.List.{List, [], _∷_, _++_}
+use mathlib.Core.Option.{Option, none, some, bind, Option·map, Option·getD}
 use Prim.Native.Nat.{ℕ, zero, suc, _<_}
 use native.Mathlib.Omega.{arith}
 use borrow.Author.Tests.{eq-eqb, ne-eqb}
 use lib.Dec.{eqb}
 use lib.ListN.{length}
 use Rattle.text.specs.Text.{part}
-use Rattle.wordpiece.specs.Pieces.{Found, longestTo, before, piecesFrom, idsOf}
+use Rattle.wordpiece.specs.Pieces.{Found, longestTo, piecesFrom, idsOf}
 use Rattle.wordpiece.proofs.Longest.{piece-is, longest-more}
 
 -- ---- one turn
+
+-- a piece's id before those of the pieces after it, and one unknown id for a miss
+abbrev pub before : ℕ → Option (List ℕ) → Option (List ℕ)
+before x o = Option·map (λ ids. x ∷ ids) o
+
+abbrev pub orUnknown : ℕ → Option (List ℕ) → List ℕ
+orUnknown unknown o = Option·getD o (unknown ∷ [])
 
 -- nothing at the end of the word, none at a miss, else the piece's id before what comes after it
 abbrev pub turn : Bool → Option Found → (ℕ → Option (List ℕ)) → Option (List ℕ)
@@ -28,12 +35,12 @@ turn-same false (some f) on other h = ap (before (f .id)) (h f refl)
 
 module _ (find : List ℕ → Option ℕ) (prefix w : List ℕ) (n : ℕ) (at : List ℕ) (i : ℕ) where
   pub pieces-turn : piecesFrom find prefix w (suc n) at i ≡ turn (eqb i (length w)) (longestTo find at w i (length w)) (piecesFrom find prefix w n prefix)
-  unfolding piecesFrom
+  unfolding piecesFrom bind
   pieces-turn = go (eqb i (length w)) (longestTo find at w i (length w))
     where
       go :
           (b : Bool) (o : Option Found)
-          → _≡_ {A = Option (List ℕ)} (elim b [ true ↦ some [] | false ↦ elim o [ none ↦ none | some f ↦ before (f .id) (piecesFrom find prefix w n prefix (f .end)) ] ])
+          → _≡_ {A = Option (List ℕ)} (cond b (some []) (bind o (λ f. before (f .id) (piecesFrom find prefix w n prefix (f .end)))))
           (turn b o (piecesFrom find prefix w n prefix))
       go true o = refl
       go false none = refl

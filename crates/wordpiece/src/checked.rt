@@ -8,23 +8,23 @@ use trie::checked::NodeId;
 use trie::checked::Step;
 use trie::checked::Walk;
 ghost use mathlib.Core.Path.{_≡_};
-ghost use mathlib.Core.Bool.{true};
+ghost use mathlib.Core.Bool.{true, not, _&&_};
 ghost use mathlib.Core.List.{List, [], _∷_};
-ghost use mathlib.Core.Option.{some};
+ghost use mathlib.Core.Option.{some, Option·getD};
 ghost use Prim.Native.Nat.{ℕ, _+_, _≤_, _<_};
-ghost use lib.Dec.{ltb};
+ghost use lib.Dec.{ltb, eqb};
 ghost use lib.ListN.{length, getD, take, set};
 ghost use lib.Seq.{sets};
 ghost use Rattle.refusal.specs.Refusal.{faultIn};
+ghost use Rattle.refusal.specs.Sizes.{noId};
 ghost use Rattle.refusal.specs.Places.{overlay};
 ghost use Rattle.text.specs.Text.{wellFormed, boundary, characters};
-ghost use Rattle.trie.specs.Trie.{Trie, idAt, idFrom, idOf, parts, partsNow};
+ghost use Rattle.trie.specs.Trie.{idFrom, idOf, parts, partsNow};
 ghost use Rattle.trie.specs.Sound as soundness;
 ghost use Rattle.trie.specs.Sound.{Sound};
-ghost use Rattle.wordpiece.specs.Pieces.{longestTo, piecesOf, orUnknown, idsOf};
+ghost use Rattle.wordpiece.specs.Pieces.{longestTo, piecesOf, idsOf};
 ghost use Rattle.wordpiece.specs.Encode.{encodeFault, Encoded};
-ghost use Rattle.wordpiece.specs.Checked.{foundIn, foundIf, foundSince, endAt, restFrom};
-ghost use Rattle.wordpiece.specs.Checked.{Walked, Fitting, Held, First, Ready};
+ghost use Rattle.wordpiece.specs.Checked.{foundIn, foundSince, restFrom, Walked, Fitting, Encodable};
 ghost use Rattle.refusal.specs.Lent.{is, was};
 
 // A piece that was found: where it ends, and its id.
@@ -51,9 +51,7 @@ const HELD: usize = 32;
 // Whether a piece ends at byte j, where the walk has come to: j is a boundary, and the walk's node has an id.
 fn ends_here(id: &[u32], w: &[u8], at: Walk, j: usize) -> bool
     requires { ⌜ at .node < length (now id) ⌝ }
-    ensures { λ r.
-        ⌜ ((t : Trie) → t .id ≡ was id → endAt (boundary (was w) j) j (idAt t (at .node)) ≡ foundIf r j
-        (getD (was id) (at .node) 0)) ⌝ }
+    ensures { λ r. ⌜ r ≡ (boundary (was w) j && not (eqb (getD (was id) (at .node) 0) noId)) ⌝ }
 {
     if !text::utf8::is_boundary(w, j) {
         return false;
@@ -238,7 +236,7 @@ fn put_all(
     requires { ⌜ rest .node < length (now «edge_at») ⌝ }
     requires { ⌜ Fitting (idFrom (partsNow «edge_at» «edge_n» id byte to) (rest .node)) (now w) (first .end) (now ids) ⌝ }
     requires { ⌜ ((xs : List ℕ) → restFrom (idFrom (partsNow «edge_at» «edge_n» id byte to) (rest .node)) (now w)
-        (first .end) ≡ some xs → Held xs (now held) n) ⌝ }
+        (first .end) ≡ some xs → (n ≡ length xs) × (n ≤ length (now held) → take n (now held) ≡ xs)) ⌝ }
     ensures { λ r.
         ⌜ ((xs : List ℕ) → restFrom (idFrom (parts «edge_at» «edge_n» id byte to) (rest .node)) (was w) (first .end)
         ≡ some xs → (r ≡ 1 + length xs) × (is ids ≡ overlay (first .id ∷ xs) (was ids))) ⌝ }
@@ -265,11 +263,13 @@ fn encode_rest(
     first: Piece,
     ids: &mut [u32],
 ) -> usize
-    requires { ⌜ Ready (partsNow «edge_at» «edge_n» id byte to) (now w) (now ids) ⌝ }
-    requires { ⌜ First (idOf (partsNow «edge_at» «edge_n» id byte to)) (now w) (first .end) (first .id) ⌝ }
+    requires { ⌜ Encodable (partsNow «edge_at» «edge_n» id byte to) (now w) (now ids) ⌝ }
+    requires { ⌜ longestTo (idOf (partsNow «edge_at» «edge_n» id byte to)) [] (now w) 0 (length (now w)) ≡ some
+        (record { end = first .end; id = first .id }) ⌝ }
+    requires { ⌜ first .end < length (now w) ⌝ }
     ensures { λ r.
-        ⌜ (let all = orUnknown unknown (piecesOf (idOf (parts «edge_at» «edge_n» id byte to)) (was prefix) (was w)) in
-        (r ≡ length all) × (is ids ≡ overlay all (was ids))) ⌝ }
+        ⌜ (let pieces = piecesOf (idOf (parts «edge_at» «edge_n» id byte to)) (was prefix) (was w) in
+        let all = Option·getD pieces (unknown ∷ []) in (r ≡ length all) × (is ids ≡ overlay all (was ids))) ⌝ }
 {
     let Step::To(rest) = Walk::root().over(edge_at, edge_n, byte, to, prefix) else {
         return put(ids, unknown);
@@ -295,7 +295,7 @@ pub fn encode(
     w: &[u8],
     ids: &mut [u32],
 ) -> usize
-    requires { ⌜ Ready (partsNow «edge_at» «edge_n» id byte to) (now w) (now ids) ⌝ }
+    requires { ⌜ Encodable (partsNow «edge_at» «edge_n» id byte to) (now w) (now ids) ⌝ }
     ensures { λ r.
         ⌜ (let all = idsOf (idOf (parts «edge_at» «edge_n» id byte to)) unknown «max_chars» (was prefix) (was w) in
         (r ≡ length all) × (is ids ≡ overlay all (was ids))) ⌝ }

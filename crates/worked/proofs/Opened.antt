@@ -1,6 +1,7 @@
 -- A definition is shut until a proof opens it, and to open one is to open what its own `unfolding` line names. So `opened` on such a line opens
 -- every definition that computing an example meets, layer by layer. It says nothing itself.
-use mathlib.Core.List.{flatMap, flatten}
+use mathlib.Core.List.{flatMap, flatten, Option·toList}
+use mathlib.Core.Option.{bind}
 use lib.Ieee.{size}
 use Rattle.doubles.specs.Double as doubles
 use Rattle.refusal.specs.Refusal as refusal
@@ -47,11 +48,11 @@ unfolding rows.worthFault rows.rowFault rows.firstBad scores.lowest scores.lowes
 build-opened = tt
 
 unfoldable pub unigram-opened : Unit {0}
-unfolding records.scoreOf records.offered records.candidate records.offeredAll records.standing records.best records.shown records.recordsFrom records.followed runs.runId runs.merged unigram.pieceAt unigram.known unigram.pieceHere unigram.pieceOf unigram.listed unigram.idsOf segment.shortScratch segment.segmentFault
+unfolding Option·toList records.offered records.candidate records.offeredAll records.standing records.best records.shown records.recordsFrom records.followed runs.runId runs.merged unigram.pieceAt unigram.known unigram.pieceOf unigram.idsOf segment.shortScratch segment.segmentFault
 unigram-opened = tt
 
 unfoldable pub wordpiece-opened : Unit {0}
-unfolding wordpiece.pieceTo wordpiece.longestTo wordpiece.before wordpiece.piecesFrom wordpiece.piecesOf wordpiece.orUnknown wordpiece.idsOf encode.encodeFault
+unfolding bind wordpiece.pieceTo wordpiece.longestTo wordpiece.piecesFrom wordpiece.piecesOf wordpiece.idsOf encode.encodeFault
 wordpiece-opened = tt
 
 unfoldable pub pack-opened : Unit {0}

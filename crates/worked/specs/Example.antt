@@ -13,7 +13,7 @@ use Rattle.rows.specs.Rows.{Row, Worth, firstBad}
 use Rattle.rows.specs.Scores.{unknownScore}
 use Rattle.build.specs.Names as names
 use Rattle.build.specs.Rules.{scoresOf, unigramTrie, unigramScores, wordpieceTrie}
-use Rattle.cutting.specs.Records.{scoreOf, best}
+use Rattle.cutting.specs.Records.{best, shown}
 use Rattle.unigram.specs.Pieces as unigram
 use Rattle.unigram.specs.Segment.{segmentFault, soundModel}
 use Rattle.unigram.specs.Checked.{lengths}
@@ -80,7 +80,7 @@ unfoldable pub unigramHolds : unigram.Model → Given → Bool
 unigramHolds m g =
     let s = g .text in
     let n = length s in
-    isNone (segmentFault (soundModel m) s (lengths places places places places places)) && names.same (unigram.idsOf m s) (g .ids) && scoreIs (g .score) (scoreOf (best (unigram.rule m s) n n))
+    isNone (segmentFault (soundModel m) s (lengths places places places places places)) && names.same (unigram.idsOf m s) (g .ids) && scoreIs (g .score) (shown (best (unigram.rule m s) n n) .score)
 
 -- the word is accepted and gives these ids
 unfoldable pub wordpieceHolds : Example → Given → Bool

@@ -96,7 +96,7 @@ returns c =
     let s = h .before .args .start .now in
     let z : h .loop .at ≡ 0 = omega (arith, c .loop-test .left) in
     let none-left : endsFrom s (h .loop .at) (h .loop .at) ≡ [] = ap (λ (j : ℕ). endsFrom s j j) z ∙ ends-first s 0 in
-    record { path = sym (h .loop .inv .3 ∙ ap (λ (es : List ℕ). es ++ drop (length es) (h .loop .path)) none-left) }
+    sym (h .loop .inv .3 ∙ ap (λ (es : List ℕ). es ++ drop (length es) (h .loop .path)) none-left)
 
 pub write-spec : {M : Type 1} → statement M
 write-spec =

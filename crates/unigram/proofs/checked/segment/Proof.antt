@@ -7,10 +7,10 @@ use lib.ListN.{length}
 use lib.Seq.{length-take-le}
 use Rattle.cutting.specs.Slots.{Inside}
 use Rattle.unigram.specs.Pieces.{Model}
-use Rattle.unigram.specs.Work.{modelOf, pieceWith}
+use Rattle.unigram.specs.Work.{modelOf}
 use Rattle.unigram.specs.Segment.{Scratch}
 use Rattle.unigram.specs.Checked.{scratchOf}
-use Rattle.unigram.proofs.Refusing.{empty-for}
+use Rattle.unigram.proofs.Refusing.{Prepared, prepared-for, empty-for}
 use Rattle.unigram.proofs.Segmenting.{front-few, mergeable, cut-of}
 use borrow.Author.Needs.{needs}
 use Rattle.unigram.proofs.checked.segment.Statement.{statement}
@@ -37,29 +37,33 @@ columns c = let a = c .args in scratchOf (a .start .now) (a .slot-id .now) (a .s
 abbrev model : tie.Start → Model
 model c =
     let a = c .args in
-    modelOf (a .edge-at .now) (a .edge-n .now) (a .id .now) (a .score .now) (a .byte .now) (a .to .now) (pieceWith (a .unknown) (a .unknown-score))
+    modelOf (a .edge-at .now) (a .edge-n .now) (a .id .now) (a .score .now) (a .byte .now) (a .to .now) (a .unknown) (a .unknown-score)
+
+-- what was tested
+prepared : (c : tie.Start) → let a = c .args in Prepared (model c) (a .text .now) (a .start .now) (a .slot-id .now) (a .slot-score .now) (a .path .now) (a .ids .now)
+prepared c = let a = c .args in prepared-for (model c) (a .text .now) (a .start .now) (a .slot-id .now) (a .slot-score .now) (a .path .now) (a .ids .now) (c .pre)
 
 -- a text that is not empty has its slots
 inside :
     (c : tie.Else1) → let a = start (c .before) .args in
     Inside (a .start .now) (a .slot-id .now) (a .slot-score .now) (length (a .text .now))
-inside c = start (c .before) .pre .slots (omega (arith, c .if1 .left))
+inside c = prepared (start (c .before)) .slots (omega (arith, c .if1 .left))
 
 -- the path holds the pieces
 fits : (c : tie.After-best-cutting) → c .best-cutting .result ≤ length (c .best-cutting .last .1 .1 .1 .1 .1 .1 .1 .1 .1 .1 .1 .1 .0)
 fits c =
-    let p = entry c .pre in
+    let p = prepared (entry c) in
     omega (arith, front-few (p .ready) (c .best-cutting .ensures), p .path, c .best-cutting .kept .1 .1 .1 .1 .1 .1 .1 .1 .1 .1 .1 .1 .0)
 
 returns : tie.Need-returns
 returns c =
     let e = start (c .before) in
-    empty-for (model e) (e .args .text .now) (columns e) (e .pre .ready) (c .if1 .taken)
+    empty-for (model e) (e .args .text .now) (columns e) (prepared e .ready) (c .if1 .taken)
 
 best-cutting-requires : tie.Need-best-cutting-requires
 best-cutting-requires c κs =
     let t = c .before .before .before .before in
-    let p = start (t .before) .pre in
+    let p = prepared (start (t .before)) in
     (p .ready, inside t, p .path)
 
 slice-reshare-prefix-merge : tie.Need-slice-reshare-prefix-merge
@@ -71,7 +75,7 @@ slice-aggregate-merge c = sym (length-take-le _ _ (fits (chosen (c .before))))
 merge-requires : tie.Need-merge-requires
 merge-requires c κs =
     let w = chosen (c .before .before) in
-    let p = entry w .pre in
+    let p = prepared (entry w) in
     mergeable (p .ready) (w .best-cutting .ensures) (omega (arith, inside (some-text w) .id, w .best-cutting .kept .1 .1 .1 .1 .1 .1 .1 .1 .1 .1 .0)) (p .ids)
 
 returns-2 : tie.Need-returns-2
@@ -81,7 +85,7 @@ returns-2 c =
     let w = chosen (m .before) in
     let l = w .best-cutting .last .1 .1 .1 .1 .1 .1 .1 .1 .1 in
     let kept = w .best-cutting .kept .1 .1 .1 .1 .1 .1 .1 .1 .1 in
-    cut-of (entry w .pre .ready) (l .0) (l .1 .0) (l .1 .1 .0) (some-text w .if1 .left) (inside (some-text w)) (kept .0) (kept .1 .0) (kept .1 .1 .0) (w .best-cutting .ensures) (g .merge .ensures)
+    cut-of (prepared (entry w) .ready) (l .0) (l .1 .0) (l .1 .1 .0) (some-text w .if1 .left) (inside (some-text w)) (kept .0) (kept .1 .0) (kept .1 .1 .0) (w .best-cutting .ensures) (g .merge .ensures)
 
 pub segment-spec : {M : Type 1} → statement M
 segment-spec =

@@ -9,10 +9,10 @@ use lib.ListN.{length}
 use borrow.Author.Needs.{needs}
 use Rattle.refusal.specs.Refusal.{faultIn}
 use Rattle.unigram.specs.Pieces.{Model}
-use Rattle.unigram.specs.Work.{modelOf, pieceWith}
+use Rattle.unigram.specs.Work.{modelOf}
 use Rattle.unigram.specs.Segment.{Scratch, Lengths, lengthsOf, segmentFault, soundModel}
 use Rattle.unigram.specs.Checked.{scratchOf, lengths}
-use Rattle.unigram.proofs.Refusing.{lengths-are, prepared-for, refused-for, cut-for}
+use Rattle.unigram.proofs.Refusing.{lengths-are, refused-for, cut-for}
 use Rattle.unigram.proofs.checked.segment_tested.Statement.{statement}
 use Rattle.unigram.proofs.checked.segment_tested.Tie as tie
 
@@ -23,7 +23,7 @@ entry c = c .before .before .before .before .before .before .before .before .bef
 abbrev model : tie.Start → Model
 model c =
     let a = c .args in
-    modelOf (a .edge-at .now) (a .edge-n .now) (a .id .now) (a .score .now) (a .byte .now) (a .to .now) (pieceWith (a .unknown) (a .unknown-score))
+    modelOf (a .edge-at .now) (a .edge-n .now) (a .id .now) (a .score .now) (a .byte .now) (a .to .now) (a .unknown) (a .unknown-score)
 
 abbrev text : tie.Start → List ℕ
 text c = c .args .text .now
@@ -57,9 +57,7 @@ cutting c = c .before .before .before .before .before .before .before .before .b
 segment-requires : tie.Need-segment-requires
 segment-requires c κs =
     let t = asked c in
-    let e = entry (t .before .before) in
-    let a = e .args in
-    prepared-for (model e) (text e) (a .start .now) (a .slot-id .now) (a .slot-score .now) (a .path .now) (a .ids .now) (free t)
+    by-columns (entry (t .before .before)) ∙ free t
 
 returns : tie.Need-returns
 returns c =

@@ -23,7 +23,7 @@ returns : tie.Need-returns
 returns c =
     let t = c .before .before in
     let f = filled (t .before) in
-    best-cutting (entry f .pre .0) (f .fill .ensures) (t .trace .ensures .0) (t .trace .ensures .1)
+    best-cutting (entry f .pre .0) (f .fill .ensures) (t .trace .ensures)
 
 pub best-cutting-spec : {M : Type 1} → statement M
 best-cutting-spec =

@@ -11,7 +11,7 @@ use Rattle.text.specs.Text.{boundary, next}
 use Rattle.text.proofs.Boundaries.{boundary-zero, next-above, next-inside, next-boundary}
 use Rattle.unigram.specs.Pieces.{rule}
 use Rattle.cutting.specs.Slots.{slotsOf, slotAt}
-use Rattle.unigram.specs.Work.{modelOf, pieceWith}
+use Rattle.unigram.specs.Work.{modelOf}
 use Rattle.cutting.specs.Law.{Holds}
 use Rattle.cutting.proofs.Columns.{inside-kept}
 use Rattle.cutting.proofs.Holding.{holds-none, cleared-past, recorded}
@@ -26,7 +26,7 @@ Inv-loop edge-at edge-n id score byte to unknown unknown-score text start₀ slo
     × (length start ≡ length start₀)
     × (length slot-id ≡ length slot-id₀)
     × (length slot-score ≡ length slot-score₀)
-    × Holds (rule (modelOf edge-at edge-n id score byte to (pieceWith unknown unknown-score)) text) (length text) at (slotsOf start slot-id slot-score)
+    × Holds (rule (modelOf edge-at edge-n id score byte to unknown unknown-score) text) (length text) at (slotsOf start slot-id slot-score)
     × ((k : ℕ) → length text < k → slotAt (slotsOf start slot-id slot-score) k ≡ slotAt (slotsOf start₀ slot-id₀ slot-score₀) k)
 
 abbrev μ-loop : tie.MeasureT-loop
@@ -113,7 +113,7 @@ loop-less c =
     let w = worked c in
     let above = goes-on w in
     let more = turn w .loop-test .taken in
-    omega (arith, w .work-at .ensures .next)
+    omega (arith, w .work-at .ensures .0)
 
 loop-again : tie.Need-loop-again Inv-loop μ-loop
 loop-again c =
@@ -124,13 +124,13 @@ loop-again c =
     let k = w .work-at .kept .1 .1 .1 .1 .1 .1 .1 .1 .1 .1 in
     let a = h .loop .at in
     let well = e .pre .0 .well in (
-      omega (arith, w .work-at .ensures .next, next-inside (text e) well a (h .loop .inv .1) (t .loop-test .taken)),
-      ap (boundary (text e)) (w .work-at .ensures .next) ∙ next-boundary (text e) well a (h .loop .inv .1) (t .loop-test .taken),
+      omega (arith, w .work-at .ensures .0, next-inside (text e) well a (h .loop .inv .1) (t .loop-test .taken)),
+      ap (boundary (text e)) (w .work-at .ensures .0) ∙ next-boundary (text e) well a (h .loop .inv .1) (t .loop-test .taken),
       k .0 ∙ h .loop .inv .2,
       k .1 .0 ∙ h .loop .inv .3,
       k .1 .1 .0 ∙ h .loop .inv .4,
-      w .work-at .ensures .holds,
-      λ i l. w .work-at .ensures .past i l ∙ h .loop .inv .6 i l,
+      w .work-at .ensures .1 .holds,
+      λ i l. w .work-at .ensures .1 .past i l ∙ h .loop .inv .6 i l,
     )
 
 same-length : tie.Need-same-length Inv-loop μ-loop
@@ -148,7 +148,7 @@ returns c =
     let d = emptied (h .before) in
     let e = begun d in
     let ready = e .pre .0 in
-    recorded (given _ (text e) (ready .well) (ready .sound)) (boundary-stands _ (text e) (ready .well) (ready .sound)) (omega (arith, h .loop .inv .0, c .loop-test .left)) (h .loop .inv .5)
+    recorded (given _ (text e) (ready .well) (ready .sound)) (boundary-stands _ (text e) (ready .well) (ready .sound)) (omega (arith, h .loop .inv .0, c .loop-test .left)) (omega arith) (h .loop .inv .5)
     (λ k l. h .loop .inv .6 k l ∙ cleared-past (d .clear .ensures) k l)
 
 pub fill-spec : {M : Type 1} → statement M

@@ -6,13 +6,13 @@ use mathlib.Core.Option.{some}
 use Prim.Native.Nat.{ℕ, _+_, _-_, _≤_, _<_}
 use native.Mathlib.Omega.{arith}
 use borrow.Author.Needs.{needs}
+use lib.Ieee.{Float}
 use lib.ListN.{length, getD}
 use Rattle.doubles.specs.Units.{units}
 use Rattle.text.specs.Text.{part}
 use Rattle.trie.specs.Trie.{Trie, partsOf, step, walk}
 use Rattle.trie.specs.Walks.{nextOf}
 use Rattle.trie.proofs.Walking.{step-inside}
-use Rattle.cutting.specs.Cuttings.{Piece}
 use Rattle.unigram.specs.Pieces.{Model}
 use Rattle.cutting.specs.Slots.{Slots, slotsOf}
 use Rattle.cutting.proofs.Columns.{inside-kept}
@@ -29,9 +29,9 @@ Inv-loop edge-at edge-n id score byte to text at one till start₀ slot-id₀ sl
     × (length start ≡ length start₀)
     × (length slot-id ≡ length slot-id₀)
     × (length slot-score ≡ length slot-score₀)
-    × ((u : Piece) → walk (partsOf edge-at edge-n id byte to) 0 (part text at i) ≡ some node)
-    × ((u : Piece)
-    → Offered (modelOf edge-at edge-n id score byte to u) text at one (units till) (slotsOf start₀ slot-id₀ slot-score₀) i (slotsOf start slot-id slot-score) single)
+    × (walk (partsOf edge-at edge-n id byte to) 0 (part text at i) ≡ some node)
+    × ((u : ℕ) (x : Float)
+    → Offered (modelOf edge-at edge-n id score byte to u x) text at one (units till) (slotsOf start₀ slot-id₀ slot-score₀) i (slotsOf start slot-id slot-score) single)
 
 abbrev μ-loop : tie.MeasureT-loop
 μ-loop edge-at edge-n id score byte to text at one till start₀ slot-id₀ slot-score₀ first node₀ single₀ i₀ start slot-id slot-score node single i = length text - i
@@ -47,8 +47,8 @@ head c = c .before .before .before
 more : (c : tie.After-step-by Inv-loop μ-loop) → let h = head c in h .loop .i < length (entry (h .before) .args .text .now)
 more c = c .before .before .loop-test .taken
 
-abbrev model : tie.Start Inv-loop μ-loop → Piece → Model
-model c u = let a = c .args in modelOf (a .edge-at .now) (a .edge-n .now) (a .id .now) (a .score .now) (a .byte .now) (a .to .now) u
+abbrev model : tie.Start Inv-loop μ-loop → ℕ → Float → Model
+model c u x = let a = c .args in modelOf (a .edge-at .now) (a .edge-n .now) (a .id .now) (a .score .now) (a .byte .now) (a .to .now) u x
 
 abbrev text : tie.Start Inv-loop μ-loop → List ℕ
 text c = c .args .text .now
@@ -95,7 +95,7 @@ led-inside c =
 loop-holds : tie.Need-loop-holds Inv-loop μ-loop
 loop-holds c =
     let e = entry c in
-    (omega arith, e .pre .0 .inside, e .pre .0 .parts .some-node, refl, refl, refl, λ u. walk-none-yet (model e u) (text e) (e .args .at), λ u. offered-none (model e u) (text e) (e .args .at) (e .args .one) (units (e .args .till)) (columns e) (e .pre .0 .ahead))
+    (omega arith, e .pre .0 .inside, e .pre .0 .parts .some-node, refl, refl, refl, walk-none-yet (model e 0 (e .args .till)) (text e) (e .args .at), λ u x. offered-none (model e u x) (text e) (e .args .at) (e .args .one) (units (e .args .till)) (columns e) (e .pre .0 .ahead))
 
 shared-slice-read-step-by : tie.Need-shared-slice-read-step-by Inv-loop μ-loop
 shared-slice-read-step-by c = omega arith
@@ -116,12 +116,12 @@ same-length-3 : tie.Need-same-length-3 Inv-loop μ-loop
 same-length-3 c = head (c .before .before) .loop .inv .5
 
 returns : tie.Need-returns Inv-loop μ-loop
-returns c u =
+returns c u x =
     let t = c .before .before in
     let h = head t in
     let e = entry (h .before) in
-    offered-all (model e u) (text e) (e .args .at) (e .args .one) (units (e .args .till)) (columns e) (h .loop .inv .7 u)
-    (walk-over (model e u) (text e) (e .args .at) (h .loop .i) (h .loop .node) (h .loop .inv .0) (omega arith) (h .loop .inv .6 u) (stepped t ∙ ap nextOf (c .enum-told .given .1)))
+    offered-all (model e u x) (text e) (e .args .at) (e .args .one) (units (e .args .till)) (columns e) (h .loop .inv .7 u x)
+    (walk-over (model e u x) (text e) (e .args .at) (h .loop .i) (h .loop .node) (h .loop .inv .0) (omega arith) (h .loop .inv .6) (stepped t ∙ ap nextOf (c .enum-told .given .1)))
 
 add-i : tie.Need-add-i Inv-loop μ-loop
 add-i c = omega arith
@@ -149,8 +149,8 @@ loop-again c =
     let h = head (n .before .before) in
     let e = entry (h .before) in
     let k = d .end-at .kept .1 .1 .1 .1 .1 .1 .1 .1 .1 in
-    let walked : (u : Piece) → walk (parts e) 0 (part (text e) (e .args .at) (h .loop .i + 1)) ≡ some (n .next .given .0 .0 .node) =
-    λ u. walk-on (model e u) (text e) (e .args .at) (h .loop .i) (h .loop .node) (h .loop .inv .0) (omega arith) (h .loop .inv .6 u) _ (led n)
+    let walked : walk (parts e) 0 (part (text e) (e .args .at) (h .loop .i + 1)) ≡ some (n .next .given .0 .0 .node) =
+    walk-on (model e 0 (e .args .till)) (text e) (e .args .at) (h .loop .i) (h .loop .node) (h .loop .inv .0) (omega arith) (h .loop .inv .6) _ (led n)
     in (
       omega (arith, h .loop .inv .0),
       omega arith,
@@ -159,9 +159,9 @@ loop-again c =
       k .1 .0 ∙ h .loop .inv .4,
       k .1 .1 .0 ∙ h .loop .inv .5,
       walked,
-      λ u.
-          offered-more (model e u) (text e) (e .args .at) (e .args .one) (units (e .args .till)) (columns e) (h .loop .inv .0) (walked u) (h .loop .inv .7 u)
-          (d .end-at .ensures (model e u) refl refl),
+      λ u x.
+          offered-more (model e u x) (text e) (e .args .at) (e .args .one) (units (e .args .till)) (columns e) (h .loop .inv .0) walked (h .loop .inv .7 u x)
+          (d .end-at .ensures (model e u x) refl refl),
     )
 
 same-length-4 : tie.Need-same-length-4 Inv-loop μ-loop
@@ -174,11 +174,11 @@ same-length-6 : tie.Need-same-length-6 Inv-loop μ-loop
 same-length-6 c = c .before .loop .inv .5
 
 returns-2 : tie.Need-returns-2 Inv-loop μ-loop
-returns-2 c u =
+returns-2 c u x =
     let h = c .before in
     let e = entry (h .before) in
-    offered-all (model e u) (text e) (e .args .at) (e .args .one) (units (e .args .till)) (columns e) (h .loop .inv .7 u)
-    (λ j l. known-past (model e u) (text e) (e .args .at) j (omega arith))
+    offered-all (model e u x) (text e) (e .args .at) (e .args .one) (units (e .args .till)) (columns e) (h .loop .inv .7 u x)
+    (λ j l. known-past (model e u x) (text e) (e .args .at) j (omega arith))
 
 pub offer-known-spec : {M : Type 1} → statement M
 offer-known-spec =

@@ -10,11 +10,11 @@ use Rattle.doubles.specs.Double.{Double, sum}
 use Rattle.doubles.specs.Units.{units}
 use Rattle.text.specs.Text.{next}
 use Rattle.text.proofs.Boundaries.{next-above, next-inside}
-use Rattle.cutting.specs.Cuttings.{Slot}
+use Rattle.cutting.specs.Cuttings.{Piece, Slot}
 use Rattle.cutting.specs.Records.{candidate}
 use Rattle.unigram.specs.Pieces.{Model}
 use Rattle.cutting.specs.Slots.{Slots, slotsOf, slotAt, PutAt, taken}
-use Rattle.unigram.specs.Work.{modelOf, pieceWith, KnownOffered, Worked}
+use Rattle.unigram.specs.Work.{modelOf, KnownOffered, Recorded}
 use Rattle.cutting.proofs.Best.{same-slot}
 use Rattle.cutting.proofs.Columns.{put-as, inside-kept, score-read}
 use Rattle.unigram.proofs.Offering.{EachOffered, all-known, all-unknown, worked-all}
@@ -29,7 +29,7 @@ entry c = let k = c .before .before .before .before .before .before .before in k
 abbrev model : tie.Start → Model
 model c =
     let a = c .args in
-    modelOf (a .edge-at .now) (a .edge-n .now) (a .id .now) (a .score .now) (a .byte .now) (a .to .now) (pieceWith (a .unknown) (a .unknown-score))
+    modelOf (a .edge-at .now) (a .edge-n .now) (a .id .now) (a .score .now) (a .byte .now) (a .to .now) (a .unknown) (a .unknown-score)
 
 abbrev text : tie.Start → List ℕ
 text c = c .args .text .now
@@ -89,17 +89,16 @@ of-slot c d o =
 known :
     (c : tie.After-offer-known) → let e = entry (measured c) in
     KnownOffered (model e) (text e) (e .args .at) (next (text e) (e .args .at)) (slotAt (columns e) (e .args .at) .score) (columns e) (after-walk c) (c .offer-known .result)
-known c = let a = entry (measured c) .args in of-slot c _ (c .offer-known .ensures (pieceWith (a .unknown) (a .unknown-score)))
+known c = let a = entry (measured c) .args in of-slot c _ (c .offer-known .ensures (a .unknown) (a .unknown-score))
 
 -- every piece has been offered
 done :
     (c : tie.After-char-len) {after : Slots} → let e = entry c in
     EachOffered (model e) (text e) (e .args .at) (slotAt (columns e) (e .args .at) .score) (columns e) after
-    → Worked (model e) (text e) (e .args .at) (columns e) after (e .args .at + c .char-len .result)
-done c {after} o =
-    let e = entry c in
-    subst (Worked (model e) (text e) (e .args .at) (columns e) after) (sym (one-is c))
-    (worked-all (e .pre .0 .ready) (e .args .at) (e .pre .0 .boundary) (e .pre .0 .below) (e .pre .0 .holds) refl o)
+    → let r = e .args .at + c .char-len .result in (r ≡ next (text e) (e .args .at)) × Recorded (model e) (text e) r (columns e) after
+done c o =
+    let p = entry c .pre .0 in
+    (one-is c, worked-all (p .ready) (entry c .args .at) (p .boundary) (p .below) (one-is c) (p .holds) refl o)
 
 -- the unknown piece's score, and its offer, as it is said of the next boundary
 sum-is :
@@ -110,7 +109,7 @@ sum-is c d e = e ∙ ap (λ (x : Double). sum x (units (entry c .args .unknown-s
 at-next :
     (c : tie.After-char-len) {before after : Slots} {q : Slot} → let e = entry c in
     let a = e .args in
-    let piece = candidate (slotAt (columns e) (a .at) .score) (a .at) (pieceWith (a .unknown) (a .unknown-score)) in
+    let piece = candidate (slotAt (columns e) (a .at) .score) (a .at) (model e .unknown) in
     PutAt before (a .at + c .char-len .result) (taken (slotAt before (a .at + c .char-len .result)) q) after
     → q ≡ piece → PutAt before (next (text e) (a .at)) (taken (slotAt before (next (text e) (a .at))) piece) after
 at-next c {before} {after} {q} p same =
@@ -118,9 +117,9 @@ at-next c {before} {after} {q} p same =
     let a = e .args in
     put-as (subst (λ (n : ℕ). PutAt before n (taken (slotAt before n) q) after) (one-is c) p) (ap (taken (slotAt before (next (text e) (a .at)))) same)
 
-unknown-is : (x : Double) (at id : ℕ) (score : Float) (q : Slot) → q .start ≡ at → q .id ≡ id → q .score ≡ sum x (units score) → q ≡ candidate x at (pieceWith id score)
+unknown-is : (x : Double) (at : ℕ) (p : Piece) (q : Slot) → q .start ≡ at → q .id ≡ p .id → q .score ≡ sum x (p .score) → q ≡ candidate x at p
 unfolding candidate
-unknown-is x at id score q a b c = same-slot q (candidate x at (pieceWith id score)) a b c
+unknown-is x at p q a b c = same-slot q (candidate x at p) a b c
 
 add-one : tie.Need-add-one
 add-one c = let l = within c in omega arith
@@ -168,7 +167,7 @@ returns-2 c =
     let e = entry d in
     done d
     (all-unknown (model e) (text e) (e .args .at) (e .pre .0 .boundary) (e .pre .0 .ready .well) (e .pre .0 .below) (known k) (t .if1 .left)
-    (at-next d (o .offer .ensures) (unknown-is _ _ _ _ _ refl refl (sum-is d _ (summed o .added .ensures)))))
+    (at-next d (o .offer .ensures) (unknown-is _ _ (model e .unknown) _ refl refl (sum-is d _ (summed o .added .ensures)))))
 
 pub work-at-spec : {M : Type 1} → statement M
 work-at-spec =

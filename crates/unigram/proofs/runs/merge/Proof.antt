@@ -1,6 +1,6 @@
 -- `unigram::runs::merge` meets its contract. The loop's invariant (`Going`): the ids written and those of the pieces left, with the run that is still
 -- to come, are all. The pieces left fall. Assumes nothing.
-use mathlib.Core.Path.{sym, subst, _∙_}
+use mathlib.Core.Path.{sym, ap, subst, _∙_}
 use mathlib.Core.Option.{Option}
 use Prim.Native.Nat.{ℕ, _+_, _-_, _≤_, _<_}
 use native.Mathlib.Omega.{arith}
@@ -10,7 +10,7 @@ use Rattle.refusal.specs.Sizes.{noId}
 use Rattle.trie.specs.Trie.{partsOf}
 use Rattle.unigram.specs.Merge.{partId}
 use Rattle.refusal.proofs.Lists.{place-inside}
-use Rattle.unigram.proofs.Placing.{Going, going-first, next-end, going-more, going-end, waits}
+use Rattle.unigram.proofs.Placing.{Going, going-first, next-end, going-more, going-end, ids-there}
 use Rattle.unigram.proofs.runs.merge.Statement.{statement}
 use Rattle.unigram.proofs.runs.merge.Tie as tie
 
@@ -100,7 +100,7 @@ close-run-requires c κs =
     let h = c .before .before in
     let g = h .loop .inv in
     let e = begun h in
-    (record { sound = e .pre .sound; forward = g .back; inside = g .inside }, λ l. omega (arith, g .few, g .level, g .within, e .pre .room, waits (h .loop .run) (h .loop .at) l))
+    (record { sound = e .pre .sound; forward = g .back; inside = g .inside }, λ l. omega (arith, g .few, g .level, g .within, e .pre .room, ap length (ids-there (look e) (e .args .unknown) (h .loop .run) (h .loop .at) l)))
 
 same-length : tie.Need-same-length Inv-loop μ-loop
 same-length c =
@@ -115,8 +115,7 @@ returns c =
     let h = t .before in
     let e = begun h in
     let a = e .args in
-    let w = going-end (look e) (a .unknown) (length (a .text .now)) (a .slot-id .now) (a .path .now) (a .ids .now) (h .loop .inv) (t .loop-test .left) (e .pre .room) (d .close-run .ensures) in
-    record { ids = w .0; count = w .1 }
+    going-end (look e) (a .unknown) (length (a .text .now)) (a .slot-id .now) (a .path .now) (a .ids .now) (h .loop .inv) (t .loop-test .left) (e .pre .room) (d .close-run .ensures)
 
 pub merge-spec : {M : Type 1} → statement M
 merge-spec =

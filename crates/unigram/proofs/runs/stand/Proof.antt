@@ -1,11 +1,11 @@
 -- `unigram::runs::stand` meets its contract: nothing for the unknown id, else the run's id and the piece's. Assumes nothing.
-use mathlib.Core.Path.{_≡_, sym}
+use mathlib.Core.Path.{_≡_, sym, ap}
 use Prim.Native.Nat.{_<_}
 use native.Mathlib.Omega.{arith}
 use lib.ListN.{length}
 use Rattle.trie.specs.Trie.{Trie, partsOf}
 use Rattle.unigram.specs.Merge.{partId}
-use Rattle.unigram.proofs.Placing.{placed-none, placed-as, placed-more, closes, closes-not, waits, ids-length}
+use Rattle.unigram.proofs.Placing.{placed-none, placed-as, placed-more, closes, closes-not, ids-there}
 use borrow.Author.Needs.{needs}
 use Rattle.unigram.proofs.runs.stand.Statement.{statement}
 use Rattle.unigram.proofs.runs.stand.Tie as tie
@@ -26,9 +26,7 @@ parts c = let a = c .args in partsOf (a .edge-at .now) (a .edge-n .now) (a .id .
 -- the run's id leaves a place for the piece's
 room : (c : tie.After-close-run) → c .close-run .result < length (begun c .args .ids .now)
 room c =
-    let e = begun c in
-    let a = e .args in
-    omega (arith, c .close-run .ensures .next, ids-length (partId (parts e) (a .text .now)) (a .unknown) (a .run) (a .at), e .pre .1)
+    omega (arith, c .close-run .ensures .next, begun c .pre .1)
 
 kept : (c : tie.After-close-run) → length (c .close-run .last .1 .1 .1 .1 .1 .1 .1 .1 .1 .1 .0) ≡ length (begun c .args .ids .now)
 kept c = c .close-run .kept .1 .1 .1 .1 .1 .1 .1 .1 .1 .1 .0
@@ -42,7 +40,8 @@ returns c =
 close-run-requires : tie.Need-close-run-requires
 close-run-requires c κs =
     let e = entry (c .before .before) in
-    (e .pre .0, λ l. omega (arith, e .pre .1, waits (e .args .run) (e .args .at) l))
+    let a = e .args in
+    (e .pre .0, λ l. omega (arith, e .pre .1, ap length (ids-there (partId (parts e) (a .text .now)) (a .unknown) (a .run) (a .at) l)))
 
 mul-ids : tie.Need-mul-ids
 mul-ids c = let l = room (closed c) in omega (arith, kept (closed c))
@@ -60,7 +59,7 @@ returns-2 c =
     let e = entry (t .before) in
     let a = e .args in
     placed-as
-    (placed-more (a .x) (omega (arith, e .pre .1, ids-length (partId (parts e) (a .text .now)) (a .unknown) (a .run) (a .at))) (d .close-run .ensures))
+    (placed-more (a .x) (e .pre .1) (d .close-run .ensures))
     (sym (closes (partId (parts e) (a .text .now)) (a .unknown) (a .run) (a .at) (a .x) (t .if1 .left)))
 
 pub stand-spec : {M : Type 1} → statement M

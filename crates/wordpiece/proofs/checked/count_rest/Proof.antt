@@ -3,7 +3,7 @@
 -- the word, since a piece is not empty. Assumes nothing.
 use mathlib.Core.Path.{_≡_, refl, sym, ap, _∙_}
 use mathlib.Core.List.{List, []}
-use mathlib.Core.Option.{Option, none, some}
+use mathlib.Core.Option.{Option, none, some, Option·map}
 use Prim.Native.Nat.{ℕ, suc, _+_, _-_, _≤_}
 use native.Mathlib.Nat.{zero-add, add-zero}
 use native.Mathlib.Numerals.{add-one}
@@ -14,8 +14,8 @@ use lib.Seq.{sets}
 use Rattle.refusal.proofs.Lists.{none-some}
 use Rattle.trie.specs.Trie.{partsOf, idFrom}
 use Rattle.wordpiece.specs.Pieces.{Found, longestTo}
-use Rattle.wordpiece.specs.Checked.{foundIn, restFrom, counted, more}
-use Rattle.wordpiece.proofs.Rest.{Ends, longest-ends, rest-end, rest-miss, rest-piece, count-piece, more-one, before-some}
+use Rattle.wordpiece.specs.Checked.{foundIn, restFrom}
+use Rattle.wordpiece.proofs.Rest.{Ends, longest-ends, rest-end, rest-miss, rest-piece, more, count-piece, more-one, before-some}
 use Rattle.wordpiece.proofs.checked.count_rest.Statement.{statement}
 use Rattle.wordpiece.proofs.checked.count_rest.Tie as tie
 
@@ -23,7 +23,7 @@ use Rattle.wordpiece.proofs.checked.count_rest.Tie as tie
 pub record Here (find : List ℕ → Option ℕ) (w : List ℕ) (i : ℕ) (places held : List ℕ) (at n : ℕ) : Type 0 where
   pub below : at ≤ length w
   pub few : n ≤ at
-  pub same : counted (restFrom find w i) ≡ more n (counted (restFrom find w at))
+  pub same : Option·map length (restFrom find w i) ≡ more n (Option·map length (restFrom find w at))
   pub level : length held ≡ length places
   pub stored : (xs : List ℕ) → restFrom find w i ≡ some xs → (left : List ℕ) × (restFrom find w at ≡ some left) × (sets places 0 xs ≡ sets held n left)
 
@@ -71,7 +71,7 @@ loop-holds c =
     record {
       below = e .pre .1 .1;
       few = omega arith;
-      same = more-none (counted (restFrom (find e) (word e) (e .args .i)));
+      same = more-none (Option·map length (restFrom (find e) (word e) (e .args .i)));
       level = refl;
       stored = λ xs g. (xs, g, refl);
     }
@@ -89,7 +89,7 @@ returns c =
     let e = entry h in
     let miss = rest-miss (find e) (word e) (h .loop .at) (l .before .loop-test .taken) (sym (l .longest .ensures) ∙ ap foundIn (c .enum-told .given .1)) in
     record {
-      answered = sym (h .loop .inv .same ∙ ap (λ (o : Option (List ℕ)). more (h .loop .n) (counted o)) miss);
+      answered = sym (h .loop .inv .same ∙ ap (λ (o : Option (List ℕ)). more (h .loop .n) (Option·map length o)) miss);
       held = λ xs g. absurd (none-some (sym miss ∙ h .loop .inv .stored xs g .1));
     }
 
@@ -119,9 +119,9 @@ loop-again c =
       few = omega (arith, h .loop .inv .few, ends p .above);
       same =
           h .loop .inv .same
-          ∙ ap (λ (o : Option (List ℕ)). more n (counted o)) on
+          ∙ ap (λ (o : Option (List ℕ)). more n (Option·map length o)) on
           ∙ ap (more n) (count-piece (f .id) later)
-          ∙ more-one n (counted later);
+          ∙ more-one n (Option·map length later);
       level = call .hold .kept .0 ∙ h .loop .inv .level;
       stored =
           λ xs g.
@@ -143,7 +143,7 @@ returns-2 c =
       answered =
           sym
           (h .loop .inv .same
-          ∙ ap (λ (o : Option (List ℕ)). more (h .loop .n) (counted o)) end
+          ∙ ap (λ (o : Option (List ℕ)). more (h .loop .n) (Option·map length o)) end
           ∙ ap (λ (k : ℕ). some k) (add-zero (h .loop .n)));
       held =
           λ xs g.

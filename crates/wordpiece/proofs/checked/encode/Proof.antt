@@ -8,7 +8,8 @@ use native.Mathlib.Omega.{arith}
 use borrow.Author.Needs.{needs}
 use lib.ListN.{length}
 use Rattle.trie.specs.Trie.{Trie, partsOf, idFrom, idOf}
-use Rattle.wordpiece.specs.Pieces.{longestTo, piecesOf, orUnknown, idsOf}
+use Rattle.wordpiece.specs.Pieces.{longestTo, piecesOf, idsOf}
+use Rattle.wordpiece.proofs.Turns.{orUnknown}
 use Rattle.wordpiece.specs.Checked.{foundIn}
 use Rattle.wordpiece.proofs.Rest.{longest-ends, pieces-first, some-character}
 use Rattle.wordpiece.proofs.Plans.{ids-long, ids-short, ids-empty, missed, alone, written}
@@ -130,7 +131,7 @@ encode-rest-requires c κs =
     let f = arm .before .before in
     let e = begun (sought f) in
     let s = longest-ends (find e) [] (word e) 0 (length (word e)) (first f) in
-    (e .pre, record { longest = first f; below = omega (arith, s .below, arm .if3 .left) })
+    (e .pre, (first f, omega (arith, s .below, arm .if3 .left)))
 
 returns-5 : tie.Need-returns-5
 returns-5 c =

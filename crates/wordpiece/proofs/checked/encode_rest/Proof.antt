@@ -11,8 +11,9 @@ use Rattle.text.specs.Text.{characters}
 use Rattle.trie.specs.Trie.{Trie, partsOf, walk, idFrom, idOf}
 use Rattle.trie.specs.Walks.{nextOf}
 use Rattle.trie.proofs.Walking.{walk-inside}
-use Rattle.wordpiece.specs.Pieces.{piecesOf, orUnknown}
+use Rattle.wordpiece.specs.Pieces.{piecesOf}
 use Rattle.wordpiece.specs.Checked.{countIn}
+use Rattle.wordpiece.proofs.Turns.{orUnknown}
 use Rattle.wordpiece.proofs.Plans.{Follows, absent, late, follows, walk-holds, written}
 use Rattle.wordpiece.proofs.checked.encode_rest.Statement.{statement}
 use Rattle.wordpiece.proofs.checked.encode_rest.Tie as tie
@@ -61,7 +62,7 @@ missing : (c : tie.After-enum-told) → (all (entry (c .before .before)) ≡ ent
 missing c =
     let o = c .before .before in
     let e = entry o in
-    absent (parts e) (e .args .unknown) (prefix e) (word e) (e .pre .0 .well) (e .pre .1) (walked o ∙ ap nextOf (c .enum-told .given .1))
+    absent (parts e) (e .args .unknown) (prefix e) (word e) (e .pre .0 .well) (e .pre .1 .0) (e .pre .1 .1) (walked o ∙ ap nextOf (c .enum-told .given .1))
 
 -- ---- the rest
 
@@ -74,7 +75,7 @@ missed c =
     let k = counted-to c in
     let r = walked-from k in
     let e = begun r in
-    late (parts e) (e .args .unknown) (prefix e) (word e) (e .pre .0 .well) (e .pre .1) (at r)
+    late (parts e) (e .args .unknown) (prefix e) (word e) (e .pre .0 .well) (e .pre .1 .0) (e .pre .1 .1) (at r)
     (sym (ap countIn (c .enum-told2 .given .1)) ∙ k .count-rest .ensures .answered)
 
 -- all pieces
@@ -86,7 +87,7 @@ pieces c =
     let k = counting c in
     let r = walked-from k in
     let e = begun r in
-    follows (parts e) (e .args .unknown) (prefix e) (word e) (e .pre .0 .well) (e .pre .1) (at r)
+    follows (parts e) (e .args .unknown) (prefix e) (word e) (e .pre .0 .well) (e .pre .1 .0) (e .pre .1 .1) (at r)
     (sym (ap countIn (c .n .given .1)) ∙ k .count-rest .ensures .answered)
 
 over-requires : tie.Need-over-requires
@@ -109,7 +110,7 @@ count-rest-requires : tie.Need-count-rest-requires
 count-rest-requires c κs =
     let r = c .before .before in
     let e = begun r in
-    (e .pre .0 .parts, (inside r, omega (arith, e .pre .1 .below)))
+    (e .pre .0 .parts, (inside r, omega (arith, e .pre .1 .1)))
 
 put-all-requires : tie.Need-put-all-requires
 put-all-requires c κs =

@@ -1,18 +1,19 @@
 -- `wordpiece::checked::ends_here` meets its contract: by the boundary, and then by the node's id. Assumes nothing.
-use mathlib.Core.Path.{_≡_, sym, ap, _∙_}
-use mathlib.Core.Bool.{Bool, true}
-use mathlib.Core.Option.{Option}
-use mathlib.Core.List.{List}
+use mathlib.Core.Path.{_≡_, refl, sym, ap, _∙_}
+use mathlib.Core.Bool.{Bool, true, false, not, _&&_}
+use mathlib.Core.List.{[]}
+use mathlib.Core.Option.{Option, none, some}
 use Prim.Native.Nat.{ℕ}
-use native.Mathlib.Omega.{arith}
 use borrow.Author.Needs.{needs}
 use borrow.Author.Tests.{not-true, not-false}
-use lib.ListN.{length, getD}
+use lib.Dec.{eqb}
+use lib.ListN.{getD}
+use Rattle.refusal.specs.Sizes.{noId}
 use Rattle.text.specs.Text.{boundary}
-use Rattle.trie.specs.Trie.{Trie, idAt}
+use Rattle.trie.specs.Trie.{Trie, partsOf, idAt}
 use Rattle.trie.specs.Walks.{idIn}
-use Rattle.wordpiece.specs.Checked.{foundAt, foundIf, endAt}
-use Rattle.wordpiece.proofs.Longest.{id-held}
+use Rattle.trie.proofs.Every.{both, fails}
+use Rattle.wordpiece.proofs.Longest.{id-told}
 use Rattle.wordpiece.proofs.checked.ends_here.Statement.{statement}
 use Rattle.wordpiece.proofs.checked.ends_here.Tie as tie
 
@@ -23,30 +24,30 @@ start c = c .before .before .before
 boundary-here : (c : tie.Else1) → boundary (start (c .before) .args .w .now) (start (c .before) .args .j) ≡ true
 boundary-here c = sym (c .before .is-boundary .ensures) ∙ not-false _ (c .if1 .left)
 
--- so what ends there is what the node's id says
-by-id : (c : tie.Else1) (t : Trie) {o : Option ℕ} → idAt t (start (c .before) .args .at .node) ≡ o → endAt (boundary (start (c .before) .args .w .now) (start (c .before) .args .j)) (start (c .before) .args .j) (idAt t (start (c .before) .args .at .node)) ≡ foundAt (start (c .before) .args .j) o
-by-id c t e =
-    let a = start (c .before) .args in
-    ap (λ (b : Bool). endAt b (a .j) (idAt t (a .at .node))) (boundary-here c) ∙ ap (foundAt (a .j)) e
+-- whether the node's place holds an id, by what was found there, in any parts with these ids
+told :
+    (c : tie.After-id-at) → let a = start (c .before .before) .args in
+    not (eqb (getD (a .id .now) (a .at .node) 0) noId) ≡ elim (idIn (c .id-at .result)) [ none ↦ false | some x ↦ true ]
+told c =
+    let s = start (c .before .before) in
+    let t = partsOf [] [] (s .args .id .now) [] [] in
+    id-told t (s .args .at .node) (s .pre) (sym (c .id-at .ensures t refl))
 
 returns : tie.Need-returns
-returns c t e =
+returns c =
     let a = start (c .before) .args in
-    ap (λ (b : Bool). endAt b (a .j) (idAt t (a .at .node))) (sym (c .before .is-boundary .ensures) ∙ not-true _ (c .if1 .taken))
+    sym (ap (λ (b : Bool). b && not (eqb (getD (a .id .now) (a .at .node) 0) noId)) (sym (c .before .is-boundary .ensures) ∙ not-true _ (c .if1 .taken)))
 
 returns-2 : tie.Need-returns-2
-returns-2 c t e =
+returns-2 c =
     let asked = c .before .before in
-    let s = start (asked .before .before) in
-    let has = sym (asked .id-at .ensures t e) ∙ ap idIn (c .enum-told .given .1) in
-    let held = id-held t (s .args .at .node) (omega (arith, s .pre, ap length e)) has in
-    by-id (asked .before) t has
-    ∙ ap (foundIf true (s .args .j)) (held ∙ ap (λ (ids : List ℕ). getD ids (s .args .at .node) 0) e)
+    sym (both (boundary-here (asked .before)) (told asked ∙ ap (λ (o : Option ℕ). elim o [ none ↦ false | some x ↦ true ]) (ap idIn (c .enum-told .given .1))))
 
 returns-3 : tie.Need-returns-3
-returns-3 c t e =
+returns-3 c =
     let asked = c .before .before in
-    by-id (asked .before) t (sym (asked .id-at .ensures t e) ∙ ap idIn (c .enum-told2 .given .1))
+    let a = start (asked .before .before) .args in
+    sym (fails (boundary (a .w .now) (a .j)) _ (told asked ∙ ap (λ (o : Option ℕ). elim o [ none ↦ false | some x ↦ true ]) (ap idIn (c .enum-told2 .given .1))))
 
 pub ends-here-spec : {M : Type 1} → statement M
 ends-here-spec =

@@ -10,13 +10,14 @@ use native.Mathlib.Numerals.{add-one}
 use native.Mathlib.Omega.{arith}
 use borrow.Author.Needs.{needs}
 use lib.ListN.{length, getD, take, drop}
-use Rattle.text.specs.Text.{part}
+use Rattle.refusal.specs.Refusal.{first}
+use Rattle.text.specs.Text.{boundary, part}
 use Rattle.trie.specs.Trie.{Trie, partsOf, walk, step, idFrom}
 use Rattle.trie.specs.Walks.{nextOf}
 use Rattle.trie.proofs.Walking.{walk-nil, step-inside}
 use Rattle.wordpiece.specs.Pieces.{Found, longestTo}
-use Rattle.wordpiece.specs.Checked.{pick, foundIf, foundSince}
-use Rattle.wordpiece.proofs.Longest.{since-found, since-none, longest-start, longest-step, longest-stops}
+use Rattle.wordpiece.specs.Checked.{foundSince}
+use Rattle.wordpiece.proofs.Longest.{foundIf, ends-is, since-found, since-none, longest-start, longest-step, longest-stops}
 use Rattle.wordpiece.proofs.checked.longest.Statement.{statement}
 use Rattle.wordpiece.proofs.checked.longest.Tie as tie
 
@@ -83,7 +84,7 @@ abbrev id-here : tie.After-ends-here Inv-loop μ-loop → ℕ
 id-here b = getD (entry (top b) .args .id .now) (asked b .next .given .0 .0 .node) 0
 
 -- what the turn leaves, where the end and the id are the later of what was found and what was there
-turn : (b : tie.After-ends-here Inv-loop μ-loop) {end last : ℕ} → foundSince (entry (top b) .args .i) end last ≡ pick (foundIf (b .ends-here .result) (top b .loop .j + 1) (id-here b)) (longest-to (top b) (top b .loop .j)) → Here (parts (entry (top b))) (entry (top b) .args .from .node) (word (entry (top b))) (entry (top b) .args .i) (asked b .next .given .0 .0 .node) (top b .loop .j + 1) end last
+turn : (b : tie.After-ends-here Inv-loop μ-loop) {end last : ℕ} → foundSince (entry (top b) .args .i) end last ≡ first (foundIf (b .ends-here .result) (top b .loop .j + 1) (id-here b)) (longest-to (top b) (top b .loop .j)) → Here (parts (entry (top b))) (entry (top b) .args .from .node) (word (entry (top b))) (entry (top b) .args .i) (asked b .next .given .0 .0 .node) (top b .loop .j + 1) end last
 turn b best =
     let h = top b in
     let here = h .loop .inv in
@@ -97,7 +98,7 @@ turn b best =
       below = omega (arith, test);
       inside = inside (asked b);
       walked = rw one (on .0);
-      longest = best ∙ ap (λ (o : Option Found). pick o (longest-to h j)) (sym (b .ends-here .ensures t refl)) ∙ rw one (sym (on .1));
+      longest = best ∙ ap (λ (o : Option Found). first o (longest-to h j)) (ap (λ (r : Bool). foundIf r (j + 1) (id-here b)) (b .ends-here .ensures) ∙ sym (ends-is t (asked b .next .given .0 .0 .node) (j + 1) (boundary (word (entry h)) (j + 1)) (inside-ids (asked b)))) ∙ rw one (sym (on .1));
     }
 
 loop-holds : tie.Need-loop-holds Inv-loop μ-loop
@@ -161,13 +162,14 @@ loop-less c =
     omega (arith, s .before .before .loop-test .taken)
 
 loop-again : tie.Need-loop-again Inv-loop μ-loop
+unfolding first
 loop-again c =
     let b = c .before .before in
     let h = top b in
     let j = h .loop .j in
     turn b
-    (since-found (entry h .args .i) (j + 1) (id-here b) (omega (arith, h .loop .inv .above))
-    ∙ sym (ap (λ (r : Bool). pick (foundIf r (j + 1) (id-here b)) (longest-to h j)) (c .before .if1 .taken)))
+    (since-found (entry h .args .i) (j + 1) (id-here b) (λ e. omega (arith, h .loop .inv .above))
+    ∙ sym (ap (λ (r : Bool). first (foundIf r (j + 1) (id-here b)) (longest-to h j)) (c .before .if1 .taken)))
 
 loop-less-2 : tie.Need-loop-less-2 Inv-loop μ-loop
 loop-less-2 c =
@@ -175,12 +177,13 @@ loop-less-2 c =
     omega (arith, s .before .before .loop-test .taken)
 
 loop-again-2 : tie.Need-loop-again-2 Inv-loop μ-loop
+unfolding first
 loop-again-2 c =
     let b = c .before in
     let h = top b in
     let j = h .loop .j in
     turn b
-    (h .loop .inv .longest ∙ sym (ap (λ (r : Bool). pick (foundIf r (j + 1) (id-here b)) (longest-to h j)) (c .if1 .left)))
+    (h .loop .inv .longest ∙ sym (ap (λ (r : Bool). first (foundIf r (j + 1) (id-here b)) (longest-to h j)) (c .if1 .left)))
 
 returns-2 : tie.Need-returns-2 Inv-loop μ-loop
 returns-2 c =

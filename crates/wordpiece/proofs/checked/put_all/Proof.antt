@@ -1,12 +1,12 @@
 -- `wordpiece::checked::put_all` meets its contract: a store in the first place and those of the rest after it lie over what was there. Held ids are
--- those of the rest where they have places (`Held`). Assumes nothing.
+-- those of the rest where they have places. Assumes nothing.
 use mathlib.Core.Path.{_≡_, sym, ap, _∙_}
 use mathlib.Core.List.{_∷_}
+use Prim.Native.Nat.{_≤_}
 use native.Mathlib.Omega.{arith}
 use borrow.Author.Needs.{needs}
 use lib.ListN.{length, take, set, length-set}
 use lib.Seq.{sets}
-use Rattle.wordpiece.specs.Checked.{Held}
 use Rattle.wordpiece.proofs.Plans.{sets-over}
 use Rattle.wordpiece.proofs.checked.put_all.Statement.{statement}
 use Rattle.wordpiece.proofs.checked.put_all.Tie as tie
@@ -23,7 +23,9 @@ level : (e : tie.Start) → length (set (e .args .ids .now) 0 (e .args .first .i
 level e = length-set (e .args .ids .now) 0 (e .args .first .id)
 
 -- how many ids the rest has, and which
-held : (e : tie.Start) → Held (e .pre .1 .1 .0 .ids) (e .args .held .now) (e .args .n)
+held :
+    (e : tie.Start) → let xs = e .pre .1 .1 .0 .ids in let a = e .args in
+    (a .n ≡ length xs) × (a .n ≤ length (a .held .now) → take (a .n) (a .held .now) ≡ xs)
 held e = e .pre .1 .1 .1 (e .pre .1 .1 .0 .ids) (e .pre .1 .1 .0 .rest)
 
 write-rest-requires : tie.Need-write-rest-requires
@@ -49,7 +51,7 @@ returns c xs g =
 put-held-requires : tie.Need-put-held-requires
 put-held-requires c κs =
     let e = kept (c .before) in
-    (c .before .if1 .left, omega (arith, e .pre .1 .1 .0 .room, held e .count, level e))
+    (c .before .if1 .left, omega (arith, e .pre .1 .1 .0 .room, held e .0, level e))
 
 same-length-2 : tie.Need-same-length-2
 same-length-2 c =
@@ -64,9 +66,9 @@ returns-2 c xs g =
     let f = e .pre .1 .1 .0 in
     let x = e .args .first .id in
     let same : xs ≡ f .ids = cc (f .rest) in
-    let found : take (e .args .n) (e .args .held .now) ≡ xs = held e .same (arm .if1 .left) ∙ sym same in
+    let found : take (e .args .n) (e .args .held .now) ≡ xs = held e .1 (arm .if1 .left) ∙ sym same in
     let r = called .put-held .ensures in (
-      omega (arith, r .0, held e .count, ap length same),
+      omega (arith, r .0, held e .0, ap length same),
       r .1
           ∙ ap (sets (set (e .args .ids .now) 0 x) 1) found
           ∙ sets-over (x ∷ xs) (e .args .ids .now) (omega (arith, f .room, ap length same)),
