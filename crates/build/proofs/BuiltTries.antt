@@ -40,7 +40,7 @@ use Rattle.build.proofs.Promises.{built-left}
 
 -- the parts with n nodes that lent columns hold in front
 abbrev pub partsIn : ℕ → Memory → Trie
-partsIn n m = partsOf (take n (m .edgeAt)) (take n (m .edgeN)) (take n (m .id)) (take (n - 1) (m .byte)) (take (n - 1) (m .to))
+partsIn n m = partsOf (take n (m .parts .edgeAt)) (take n (m .parts .edgeN)) (take n (m .parts .id)) (take (n - 1) (m .parts .byte)) (take (n - 1) (m .parts .to))
 
 -- every score is a double, as those of a lent column are
 abbrev pub Doubles : List Double → Type 0

@@ -226,15 +226,9 @@ module _ {edgeAt edgeN id byte to work : List ℕ} {room n : ℕ} where
         let held = done .held fits in
         let room-left : ltb room (length ns) ≡ false = le-ltb room (length ns) (omega (arith, done .count fits)) in
         let holds : memory edgeAt′ edgeN′ id byte′ to′ work′ ≡ holding (trieOf rule (tokensOf tab rows)) [] before =
-        λ i. record {
-          edgeAt = d .begun i;
-          edgeN = d .counted i;
-          id = ids-filled ns (held .links .grown) rule id id (held .marks) refl i;
-          score = [];
-          byte = d .written i;
-          to = d .led i;
-          work = d .unlinked i;
-        } in
+        λ i.
+        memory (d .begun i) (d .counted i) (ids-filled ns (held .links .grown) rule id id (held .marks) refl i) (d .written i)
+        (d .led i) (d .unlinked i) in
         record {
           answered = ap Nodes (done .count fits) ∙ sym (ap (λ (t : Bool). cond t NoRoom (Nodes (length ns))) room-left);
           left =
@@ -279,22 +273,10 @@ module _ {edgeAt edgeN₀ id₀ byte to work₀ edgeN id work : List ℕ} {room 
       record {
         answered = b .answered;
         left = b .left ∙ ap₂ (cond (ltb room (nodesOf tab rows)))
-            (λ i. record {
-              edgeAt = zeroed 0 edgeAt;
-              edgeN = zeroed-same edgeN edgeN₀ kn i;
-              id = zeroed-same id id₀ ki i;
-              score = [];
-              byte = zeroed 0 byte;
-              to = zeroed 0 to;
-              work = zeroed-same work work₀ kw i;
-            })
-            (λ i. record {
-              edgeAt = filled 0 (t .edgeAt) edgeAt;
-              edgeN = filled-same (t .edgeN) edgeN edgeN₀ kn i;
-              id = filled-same (t .id) id id₀ ki i;
-              score = [];
-              byte = filled 0 (t .byte) byte;
-              to = filled 0 (t .to) to;
-              work = zeroed-same work work₀ kw i;
-            });
+            (λ i.
+            memory (zeroed 0 edgeAt) (zeroed-same edgeN edgeN₀ kn i) (zeroed-same id id₀ ki i) (zeroed 0 byte) (zeroed 0 to)
+            (zeroed-same work work₀ kw i))
+            (λ i.
+            memory (filled 0 (t .edgeAt) edgeAt) (filled-same (t .edgeN) edgeN edgeN₀ kn i) (filled-same (t .id) id id₀ ki i)
+            (filled 0 (t .byte) byte) (filled 0 (t .to) to) (zeroed-same work work₀ kw i));
       }

@@ -38,11 +38,11 @@ min-both a b n p q = omega arith
 -- what fits fits every column
 pub room-for : (m : Memory) (n : ℕ) → n ≤ roomOf m → RoomFor n m
 room-for m n h =
-    let at = length (m .edgeAt) in
-    let en = length (m .edgeN) in
-    let im = length (m .id) in
-    let by = length (m .byte) + 1 in
-    let tt′ = length (m .to) + 1 in
+    let at = length (m .parts .edgeAt) in
+    let en = length (m .parts .edgeN) in
+    let im = length (m .parts .id) in
+    let by = length (m .parts .byte) + 1 in
+    let tt′ = length (m .parts .to) + 1 in
     let wo = length (m .work) / 2 in
     let nodes = min-left (min (min at en) (min im by)) (min (min tt′ wo) 4_294_967_295) n h in
     let edges = min-right (min (min at en) (min im by)) (min (min tt′ wo) 4_294_967_295) n h in
@@ -63,13 +63,13 @@ room-for m n h =
 -- and what fits every column fits
 pub for-room : (m : Memory) (n : ℕ) → RoomFor n m → n ≤ roomOf m
 for-room m n r =
-    min-both (min (min (length (m .edgeAt)) (length (m .edgeN))) (min (length (m .id)) (length (m .byte) + 1)))
-    (min (min (length (m .to) + 1) (length (m .work) / 2)) 4_294_967_295) n
-    (min-both (min (length (m .edgeAt)) (length (m .edgeN))) (min (length (m .id)) (length (m .byte) + 1)) n
-    (min-both (length (m .edgeAt)) (length (m .edgeN)) n (r .starts) (r .counts))
-    (min-both (length (m .id)) (length (m .byte) + 1) n (r .ids) (r .bytes)))
-    (min-both (min (length (m .to) + 1) (length (m .work) / 2)) 4_294_967_295 n
-    (min-both (length (m .to) + 1) (length (m .work) / 2) n (r .targets) (omega (arith, r .links))) (r .small))
+    min-both (min (min (length (m .parts .edgeAt)) (length (m .parts .edgeN))) (min (length (m .parts .id)) (length (m .parts .byte) + 1)))
+    (min (min (length (m .parts .to) + 1) (length (m .work) / 2)) 4_294_967_295) n
+    (min-both (min (length (m .parts .edgeAt)) (length (m .parts .edgeN))) (min (length (m .parts .id)) (length (m .parts .byte) + 1)) n
+    (min-both (length (m .parts .edgeAt)) (length (m .parts .edgeN)) n (r .starts) (r .counts))
+    (min-both (length (m .parts .id)) (length (m .parts .byte) + 1) n (r .ids) (r .bytes)))
+    (min-both (min (length (m .parts .to) + 1) (length (m .work) / 2)) 4_294_967_295 n
+    (min-both (length (m .parts .to) + 1) (length (m .work) / 2) n (r .targets) (omega (arith, r .links))) (r .small))
 
 -- the room that `room` answers is room
 pub room-is : (m : Memory) → RoomFor (roomOf m) m
@@ -81,11 +81,11 @@ fits-all : (m : Memory) (n : ℕ) → RoomFor n m → noRoom n m ≡ false
 unfolding noRoom anyBelow
 fits-all m n r =
     rw (
-      le-ltb (length (m .edgeAt)) n (r .starts),
-      le-ltb (length (m .edgeN)) n (r .counts),
-      le-ltb (length (m .id)) n (r .ids),
-      le-ltb (length (m .byte)) (n - 1) (omega (arith, r .bytes)),
-      le-ltb (length (m .to)) (n - 1) (omega (arith, r .targets)),
+      le-ltb (length (m .parts .edgeAt)) n (r .starts),
+      le-ltb (length (m .parts .edgeN)) n (r .counts),
+      le-ltb (length (m .parts .id)) n (r .ids),
+      le-ltb (length (m .parts .byte)) (n - 1) (omega (arith, r .bytes)),
+      le-ltb (length (m .parts .to)) (n - 1) (omega (arith, r .targets)),
       le-ltb (length (m .work)) (2 * n) (r .links),
     )
 
@@ -98,16 +98,16 @@ none-below n a b e =
 all-fit : (m : Memory) (n : ℕ) → 1 ≤ n → n ≤ 4_294_967_295 → noRoom n m ≡ false → RoomFor n m
 unfolding noRoom anyBelow
 all-fit m n some-node small e =
-    let nodes = anyBelow n (length (m .edgeAt) ∷ length (m .edgeN) ∷ length (m .id) ∷ []) in
-    let edges = anyBelow (n - 1) (length (m .byte) ∷ length (m .to) ∷ []) in
+    let nodes = anyBelow n (length (m .parts .edgeAt) ∷ length (m .parts .edgeN) ∷ length (m .parts .id) ∷ []) in
+    let edges = anyBelow (n - 1) (length (m .parts .byte) ∷ length (m .parts .to) ∷ []) in
     let work = ltb (length (m .work)) (2 * n) in
     let p = neither-says (nodes || edges) work e in
     let q = neither-says nodes edges (p .0) in
-    let s = neither-says (ltb (length (m .edgeAt)) n) (ltb (length (m .edgeN)) n || (ltb (length (m .id)) n || false)) (q .0) in
-    let t = none-below n (length (m .edgeN)) (length (m .id)) (s .1) in
-    let u = none-below (n - 1) (length (m .byte)) (length (m .to)) (q .1) in
+    let s = neither-says (ltb (length (m .parts .edgeAt)) n) (ltb (length (m .parts .edgeN)) n || (ltb (length (m .parts .id)) n || false)) (q .0) in
+    let t = none-below n (length (m .parts .edgeN)) (length (m .parts .id)) (s .1) in
+    let u = none-below (n - 1) (length (m .parts .byte)) (length (m .parts .to)) (q .1) in
     record {
-      starts = ltb-false (length (m .edgeAt)) n (s .0);
+      starts = ltb-false (length (m .parts .edgeAt)) n (s .0);
       counts = t .0;
       ids = t .1;
       bytes = omega (arith, u .0);

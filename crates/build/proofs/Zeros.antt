@@ -35,4 +35,4 @@ pub cleared-is :
     → memory edgeAt′ edgeN′ id′ byte′ to′ work′ ≡ cleared (memory edgeAt edgeN id byte to work)
 unfolding cleared
 cleared-is edgeAt edgeN id byte to work p q r s t u =
-    λ i. record { edgeAt = p i; edgeN = q i; id = r i; score = []; byte = s i; to = t i; work = u i }
+    λ i. memory (p i) (q i) (r i) (s i) (t i) (u i)

@@ -19,16 +19,16 @@ use Rattle.build.specs.Memory.{Memory, cleared, holding}
 -- places; a node's number fits a u32
 abbrev pub roomOf : Memory → ℕ
 roomOf m =
-    min (min (min (length (m .edgeAt)) (length (m .edgeN))) (min (length (m .id)) (length (m .byte) + 1)))
-    (min (min (length (m .to) + 1) (length (m .work) / 2)) 4_294_967_295)
+    min (min (min (length (m .parts .edgeAt)) (length (m .parts .edgeN))) (min (length (m .parts .id)) (length (m .parts .byte) + 1)))
+    (min (min (length (m .parts .to) + 1) (length (m .work) / 2)) 4_294_967_295)
 
 -- every lent column has room for `room` nodes
 pub record RoomFor (room : ℕ) (m : Memory) : Type 0 where
-  pub starts : room ≤ length (m .edgeAt)
-  pub counts : room ≤ length (m .edgeN)
-  pub ids : room ≤ length (m .id)
-  pub bytes : room ≤ length (m .byte) + 1
-  pub targets : room ≤ length (m .to) + 1
+  pub starts : room ≤ length (m .parts .edgeAt)
+  pub counts : room ≤ length (m .parts .edgeN)
+  pub ids : room ≤ length (m .parts .id)
+  pub bytes : room ≤ length (m .parts .byte) + 1
+  pub targets : room ≤ length (m .parts .to) + 1
   pub links : 2 * room ≤ length (m .work)
   pub small : room ≤ 4_294_967_295
 
@@ -51,12 +51,12 @@ pub record BuiltOf (first : Bool) (tab : List ℕ) (rows : List Row) (room : ℕ
 pub record Finishable (room : ℕ) (m : Memory) (n : ℕ) : Type 0 where
   pub nodes : List (List ℕ)
   pub rule : List ℕ → Option ℕ
-  pub done : RowDone nodes rule room (m .edgeN) (m .id) (m .work) n
+  pub done : RowDone nodes rule room (m .parts .edgeN) (m .parts .id) (m .work) n
   pub roomy : RoomFor room m
 
 -- whichever rows these were, their build is done
 pub record Finished (room : ℕ) (before after : Memory) (n : ℕ) (answer : Built) : Type 0 where
   pub built :
       (first : Bool) (tab : List ℕ) (rows : List Row)
-      → RowDone (names (tokensOf tab rows)) (rulesFrom first tab noRule 0 rows) room (before .edgeN) (before .id) (before .work) n
+      → RowDone (names (tokensOf tab rows)) (rulesFrom first tab noRule 0 rows) room (before .parts .edgeN) (before .parts .id) (before .work) n
       → BuiltOf first tab rows room before after answer

@@ -13,35 +13,21 @@ use Rattle.refusal.specs.Lent.{Lent, was, is}
 use Rattle.refusal.specs.declared.Reason.{Reason}
 use Rattle.refusal.specs.Refusal.{numberOf}
 use Rattle.refusal.specs.Places.{zeroed, filled}
-use Rattle.trie.specs.Trie.{Trie}
+use Rattle.trie.specs.Trie.{Trie, partsOf}
 
 -- The lent node columns, edge columns and work places. Each may be longer than is needed, and of a length of its own. Where no score
 -- column is lent, it is empty here.
 pub record Memory : Type 0 where
-  pub edgeAt : List ℕ
-  pub edgeN : List ℕ
-  pub id : List ℕ
+  pub parts : Trie
   pub score : List Double
-  pub byte : List ℕ
-  pub to : List ℕ
   pub work : List ℕ
 
 abbrev pub memory : List ℕ → List ℕ → List ℕ → List ℕ → List ℕ → List ℕ → Memory
-memory edgeAt edgeN id byte to work =
-    record { edgeAt = edgeAt; edgeN = edgeN; id = id; score = []; byte = byte; to = to; work = work }
+memory edgeAt edgeN id byte to work = record { parts = partsOf edgeAt edgeN id byte to; score = []; work = work }
 
 -- a memory with a score column
 abbrev pub withScores : Memory → List Double → Memory
-withScores m score =
-    record {
-      edgeAt = m .edgeAt;
-      edgeN = m .edgeN;
-      id = m .id;
-      score = score;
-      byte = m .byte;
-      to = m .to;
-      work = m .work;
-    }
+withScores m score = record { parts = m .parts; score = score; work = m .work }
 
 -- the same as a contract names the columns: as the call found them, as it left them, and in a `requires`
 abbrev pub memoryWas : Lent ℕ → Lent ℕ → Lent ℕ → Lent ℕ → Lent ℕ → Lent ℕ → Memory
@@ -69,7 +55,8 @@ anyBelow n (l ∷ ls) = ltb l n || anyBelow n ls
 -- 7: "with N nodes needed: fewer than N node, N-1 edge or 2N work places in any lent column"
 unfoldable pub noRoom : ℕ → Memory → Bool
 noRoom n m =
-    anyBelow n (length (m .edgeAt) ∷ length (m .edgeN) ∷ length (m .id) ∷ []) || anyBelow (n - 1) (length (m .byte) ∷ length (m .to) ∷ []) || ltb (length (m .work)) (2 * n)
+    let t = m .parts in
+    anyBelow n (length (t .edgeAt) ∷ length (t .edgeN) ∷ length (t .id) ∷ []) || anyBelow (n - 1) (length (t .byte) ∷ length (t .to) ∷ []) || ltb (length (m .work)) (2 * n)
 
 -- the same where a score column is lent
 unfoldable pub noScoredRoom : ℕ → Memory → Bool
@@ -78,31 +65,22 @@ noScoredRoom n m = noRoom n m || ltb (length (m .score)) n
 abbrev pub zeroScores : List Double → List Double
 zeroScores = zeroed plusZero
 
+-- f of each column of t and the column that is lent for it
+abbrev pub columnwise : (List ℕ → List ℕ → List ℕ) → Trie → Trie → Trie
+columnwise f t lent =
+    partsOf (f (t .edgeAt) (lent .edgeAt)) (f (t .edgeN) (lent .edgeN)) (f (t .id) (lent .id)) (f (t .byte) (lent .byte))
+    (f (t .to) (lent .to))
+
 -- every lent place zero
 unfoldable pub cleared : Memory → Memory
 cleared m =
-    record {
-      edgeAt = zeroed 0 (m .edgeAt);
-      edgeN = zeroed 0 (m .edgeN);
-      id = zeroed 0 (m .id);
-      score = zeroScores (m .score);
-      byte = zeroed 0 (m .byte);
-      to = zeroed 0 (m .to);
-      work = zeroed 0 (m .work);
-    }
+    let t = m .parts in
+    record { parts = columnwise (λ column lent. zeroed 0 lent) t t; score = zeroScores (m .score); work = zeroed 0 (m .work) }
 
 -- the parts t with these scores: "After an accepted build the work places and all places past the counts are zero."
 unfoldable pub holding : Trie → List Double → Memory → Memory
 holding t scores m =
-    record {
-      edgeAt = filled 0 (t .edgeAt) (m .edgeAt);
-      edgeN = filled 0 (t .edgeN) (m .edgeN);
-      id = filled 0 (t .id) (m .id);
-      score = filled plusZero scores (m .score);
-      byte = filled 0 (t .byte) (m .byte);
-      to = filled 0 (t .to) (m .to);
-      work = zeroed 0 (m .work);
-    }
+    record { parts = columnwise (filled 0) t (m .parts); score = filled plusZero scores (m .score); work = zeroed 0 (m .work) }
 
 -- What a buffer holds after a build: on success; after a refusal, where "refusal 7 leaves every lent node, edge and work place zero" and
 -- "every other refusal writes nothing".

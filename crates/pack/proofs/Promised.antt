@@ -104,7 +104,7 @@ module _ {bytes : List ℕ} {kind : Kind} {h : Header} (f : PackFine bytes kind 
           (core-short kind strings rows (reportOf kind bytes) m after was ys said fine decides e s)
 
       module _ {n : ℕ} (e : answer ≡ Nodes n) where
-        pub ids-there : n ≤ length (m .id)
+        pub ids-there : n ≤ length (m .parts .id)
         ids-there = omega (arith, core-room said e, room-is .ids)
 
         pub scores-there : n ≤ length xs
@@ -120,7 +120,7 @@ module _ {bytes : List ℕ} {kind : Kind} {h : Header} (f : PackFine bytes kind 
         held = core-left kind strings rows (reportOf kind bytes) m after was was said fine decides e
 
         -- the score column, by the kind
-        scores-held : {now : List Double} (k : Kind) → kind ≡ k → ScoresLeft bytes kind (after .id) n was now → now ≡ filled plusZero (scoresIn k strings (rowsOf k bytes)) was
+        scores-held : {now : List Double} (k : Kind) → kind ≡ k → ScoresLeft bytes kind (after .parts .id) n was now → now ≡ filled plusZero (scoresIn k strings (rowsOf k bytes)) was
         unfolding scoresIn
         scores-held Unigram k s =
             scores-filled strings (rowsOf Unigram bytes) m was (omega (arith, few-rows, ap (λ (y : Kind). length (rowsOf y bytes)) k))
@@ -130,7 +130,7 @@ module _ {bytes : List ℕ} {kind : Kind} {h : Header} (f : PackFine bytes kind 
             s .bare k ∙ ap (λ (j : ℕ). replicate j plusZero) all
 
         pub fine-built :
-            {a : Told Report} {now : List Double} → (n ≡ nodesOf kind bytes → a ≡ built (reportOf kind bytes)) → ScoresLeft bytes kind (after .id) n was now
+            {a : Told Report} {now : List Double} → (n ≡ nodesOf kind bytes → a ≡ built (reportOf kind bytes)) → ScoresLeft bytes kind (after .parts .id) n was now
             → Promised (theKind bytes) strings (rowsOf (theKind bytes) bytes) (packJudged bytes) (noScoredRoom (nodesOf (theKind bytes) bytes) (withScores m was)) (reportOf (theKind bytes) bytes) (withScores m was) a (withScores after now)
         fine-built {a = a} {now = now} t s =
             subst (λ (k : Kind). Of k a (withScores after now)) kind-is

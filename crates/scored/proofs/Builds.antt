@@ -76,18 +76,18 @@ ids-scores tab rows few =
     (λ s. node-score (scoresOf rows) h (firstRow tokens s)) (names tokens)
 
 -- the first ids of a memory that holds the trie are the trie's
-ids-held : (tab : List ℕ) (rows : List Row) (xs : List Double) (m : Memory) {n : ℕ} → n ≡ nodesOf tab rows → take n (holding (unigramTrie tab rows) xs m .id) ≡ unigramTrie tab rows .id
+ids-held : (tab : List ℕ) (rows : List Row) (xs : List Double) (m : Memory) {n : ℕ} → n ≡ nodesOf tab rows → take n (holding (unigramTrie tab rows) xs m .parts .id) ≡ unigramTrie tab rows .id
 unfolding holding unigramTrie
 ids-held tab rows xs m {n = n} e = take-at _ _ n (length-id (firstRow (tokensOf tab rows)) (tokensOf tab rows) ∙ sym e)
 
 -- the score column that is filled by the ids of the nodes is that of the rows
 pub scores-filled :
     (tab : List ℕ) (rows : List Row) (m : Memory) (xs : List Double) {after : Memory} {ys : List Double} {n : ℕ} → length rows ≤ 1_048_576
-    → n ≡ nodesOf tab rows → after ≡ holding (trieIn Unigram tab rows) [] m → ys ≡ filledScores (scoresOf rows) (take n (after .id)) xs
+    → n ≡ nodesOf tab rows → after ≡ holding (trieIn Unigram tab rows) [] m → ys ≡ filledScores (scoresOf rows) (take n (after .parts .id)) xs
     → ys ≡ filled plusZero (scoresIn Unigram tab rows) xs
 unfolding trieIn scoresIn
 scores-filled tab rows m xs {n = n} few count left e =
-    e ∙ ap (λ (x : Memory). filledScores (scoresOf rows) (take n (x .id)) xs) left
+    e ∙ ap (λ (x : Memory). filledScores (scoresOf rows) (take n (x .parts .id)) xs) left
     ∙ ap (λ (ids : List ℕ). filledScores (scoresOf rows) ids xs) (ids-held tab rows [] m count)
     ∙ ap (λ (l : List Double). filled plusZero l xs) (ids-scores tab rows few)
 
@@ -95,7 +95,7 @@ scores-filled tab rows m xs {n = n} few count left e =
 
 -- the nodes that were built stand in every column, and their number fits a u32
 pub record Placed (n k : ℕ) (m : Memory) : Type 0 where
-  pub ids : n ≤ length (m .id)
+  pub ids : n ≤ length (m .parts .id)
   pub scores : n ≤ k
   pub small : n ≤ 4_294_967_295
 
@@ -138,7 +138,7 @@ module _ (tab off len : List ℕ) (score : List Float) (ids : List ℕ) (m after
 
     pub lists-built :
         {answer : core.Built} {n : ℕ} {said : Told Report} {ys : List Double} → BuiltOf true tab (given off len ids) room m after answer → answer ≡ Nodes n
-        → said ≡ built (record { nodes = n; unknown = unknownScore (map units score) }) → ys ≡ filledScores (map units score) (take n (after .id)) was
+        → said ≡ built (record { nodes = n; unknown = unknownScore (map units score) }) → ys ≡ filledScores (map units score) (take n (after .parts .id)) was
         → Promised Unigram tab rows (columnsFault Unigram tab c) (noScoredRoom (nodesOf tab rows) (withScores m was)) (reportOf tab rows) (withScores m was) said (withScores after ys)
     lists-built {n = n} {ys = ys} d e t s =
         let same = columns-built Unigram tab c fine d in
@@ -148,4 +148,4 @@ module _ (tab off len : List ℕ) (score : List Float) (ids : List ℕ) (m after
         (t ∙ (λ i. built (record { nodes = count i; unknown = unknownScore (sym scores i) })))
         (scores-filled tab rows m was (few-rows Unigram tab c fine) count
         (core-left Unigram tab rows (reportOf tab rows) m after was ys same fine decides e)
-        (s ∙ ap (λ (xs : List Double). filledScores xs (take n (after .id)) was) (sym scores)))
+        (s ∙ ap (λ (xs : List Double). filledScores xs (take n (after .parts .id)) was) (sym scores)))
