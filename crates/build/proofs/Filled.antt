@@ -12,6 +12,7 @@ use lib.ListN.{length, getD, drop, replicate, length-append, length-map, length-
 use lib.Seq.{sets, sets-eq, getD-append-add, ext-getD}
 use Rattle.refusal.specs.Sizes.{noId}
 use Rattle.refusal.specs.Places.{zeroed, filled}
+use Rattle.rows.specs.declared.Kind.{Kind}
 use Rattle.rows.specs.Rows.{Row}
 use Rattle.build.specs.declared.Built.{Built}
 use Rattle.build.specs.declared.Built.the-variants.{Nodes, NoRoom}
@@ -19,10 +20,11 @@ use Rattle.build.specs.Names.{names}
 use Rattle.build.specs.Grown.{Grown}
 use Rattle.build.specs.Parts.{edgesOf, starts, lay, trieOf}
 use Rattle.build.specs.Rules.{tokensOf}
-use Rattle.build.specs.Given.{rulesFrom, noRule, trieGiven}
+use Rattle.build.specs.Given.{rulesFrom, noRule}
 use Rattle.build.specs.Held.{ZeroFrom, Identified, Roomy, RowDone, Ready}
 use Rattle.build.specs.Laying.{bytesOf, targetsOf, allEdges, countsOf, AllReady, AllDone, OutReady, OutDone}
 use Rattle.build.specs.Memory.{Memory, memory, cleared, holding}
+use Rattle.build.specs.Promise.{trieIn}
 use Rattle.build.specs.Checked.{RoomFor, nodesOf, BuiltOf, Finishable, Finished}
 use Rattle.build.proofs.Grown.{List², grown-distinct, grown-some}
 use Rattle.build.proofs.Laid.{getD-map-of, length-starts}
@@ -200,29 +202,29 @@ module _ {edgeAt edgeN id byte to work : List ℕ} {room n : ℕ} where
         past = λ k p. held .past k (omega (arith, count));
       }
 
-  module _ {first : Bool} {tab : List ℕ} {rows : List Row}
-      (done : RowDone (names (tokensOf tab rows)) (rulesFrom first tab noRule 0 rows) room edgeN id work n) where
+  module _ {kind : Kind} {tab : List ℕ} {rows : List Row}
+      (done : RowDone (names (tokensOf tab rows)) (rulesFrom kind tab noRule 0 rows) room edgeN id work n) where
     pub built-full :
         room < n → {after : Memory} → after ≡ cleared (memory edgeAt edgeN id byte to work)
-        → BuiltOf first tab rows room (memory edgeAt edgeN id byte to work) after NoRoom
+        → BuiltOf kind tab rows room (memory edgeAt edgeN id byte to work) after NoRoom
     built-full h e =
         let ns = names (tokensOf tab rows) in
         let before = memory edgeAt edgeN id byte to work in
         let full : ltb room (length ns) ≡ true = lt-ltb room (length ns) (done .full h) in
         record {
           answered = rw full;
-          left = e ∙ sym (ap (λ (t : Bool). cond t (cleared before) (holding (trieGiven first tab rows) [] before)) full);
+          left = e ∙ sym (ap (λ (t : Bool). cond t (cleared before) (holding (trieIn kind tab rows) [] before)) full);
         }
 
     pub built-done :
         (fits : n ≤ room) {edgeAt′ edgeN′ byte′ to′ work′ : List ℕ}
         → OutDone (names (tokensOf tab rows)) edgeAt edgeN byte to work edgeAt′ edgeN′ byte′ to′ work′
-        → BuiltOf first tab rows room (memory edgeAt edgeN id byte to work) (memory edgeAt′ edgeN′ id byte′ to′ work′) (Nodes n)
+        → BuiltOf kind tab rows room (memory edgeAt edgeN id byte to work) (memory edgeAt′ edgeN′ id byte′ to′ work′) (Nodes n)
     unfolding holding lay trieOf
     built-done fits {edgeAt′ = edgeAt′} {edgeN′ = edgeN′} {byte′ = byte′} {to′ = to′} {work′ = work′} d =
         let ns = names (tokensOf tab rows) in
         let before = memory edgeAt edgeN id byte to work in
-        let rule = rulesFrom first tab noRule 0 rows in
+        let rule = rulesFrom kind tab noRule 0 rows in
         let held = done .held fits in
         let room-left : ltb room (length ns) ≡ false = le-ltb room (length ns) (omega (arith, done .count fits)) in
         let holds : memory edgeAt′ edgeN′ id byte′ to′ work′ ≡ holding (trieOf rule (tokensOf tab rows)) [] before =
@@ -232,8 +234,8 @@ module _ {edgeAt edgeN id byte to work : List ℕ} {room n : ℕ} where
         record {
           answered = ap Nodes (done .count fits) ∙ sym (ap (λ (t : Bool). cond t NoRoom (Nodes (length ns))) room-left);
           left =
-              holds ∙ ap (λ t. holding t [] before) (trie-given first tab rows)
-              ∙ sym (ap (λ (t : Bool). cond t (cleared before) (holding (trieGiven first tab rows) [] before)) room-left);
+              holds ∙ ap (λ t. holding t [] before) (trie-given kind tab rows)
+              ∙ sym (ap (λ (t : Bool). cond t (cleared before) (holding (trieIn kind tab rows) [] before)) room-left);
         }
 
 -- ---- the build once the rows are entered: it leaves the same in other columns of the same lengths
@@ -261,15 +263,15 @@ module _ {edgeAt edgeN₀ id₀ byte to work₀ edgeN id work : List ℕ} {room 
       }
 
   pub entered-built :
-      {first : Bool} {tab : List ℕ} {rows : List Row} {after : Memory} {answer : Built}
-      → RowDone (names (tokensOf tab rows)) (rulesFrom first tab noRule 0 rows) room edgeN id work n
+      {kind : Kind} {tab : List ℕ} {rows : List Row} {after : Memory} {answer : Built}
+      → RowDone (names (tokensOf tab rows)) (rulesFrom kind tab noRule 0 rows) room edgeN id work n
       → Finished room (memory edgeAt edgeN id byte to work) after n answer
       → length edgeN ≡ length edgeN₀ → length id ≡ length id₀ → length work ≡ length work₀
-      → BuiltOf first tab rows room (memory edgeAt edgeN₀ id₀ byte to work₀) after answer
+      → BuiltOf kind tab rows room (memory edgeAt edgeN₀ id₀ byte to work₀) after answer
   unfolding cleared holding
-  entered-built {first = first} {tab = tab} {rows = rows} d f kn ki kw =
-      let b = f .built first tab rows d in
-      let t = trieGiven first tab rows in
+  entered-built {kind = kind} {tab = tab} {rows = rows} d f kn ki kw =
+      let b = f .built kind tab rows d in
+      let t = trieIn kind tab rows in
       record {
         answered = b .answered;
         left = b .left ∙ ap₂ (cond (ltb room (nodesOf tab rows)))

@@ -23,9 +23,10 @@ use Rattle.build.specs.declared.Built.{Built}
 use Rattle.build.specs.Names.{names}
 use Rattle.build.specs.Rules.{tokensOf, firstRow, idOfWorth, unigramTrie}
 use Rattle.build.specs.Parts.{trieOf}
-use Rattle.build.specs.Given.{rowGiven, givenFrom, given, firstOf, trieGiven}
+use Rattle.build.specs.Given.{rowGiven, givenFrom, given}
 use Rattle.build.specs.Held.{Judged}
 use Rattle.build.specs.Memory.{Memory, cleared, holding}
+use Rattle.build.specs.Promise.{trieIn}
 use Rattle.build.specs.Checked.{nodesOf, builtAnswer, BuiltOf}
 use Rattle.build.proofs.Grown.{List²}
 use Rattle.build.proofs.Lookups.{noRow}
@@ -41,8 +42,8 @@ module _ (kind : Kind) (tab : List ℕ) (c : Columns) (fine : columnsFault kind 
   few-rows = omega (arith, rows-length c, rows-few kind tab c fine)
 
   -- what the core asks
-  pub judged : (first : Bool) → Judged first tab (c .off) (c .len) (c .id)
-  judged first =
+  pub judged : Judged kind tab (c .off) (c .len) (c .id)
+  judged =
       let flat = columns-level kind tab c fine in
       record {
         level = level-len c flat;
@@ -103,19 +104,19 @@ given-rows c h = rows-from c (length (c .off)) 0 (λ k p. h k (omega arith))
 -- the trie and the count of nodes are those of the columns' rows: for Unigram the tokens decide, and WordPiece has the rows themselves
 same-build :
     (kind : Kind) (tab : List ℕ) (c : Columns) → columnsFault kind tab c ≡ none
-    → (trieGiven (firstOf kind) tab (given (c .off) (c .len) (c .id)) ≡ trieGiven (firstOf kind) tab (rowsOf c))
+    → (trieIn kind tab (given (c .off) (c .len) (c .id)) ≡ trieIn kind tab (rowsOf c))
     × (nodesOf tab (given (c .off) (c .len) (c .id)) ≡ nodesOf tab (rowsOf c))
-unfolding trieGiven unigramTrie
+unfolding trieIn unigramTrie
 same-build Unigram tab c fine =
     let tokens = given-tokens tab c (c .id) in
     (ap (λ (tokens : List²). trieOf (firstRow tokens) tokens) tokens, ap (λ (tokens : List²). length (names tokens)) tokens)
 same-build WordPiece tab c fine =
     let rows = given-rows c (λ k h. wordpiece-numbered tab c k h fine) in
-    (ap (trieGiven false tab) rows, ap (nodesOf tab) rows)
+    (ap (trieIn WordPiece tab) rows, ap (nodesOf tab) rows)
 
 pub columns-built :
     (kind : Kind) (tab : List ℕ) (c : Columns) {room : ℕ} {m after : Memory} {answer : Built} → columnsFault kind tab c ≡ none
-    → BuiltOf (firstOf kind) tab (given (c .off) (c .len) (c .id)) room m after answer → BuiltOf (firstOf kind) tab (rowsOf c) room m after answer
+    → BuiltOf kind tab (given (c .off) (c .len) (c .id)) room m after answer → BuiltOf kind tab (rowsOf c) room m after answer
 columns-built kind tab c {room = room} {m = m} fine d =
     let same = same-build kind tab c fine in
     record {

@@ -7,14 +7,15 @@ use native.Mathlib.Omega.{arith}
 use borrow.Author.Tests.{ltb-false}
 use lib.Dec.{ltb}
 use Rattle.refusal.proofs.Lists.{zero-one}
+use Rattle.rows.specs.declared.Kind.{Kind}
 use Rattle.rows.specs.Rows.{Row}
 use Rattle.build.specs.declared.Built.{Built}
 use Rattle.build.specs.declared.Built.the-variants.{Nodes, NoRoom}
 use Rattle.build.specs.Memory.{Memory}
 use Rattle.build.specs.Checked.{nodesOf, BuiltOf}
 
-module _ {b : Bool} {tab : List ℕ} {rows : List Row} {room : ℕ} {before after : Memory} {answer : Built}
-    (d : BuiltOf b tab rows room before after answer)
+module _ {kind : Kind} {tab : List ℕ} {rows : List Row} {room : ℕ} {before after : Memory} {answer : Built}
+    (d : BuiltOf kind tab rows room before after answer)
   where
     abbrev nodes : ℕ
     nodes = nodesOf tab rows

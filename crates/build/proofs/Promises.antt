@@ -16,13 +16,10 @@ use Rattle.refusal.specs.declared.Reason.the-variants as reason
 use Rattle.refusal.specs.Refusal.{numberOf, refuse, first}
 use Rattle.refusal.specs.Places.{filled}
 use Rattle.refusal.proofs.Tests.{passed, both-passed}
-use Rattle.trie.specs.Trie.{Trie}
 use Rattle.rows.specs.declared.Kind.{Kind}
-use Rattle.rows.specs.declared.Kind.the-variants.{Unigram, WordPiece}
 use Rattle.rows.specs.Rows.{Row}
 use Rattle.build.specs.declared.Built.{Built}
 use Rattle.build.specs.declared.Built.the-variants.{Nodes, NoRoom}
-use Rattle.build.specs.Given.{firstOf, trieGiven}
 use Rattle.build.specs.Memory.{Memory, withScores, cleared, holding, zeroScores, leaves}
 use Rattle.build.specs.Checked.{nodesOf, BuiltOf}
 use Rattle.build.specs.Promise.{trieIn, scoresIn, buildFault, Told, built, refused, toldFor, Promised}
@@ -104,23 +101,16 @@ module _ {A : Type 0} (kind : Kind) (tab : List ℕ) (rows : List Row) (summary 
 
 -- ---- from what the core says
 
-pub given-is : (kind : Kind) (tab : List ℕ) (rows : List Row) → trieGiven (firstOf kind) tab rows ≡ trieIn kind tab rows
-unfolding trieGiven trieIn
-given-is Unigram tab rows = refl
-given-is WordPiece tab rows = refl
-
 -- a memory without its score column is zero, and so is that column
 pub cleared-with : (m : Memory) (xs : List Double) {after : Memory} {ys : List Double} → after ≡ cleared m → ys ≡ zeroScores xs → withScores after ys ≡ cleared (withScores m xs)
 unfolding cleared
 cleared-with m xs {ys = ys} a s = ap (λ (x : Memory). withScores x ys) a ∙ ap (withScores (cleared m)) s
 
 module _ {A : Type 0} (kind : Kind) (tab : List ℕ) (rows : List Row) (summary : A) (m after : Memory) (xs ys : List Double) {room : ℕ} {answer : Built}
-    {judged : Option Reason} {short : Bool} (d : BuiltOf (firstOf kind) tab rows room m after answer) (fine : judged ≡ none)
+    {judged : Option Reason} {short : Bool} (d : BuiltOf kind tab rows room m after answer) (fine : judged ≡ none)
     (decides : short ≡ ltb room (nodesOf tab rows)) where
   left-is : {b : Bool} → ltb room (nodesOf tab rows) ≡ b → after ≡ cond b (cleared m) (holding (trieIn kind tab rows) [] m)
-  left-is {b = b} e =
-      d .left ∙ ap (λ (b : Bool). cond b (cleared m) (holding (trieGiven (firstOf kind) tab rows) [] m)) e
-      ∙ ap (λ (t : Trie). cond b (cleared m) (holding t [] m)) (given-is kind tab rows)
+  left-is e = d .left ∙ ap (λ (b : Bool). cond b (cleared m) (holding (trieIn kind tab rows) [] m)) e
 
   pub core-short : answer ≡ NoRoom → ys ≡ zeroScores xs → Promised kind tab rows judged short summary (withScores m xs) (refused (reason.Call fault.Room)) (withScores after ys)
   core-short e s =

@@ -1,7 +1,6 @@
 -- Rows entered one by one, wherever they are read from. After i rows the columns hold the nodes and ids of those, and what is still to be
 -- entered is the rest. Assumes nothing.
 use mathlib.Core.Path.{_≡_, refl, sym, ap, _∙_}
-use mathlib.Core.Bool.{Bool, true, false}
 use mathlib.Core.List.{List, [], _∷_, _++_, map}
 use mathlib.Core.Logic.{inl, ⊎-elim}
 use mathlib.Core.Option.{Option, none, some}
@@ -12,12 +11,14 @@ use lib.ListN.{length, getD, set, length-set}
 use lib.Seq.{getD-set-same, getD-set-other}
 use Rattle.refusal.proofs.Lists.{zero-one, none-some}
 use Rattle.refusal.specs.Sizes.{noId, maxRows}
+use Rattle.rows.specs.declared.Kind.{Kind}
+use Rattle.rows.specs.declared.Kind.the-variants.{Unigram, WordPiece}
 use Rattle.rows.specs.Rows.{Row, tokenOf}
 use Rattle.build.specs.Names.{place, prefixes, enter, names}
 use Rattle.build.specs.Grown.{root}
 use Rattle.build.specs.Rules.{idOfWorth, tokensOf}
 use Rattle.build.specs.Given.{rowGiven, givenFrom, given, valueOf, kept, marked, rulesFrom, noRule}
-use Rattle.build.specs.Held.{ZeroFrom, Held, Roomy, Enterable, RowDone, RowEntered, valueGiven, Ready, Planted}
+use Rattle.build.specs.Held.{ZeroFrom, Held, Roomy, Enterable, RowDone, RowEntered, Ready, Planted}
 use Rattle.build.proofs.Strings.{snoc-nil, equal?}
 use Rattle.build.proofs.Places.{place-empty, place-other, place-below, place-at}
 use Rattle.build.proofs.Grown.{List², grown-root}
@@ -95,7 +96,7 @@ roomless tokens rule room edgeN id work n e h =
 
 -- ---- after i of the rows, the rest being still to be entered: the nodes fit, and the columns keep their lengths
 
-pub record Rowed (first : Bool) (tab : List ℕ) (rows : List Row) (room : ℕ) (edgeN₀ id₀ work₀ : List ℕ)
+pub record Rowed (kind : Kind) (tab : List ℕ) (rows : List Row) (room : ℕ) (edgeN₀ id₀ work₀ : List ℕ)
     (rest : List Row) (i : ℕ) (edgeN id work : List ℕ) (n : ℕ) : Type 0 where
   pub nodes : List²
   pub rule : List ℕ → Option ℕ
@@ -103,11 +104,11 @@ pub record Rowed (first : Bool) (tab : List ℕ) (rows : List Row) (room : ℕ) 
   pub count : n ≡ length nodes
   pub fits : n ≤ room
   pub lengths : Kept edgeN₀ id₀ work₀ edgeN id work
-  pub low : first ≡ true → (s : List ℕ) (j : ℕ) → rule s ≡ some j → j < i
+  pub low : kind ≡ Unigram → (s : List ℕ) (j : ℕ) → rule s ≡ some j → j < i
   pub names-on : names (tokensOf tab rows) ≡ entered nodes (tokensOf tab rest)
-  pub rules-on : rulesFrom first tab noRule 0 rows ≡ rulesFrom first tab rule i rest
+  pub rules-on : rulesFrom kind tab noRule 0 rows ≡ rulesFrom kind tab rule i rest
 
-low-kept : (o : Option ℕ) (i j : ℕ) → ((k : ℕ) → o ≡ some k → k < i) → kept true o i ≡ some j → j < i + 1
+low-kept : (o : Option ℕ) (i j : ℕ) → ((k : ℕ) → o ≡ some k → k < i) → kept Unigram o i ≡ some j → j < i + 1
 unfolding kept
 low-kept none i j h e = let z : i ≡ j = cc in omega arith
 low-kept (some k) i j h e = let z : k ≡ j = cc in omega (arith, h k refl)
@@ -115,27 +116,26 @@ low-kept (some k) i j h e = let z : k ≡ j = cc in omega (arith, h k refl)
 -- what a row's id makes of the bound
 marked-low :
     (t : List ℕ) (i : ℕ) (rule : List ℕ → Option ℕ) → ((s : List ℕ) (j : ℕ) → rule s ≡ some j → j < i)
-    → (s : List ℕ) (j : ℕ) → marked true t i rule s ≡ some j → j < i + 1
-marked-low t i rule h [] j e = omega (arith, h [] j (sym (marked-empty true t i rule) ∙ e))
+    → (s : List ℕ) (j : ℕ) → marked Unigram t i rule s ≡ some j → j < i + 1
+marked-low t i rule h [] j e = omega (arith, h [] j (sym (marked-empty Unigram t i rule) ∙ e))
 marked-low t i rule h (b ∷ s) j e =
-    ⊎-elim (λ (q : b ∷ s ≡ t). low-kept (rule (b ∷ s)) i j (h (b ∷ s)) (sym (marked-hit true t i rule b s q) ∙ e))
-    (λ (q : b ∷ s ≡ t → ⊥). omega (arith, h (b ∷ s) j (sym (marked-other true t i rule (b ∷ s) q) ∙ e)))
+    ⊎-elim (λ (q : b ∷ s ≡ t). low-kept (rule (b ∷ s)) i j (h (b ∷ s)) (sym (marked-hit Unigram t i rule b s q) ∙ e))
+    (λ (q : b ∷ s ≡ t → ⊥). omega (arith, h (b ∷ s) j (sym (marked-other Unigram t i rule (b ∷ s) q) ∙ e)))
     (equal? (b ∷ s) t)
 
 -- where the first row of a token gives its id, that is the row's index
-value-first : (first : Bool) (i : ℕ) (row : Row) → first ≡ true → valueOf first i row ≡ i
-unfolding valueOf
-value-first true i row e = refl
-value-first false i row e = absurd (zero-one cc)
+value-first : (kind : Kind) (i own : ℕ) → kind ≡ Unigram → valueOf kind i own ≡ i
+value-first Unigram i own e = refl
+value-first WordPiece i own e = absurd (zero-one cc)
 
 -- all rows are entered, or there is no room for their nodes
-abbrev AllDone : Bool → List ℕ → List Row → ℕ → List ℕ → List ℕ → List ℕ → ℕ → Type 0
-AllDone first tab rows = RowDone (names (tokensOf tab rows)) (rulesFrom first tab noRule 0 rows)
+abbrev AllDone : Kind → List ℕ → List Row → ℕ → List ℕ → List ℕ → List ℕ → ℕ → Type 0
+AllDone kind tab rows = RowDone (names (tokensOf tab rows)) (rulesFrom kind tab noRule 0 rows)
 
-module _ {first : Bool} {tab : List ℕ} {rows : List Row} {room : ℕ} where
+module _ {kind : Kind} {tab : List ℕ} {rows : List Row} {room : ℕ} where
   pub rowed-start :
       {edgeN id work : List ℕ} {rest : List Row} → Planted edgeN id work room → rows ≡ rest
-      → Rowed first tab rows room edgeN id work rest 0 edgeN id work 1
+      → Rowed kind tab rows room edgeN id work rest 0 edgeN id work 1
   rowed-start p e =
       record {
         nodes = [] ∷ [];
@@ -146,11 +146,11 @@ module _ {first : Bool} {tab : List ℕ} {rows : List Row} {room : ℕ} where
         lengths = record { nodes = refl; ids = refl; links = refl };
         low = λ e s j p. none-some p;
         names-on = names-are (tokensOf tab rows) ∙ ap (λ (x : List Row). entered ([] ∷ []) (tokensOf tab x)) e;
-        rules-on = ap (rulesFrom first tab noRule 0) e;
+        rules-on = ap (rulesFrom kind tab noRule 0) e;
       }
 
   module _ {edgeN₀ id₀ work₀ : List ℕ} {rest : List Row} {i : ℕ} {edgeN id work : List ℕ} {n : ℕ}
-      (r : Rowed first tab rows room edgeN₀ id₀ work₀ rest i edgeN id work n) where
+      (r : Rowed kind tab rows room edgeN₀ id₀ work₀ rest i edgeN id work n) where
     pub rowed-enterable : Roomy room edgeN₀ id₀ work₀ → Enterable edgeN id work room 0 n
     rowed-enterable roomy =
         record {
@@ -170,10 +170,10 @@ module _ {first : Bool} {tab : List ℕ} {rows : List Row} {room : ℕ} where
       token = tokenOf tab row
 
       abbrev value : ℕ
-      value = valueOf first i row
+      value = valueOf kind i (idOfWorth (row .worth))
 
       abbrev rule-then : List ℕ → Option ℕ
-      rule-then = marked first token value (r .rule)
+      rule-then = marked kind token value (r .rule)
 
       names-next : names (tokensOf tab rows) ≡ entered (enter (r .nodes) (prefixes [] token)) (tokensOf tab more)
       unfolding tokensOf
@@ -181,25 +181,25 @@ module _ {first : Bool} {tab : List ℕ} {rows : List Row} {room : ℕ} where
           r .names-on ∙ ap (λ (x : List Row). entered (r .nodes) (map (tokenOf tab) x)) next
           ∙ entered-one (r .nodes) token (map (tokenOf tab) more)
 
-      rules-next : rulesFrom first tab noRule 0 rows ≡ rulesFrom first tab rule-then (i + 1) more
+      rules-next : rulesFrom kind tab noRule 0 rows ≡ rulesFrom kind tab rule-then (i + 1) more
       unfolding rulesFrom
       rules-next =
-          r .rules-on ∙ ap (rulesFrom first tab (r .rule) i) next ∙ ap (λ (k : ℕ). rulesFrom first tab rule-then k more) (sym (add-one i))
+          r .rules-on ∙ ap (rulesFrom kind tab (r .rule) i) next ∙ ap (λ (k : ℕ). rulesFrom kind tab rule-then k more) (sym (add-one i))
 
-      low-next : first ≡ true → (s : List ℕ) (j : ℕ) → rule-then s ≡ some j → j < i + 1
+      low-next : kind ≡ Unigram → (s : List ℕ) (j : ℕ) → rule-then s ≡ some j → j < i + 1
       low-next e s j p =
           marked-low token i (r .rule) (r .low e) s j
-          (sym (ap (λ (f : Bool). marked f token value (r .rule) s) e
-          ∙ ap (λ (v : ℕ). marked true token v (r .rule) s) (value-first first i row e)) ∙ p)
+          (sym (ap (λ (k : Kind). marked k token value (r .rule) s) e
+          ∙ ap (λ (v : ℕ). marked Unigram token v (r .rule) s) (value-first kind i (idOfWorth (row .worth)) e)) ∙ p)
 
       module _ {edgeN′ id′ work′ : List ℕ} {n′ : ℕ} (few : i < maxRows)
-          (one : RowEntered edgeN id work edgeN′ id′ work′ first room n token value n′) where
+          (one : RowEntered edgeN id work edgeN′ id′ work′ kind room n token value n′) where
         done : RowDone (enter (r .nodes) (prefixes [] token)) rule-then room edgeN′ id′ work′ n′
         done = one .entered (r .nodes) (r .rule) (r .held) (r .count) (λ e s j p. omega (arith, r .low e s j p))
 
         pub rowed-turn :
             length edgeN′ ≡ length edgeN → length id′ ≡ length id → length work′ ≡ length work → n′ ≤ room
-            → Rowed first tab rows room edgeN₀ id₀ work₀ more (i + 1) edgeN′ id′ work′ n′
+            → Rowed kind tab rows room edgeN₀ id₀ work₀ more (i + 1) edgeN′ id′ work′ n′
         rowed-turn ke ki kw fits =
             record {
               nodes = enter (r .nodes) (prefixes [] token);
@@ -214,7 +214,7 @@ module _ {first : Bool} {tab : List ℕ} {rows : List Row} {room : ℕ} where
             }
 
         -- it found no room
-        pub rowed-full : room < n′ → AllDone first tab rows room edgeN′ id′ work′ n′
+        pub rowed-full : room < n′ → AllDone kind tab rows room edgeN′ id′ work′ n′
         rowed-full z =
             record {
               full = λ y.
@@ -228,12 +228,12 @@ module _ {first : Bool} {tab : List ℕ} {rows : List Row} {room : ℕ} where
               held = λ y. absurd (omega arith);
             }
 
-    pub rowed-end : rest ≡ [] → AllDone first tab rows room edgeN id work n
+    pub rowed-end : rest ≡ [] → AllDone kind tab rows room edgeN id work n
     unfolding rulesFrom tokensOf
     rowed-end e =
         let all : names (tokensOf tab rows) ≡ r .nodes =
         r .names-on ∙ ap (λ (x : List Row). entered (r .nodes) (map (tokenOf tab) x)) e ∙ entered-none (r .nodes) in
-        let rules : rulesFrom first tab noRule 0 rows ≡ r .rule = r .rules-on ∙ ap (rulesFrom first tab (r .rule) i) e in
+        let rules : rulesFrom kind tab noRule 0 rows ≡ r .rule = r .rules-on ∙ ap (rulesFrom kind tab (r .rule) i) e in
         record {
           full = λ z. absurd (omega (arith, r .fits));
           count = λ z. r .count ∙ ap length (sym all);
@@ -258,7 +258,6 @@ pub rest-none : (off len ids : List ℕ) (i : ℕ) → i ≡ length off → rest
 unfolding givenFrom
 rest-none off len ids i h = let e : length off - i ≡ 0 = omega arith in ap (givenFrom off len ids i) e
 
-pub value-given : (first : Bool) (off len ids : List ℕ) (i : ℕ) → valueOf first i (rowGiven off len ids i) ≡ valueGiven first ids i
-unfolding valueOf idOfWorth
-value-given true off len ids i = refl
-value-given false off len ids i = refl
+pub value-given : (kind : Kind) (off len ids : List ℕ) (i : ℕ) → valueOf kind i (idOfWorth (rowGiven off len ids i .worth)) ≡ valueOf kind i (getD ids i 0)
+unfolding idOfWorth
+value-given kind off len ids i = refl

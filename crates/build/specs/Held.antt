@@ -1,13 +1,15 @@
 -- What the lent columns hold while tokens are entered, and what each step of entering promises. A step speaks of the names and ids that
 -- the columns hold: it asks that there are some, and says of any what they become. Definitions only; assumes nothing.
 use mathlib.Core.Path.{_≡_}
-use mathlib.Core.Bool.{Bool, true, false, cond}
+use mathlib.Core.Bool.{cond}
 use mathlib.Core.List.{List, [], _∷_, _++_}
 use mathlib.Core.Option.{Option, none, some, Option·getD}
 use Prim.Native.Nat.{ℕ, _+_, _*_, _≤_, _<_}
 use lib.Dec.{eqb}
 use lib.ListN.{length, getD, set}
 use Rattle.refusal.specs.Sizes.{noId, maxRows}
+use Rattle.rows.specs.declared.Kind.{Kind}
+use Rattle.rows.specs.declared.Kind.the-variants.{Unigram, WordPiece}
 use Rattle.build.specs.Names.{place, prefixes, add, enter}
 use Rattle.build.specs.Given.{marked, noRule}
 use Rattle.build.specs.Links.{Slot, Linked, Spelled, linkedWork}
@@ -102,13 +104,14 @@ pub record TokenEntered (edgeN id work edgeN′ id′ work′ : List ℕ) (room 
 
 -- ---- one row more
 
--- the id column once `node` is given the id v: always, or where the first id is kept only if it has none yet
-abbrev pub markedIds : Bool → List ℕ → ℕ → ℕ → List ℕ
-markedIds first id node v = cond first (cond (eqb (getD id node 0) noId) (set id node v) id) (set id node v)
+-- the id column once `node` is given the id v: for Unigram only if it has none yet
+abbrev pub markedIds : Kind → List ℕ → ℕ → ℕ → List ℕ
+markedIds Unigram id node v = cond (eqb (getD id node 0) noId) (set id node v) id
+markedIds WordPiece id node v = set id node v
 
--- where the first id is kept, no id is the mark for none
-abbrev pub Unmarked : Bool → (List ℕ → Option ℕ) → Type 0
-Unmarked first rule = first ≡ true → (s : List ℕ) (i : ℕ) → rule s ≡ some i → i < noId
+-- where Unigram keeps the first id, no id is the mark for none
+abbrev pub Unmarked : Kind → (List ℕ → Option ℕ) → Type 0
+Unmarked kind rule = kind ≡ Unigram → (s : List ℕ) (i : ℕ) → rule s ≡ some i → i < noId
 
 -- The nodes are now ms, n of them, with these ids; or n is above `room`, and so are they.
 pub record RowDone (ms : List (List ℕ)) (rule : List ℕ → Option ℕ) (room : ℕ) (edgeN id work : List ℕ) (n : ℕ) : Type 0 where
@@ -116,27 +119,23 @@ pub record RowDone (ms : List (List ℕ)) (rule : List ℕ → Option ℕ) (room
   pub count : n ≤ room → n ≡ length ms
   pub held : n ≤ room → Held ms rule edgeN id work
 
-pub record RowEntered (edgeN id work edgeN′ id′ work′ : List ℕ) (first : Bool) (room n : ℕ) (t : List ℕ) (v n′ : ℕ) : Type 0 where
+pub record RowEntered (edgeN id work edgeN′ id′ work′ : List ℕ) (kind : Kind) (room n : ℕ) (t : List ℕ) (v n′ : ℕ) : Type 0 where
   pub entered :
-      (ns : List (List ℕ)) (rule : List ℕ → Option ℕ) → Held ns rule edgeN id work → n ≡ length ns → Unmarked first rule
-      → RowDone (enter ns (prefixes [] t)) (marked first t v rule) room edgeN′ id′ work′ n′
+      (ns : List (List ℕ)) (rule : List ℕ → Option ℕ) → Held ns rule edgeN id work → n ≡ length ns → Unmarked kind rule
+      → RowDone (enter ns (prefixes [] t)) (marked kind t v rule) room edgeN′ id′ work′ n′
 
 -- ---- all rows
 
--- The rows' columns are level and their tokens stand in the table. Where the first id is kept, the row's own id is not looked at.
-pub record Judged (first : Bool) (tab off len ids : List ℕ) : Type 0 where
+-- The rows' columns are level and their tokens stand in the table. For Unigram the row's own id is not looked at.
+pub record Judged (kind : Kind) (tab off len ids : List ℕ) : Type 0 where
   pub level : length len ≡ length off
-  pub own : first ≡ false → length ids ≡ length off
+  pub own : kind ≡ WordPiece → length ids ≡ length off
   pub few : length off ≤ maxRows
   pub inside : (i : ℕ) → i < length off → getD off i 0 + getD len i 0 ≤ length tab
 
--- the id of row i
-abbrev pub valueGiven : Bool → List ℕ → ℕ → ℕ
-valueGiven first ids i = cond first i (getD ids i 0)
-
 -- row i may be entered
-pub record RowReady (first : Bool) (tab off len ids edgeN id work : List ℕ) (room n i : ℕ) : Type 0 where
-  pub judged : Judged first tab off len ids
+pub record RowReady (kind : Kind) (tab off len ids edgeN id work : List ℕ) (room n i : ℕ) : Type 0 where
+  pub judged : Judged kind tab off len ids
   pub there : i < length off
   pub enterable : Enterable edgeN id work room 0 n
 

@@ -2,6 +2,7 @@
 use crate::Built;
 use crate::steps::finish;
 use crate::vocabulary::enter_rows;
+use rows::Kind;
 ghost use mathlib.Core.Path.{_≡_};
 ghost use Prim.Native.Nat.{min};
 ghost use Rattle.build.specs.Given.{given};
@@ -35,10 +36,10 @@ pub fn room(
     least(nodes, least(edges, 4_294_967_295))
 }
 
-// The trie of the rows in the lent columns, where `room` nodes fit: the first row of a token gives the id, its index, or else the last row
-// does, its own. Where the trie needs more nodes, every lent place is zero afterwards.
+// The trie of the rows in the lent columns, where `room` nodes fit: for Unigram the first row of a token gives the id, its index, for
+// WordPiece the last, its own. Where the trie needs more nodes, every lent place is zero afterwards.
 pub fn build(
-    first: bool,
+    kind: Kind,
     tab: &[u8],
     off: &[u32],
     len: &[u32],
@@ -51,12 +52,12 @@ pub fn build(
     work: &mut [u32],
     room: usize,
 ) -> Built
-    requires { ⌜ Judged first (now tab) (now off) (now len) (now ids) × RoomFor room
+    requires { ⌜ Judged kind (now tab) (now off) (now len) (now ids) × RoomFor room
         (memoryNow «edge_at» «edge_n» id byte to work) ⌝ }
     ensures { λ r.
-        ⌜ BuiltOf first (was tab) (given (was off) (was len) (was ids)) room
+        ⌜ BuiltOf kind (was tab) (given (was off) (was len) (was ids)) room
         (memoryWas «edge_at» «edge_n» id byte to work) (memoryIs «edge_at» «edge_n» id byte to work) r ⌝ }
 {
-    let n = enter_rows(first, tab, off, len, ids, edge_n, id, work, room);
+    let n = enter_rows(kind, tab, off, len, ids, edge_n, id, work, room);
     finish(edge_at, edge_n, id, byte, to, work, room, n)
 }

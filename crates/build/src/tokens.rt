@@ -2,6 +2,7 @@
 use crate::links::Reached;
 use crate::links::child;
 use refusal::NO_ID;
+use rows::Kind;
 ghost use mathlib.Core.Path.{_≡_};
 ghost use Prim.Native.Nat.{_<_};
 ghost use lib.ListN.{length};
@@ -34,12 +35,12 @@ fn enter(
     at
 }
 
-// The id v for `node`: always, or where the first id is kept only if it has none yet.
-fn mark(id: &mut [u32], node: usize, first: bool, v: u32)
+// The id v for `node`: for Unigram only if it has none yet.
+fn mark(id: &mut [u32], node: usize, kind: Kind, v: u32)
     requires { ⌜ node < length (now id) ⌝ }
-    ensures { λ _. ⌜ is id ≡ markedIds first (was id) node v ⌝ }
+    ensures { λ _. ⌜ is id ≡ markedIds kind (was id) node v ⌝ }
 {
-    if first {
+    if let Kind::Unigram = kind {
         if id[node] != NO_ID {
             return;
         }
@@ -50,7 +51,7 @@ fn mark(id: &mut [u32], node: usize, first: bool, v: u32)
 // A token that is given the id v: how many nodes there are then, more than `room` where no room is left. An empty token does nothing.
 pub fn enter_token(
     token: &[u8],
-    first: bool,
+    kind: Kind,
     v: u32,
     edge_n: &mut [u16],
     id: &mut [u32],
@@ -60,7 +61,7 @@ pub fn enter_token(
 ) -> usize
     requires { ⌜ Enterable (now «edge_n») (now id) (now work) room 0 n ⌝ }
     ensures { λ r.
-        ⌜ RowEntered (was «edge_n») (was id) (was work) (is «edge_n») (is id) (is work) first room n (was token) v r ⌝ }
+        ⌜ RowEntered (was «edge_n») (was id) (was work) (is «edge_n») (is id) (is work) kind room n (was token) v r ⌝ }
 {
     if token.len() == 0 {
         return n;
@@ -70,6 +71,6 @@ pub fn enter_token(
     if node == room {
         return room + 1;
     }
-    mark(id, node, first, v);
+    mark(id, node, kind, v);
     end.n
 }

@@ -1,32 +1,33 @@
 // The rows entered in order. Unigram keeps a token's first row and gives it the row's index, WordPiece its last and the id that the row has.
 use crate::steps::start;
 use crate::tokens::enter_token;
+use rows::Kind;
 ghost use mathlib.Core.Path.{_≡_};
-ghost use mathlib.Core.Bool.{false};
 ghost use Prim.Native.Nat.{_<_};
 ghost use lib.ListN.{length, getD};
 ghost use Rattle.refusal.specs.Sizes.{maxRows};
 ghost use Rattle.text.specs.Span.{spanOf};
+ghost use Rattle.rows.specs.declared.Kind.the-variants.{WordPiece};
 ghost use Rattle.build.specs.Names.{names};
 ghost use Rattle.build.specs.Rules.{tokensOf};
-ghost use Rattle.build.specs.Given.{given, rulesFrom, noRule};
-ghost use Rattle.build.specs.Held.{RowEntered, RowDone, Judged, valueGiven, RowReady, Roomy, Planted};
+ghost use Rattle.build.specs.Given.{given, valueOf, rulesFrom, noRule};
+ghost use Rattle.build.specs.Held.{RowEntered, RowDone, Judged, RowReady, Roomy, Planted};
 ghost use Rattle.refusal.specs.Lent.{is, was};
 
 // The id of row i.
-fn value(first: bool, ids: &[u32], i: usize) -> u32
-    requires { ⌜ (i < maxRows) × (first ≡ false → i < length (now ids)) ⌝ }
-    ensures { λ r. ⌜ r ≡ valueGiven first (was ids) i ⌝ }
+fn value(kind: Kind, ids: &[u32], i: usize) -> u32
+    requires { ⌜ (i < maxRows) × (kind ≡ WordPiece → i < length (now ids)) ⌝ }
+    ensures { λ r. ⌜ r ≡ valueOf kind i (getD (was ids) i 0) ⌝ }
 {
-    if first {
-        return i as u32;
+    match kind {
+        Kind::Unigram => i as u32,
+        Kind::WordPiece => ids[i],
     }
-    ids[i]
 }
 
 // Row i: how many nodes there are then, more than `room` where no room is left.
 fn enter_row(
-    first: bool,
+    kind: Kind,
     tab: &[u8],
     off: &[u32],
     len: &[u32],
@@ -38,19 +39,19 @@ fn enter_row(
     room: usize,
     n: usize,
 ) -> usize
-    requires { ⌜ RowReady first (now tab) (now off) (now len) (now ids) (now «edge_n») (now id) (now work) room n i ⌝ }
+    requires { ⌜ RowReady kind (now tab) (now off) (now len) (now ids) (now «edge_n») (now id) (now work) room n i ⌝ }
     ensures { λ r.
-        ⌜ RowEntered (was «edge_n») (was id) (was work) (is «edge_n») (is id) (is work) first room n
-        (spanOf (was tab) (getD (was off) i 0) (getD (was len) i 0)) (valueGiven first (was ids) i) r ⌝ }
+        ⌜ RowEntered (was «edge_n») (was id) (was work) (is «edge_n») (is id) (is work) kind room n
+        (spanOf (was tab) (getD (was off) i 0) (getD (was len) i 0)) (valueOf kind i (getD (was ids) i 0)) r ⌝ }
 {
-    let v = value(first, ids, i);
+    let v = value(kind, ids, i);
     let token = text::checked::span(tab, off[i], len[i]);
-    enter_token(token, first, v, edge_n, id, work, room, n)
+    enter_token(token, kind, v, edge_n, id, work, room, n)
 }
 
 // All rows, from the root on: how many nodes there are, more than `room` where no room is left.
 fn enter_on(
-    first: bool,
+    kind: Kind,
     tab: &[u8],
     off: &[u32],
     len: &[u32],
@@ -60,15 +61,15 @@ fn enter_on(
     work: &mut [u32],
     room: usize,
 ) -> usize
-    requires { ⌜ Judged first (now tab) (now off) (now len) (now ids) × Planted (now «edge_n») (now id) (now work) room ⌝ }
+    requires { ⌜ Judged kind (now tab) (now off) (now len) (now ids) × Planted (now «edge_n») (now id) (now work) room ⌝ }
     ensures { λ r.
-        ⌜ RowDone (names (tokensOf (was tab) (given (was off) (was len) (was ids)))) (rulesFrom first (was tab) noRule 0
+        ⌜ RowDone (names (tokensOf (was tab) (given (was off) (was len) (was ids)))) (rulesFrom kind (was tab) noRule 0
         (given (was off) (was len) (was ids))) room (is «edge_n») (is id) (is work) r ⌝ }
 {
     let mut n: usize = 1;
     let mut i: usize = 0;
     while i < off.len() {
-        n = enter_row(first, tab, off, len, ids, i, edge_n, id, work, room, n);
+        n = enter_row(kind, tab, off, len, ids, i, edge_n, id, work, room, n);
         if room < n {
             return n;
         }
@@ -79,7 +80,7 @@ fn enter_on(
 
 // The same into columns that may hold anything. The root needs room too.
 pub fn enter_rows(
-    first: bool,
+    kind: Kind,
     tab: &[u8],
     off: &[u32],
     len: &[u32],
@@ -89,14 +90,14 @@ pub fn enter_rows(
     work: &mut [u32],
     room: usize,
 ) -> usize
-    requires { ⌜ Judged first (now tab) (now off) (now len) (now ids) × Roomy room (now «edge_n») (now id) (now work) ⌝ }
+    requires { ⌜ Judged kind (now tab) (now off) (now len) (now ids) × Roomy room (now «edge_n») (now id) (now work) ⌝ }
     ensures { λ r.
-        ⌜ RowDone (names (tokensOf (was tab) (given (was off) (was len) (was ids)))) (rulesFrom first (was tab) noRule 0
+        ⌜ RowDone (names (tokensOf (was tab) (given (was off) (was len) (was ids)))) (rulesFrom kind (was tab) noRule 0
         (given (was off) (was len) (was ids))) room (is «edge_n») (is id) (is work) r ⌝ }
 {
     let n = start(edge_n, id, work, room);
     if room < n {
         return n;
     }
-    enter_on(first, tab, off, len, ids, edge_n, id, work, room)
+    enter_on(kind, tab, off, len, ids, edge_n, id, work, room)
 }

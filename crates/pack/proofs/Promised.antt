@@ -19,7 +19,6 @@ use Rattle.rows.specs.declared.Kind.the-variants.{Unigram, WordPiece}
 use Rattle.rows.specs.Rows.{Row}
 use Rattle.build.specs.declared.Built as core
 use Rattle.build.specs.declared.Built.the-variants.{Nodes, NoRoom}
-use Rattle.build.specs.Given.{firstOf}
 use Rattle.build.specs.Memory.{Memory, withScores, noScoredRoom, holding, zeroScores}
 use Rattle.build.specs.Checked.{roomOf, RoomFor, BuiltOf}
 use Rattle.build.specs.Promise.{trieIn, scoresIn, Told, built, refused, Promised}
@@ -83,11 +82,11 @@ module _ {bytes : List ℕ} {kind : Kind} {h : Header} (f : PackFine bytes kind 
     Of k answer later =
         Promised k strings (rowsOf k bytes) (packJudged bytes) (noScoredRoom (nodesOf k bytes) (withScores m was)) (reportOf k bytes) (withScores m was) answer later
 
-    module _ {answer : core.Built} (d : BuiltOf (firstOf kind) lent (rowsFrom kind bytes 36 (h .rows)) room m after answer) where
-      said : BuiltOf (firstOf kind) strings rows room m after answer
+    module _ {answer : core.Built} (d : BuiltOf kind lent (rowsFrom kind bytes 36 (h .rows)) room m after answer) where
+      said : BuiltOf kind strings rows room m after answer
       said =
-          subst (λ (l : List Row). BuiltOf (firstOf kind) strings l room m after answer) (rows-read f kind)
-          (subst (λ (s : List ℕ). BuiltOf (firstOf kind) s (rowsFrom kind bytes 36 (h .rows)) room m after answer) (lent-strings f) d)
+          subst (λ (l : List Row). BuiltOf kind strings l room m after answer) (rows-read f kind)
+          (subst (λ (s : List ℕ). BuiltOf kind s (rowsFrom kind bytes 36 (h .rows)) room m after answer) (lent-strings f) d)
 
       fine : packJudged bytes ≡ none
       fine = judged-laid bytes (f .laid) ∙ f .fine

@@ -13,24 +13,14 @@ ghost use Prim.Native.Nat.{_<_};
 ghost use Rattle.refusal.specs.Sizes.{maxRows};
 ghost use Rattle.rows.specs.Rows.{worthIs, tokenOf};
 ghost use Rattle.build.specs.Names.{names};
-ghost use Rattle.build.specs.Rules.{tokensOf};
-ghost use Rattle.build.specs.Given.{firstOf, valueOf, rulesFrom, noRule};
+ghost use Rattle.build.specs.Rules.{tokensOf, idOfWorth};
+ghost use Rattle.build.specs.Given.{valueOf, rulesFrom, noRule};
 ghost use Rattle.build.specs.Held.{Roomy, Planted, RowEntered, RowDone};
 ghost use Rattle.build.specs.Memory.{memoryIs, memoryNow, memoryWas};
 ghost use Rattle.build.specs.Checked.{RoomFor, BuiltOf};
 ghost use Rattle.pack.specs.Pack.{rowAt, rowsFrom};
 ghost use Rattle.pack.specs.Reading.{rowStart, FineRows, valueIn, RowReady};
 ghost use Rattle.refusal.specs.Lent.{is, was};
-
-// Whether a token keeps its first row, not its last.
-fn keeps_first(kind: Kind) -> bool
-    ensures { λ r. ⌜ r ≡ firstOf kind ⌝ }
-{
-    match kind {
-        Kind::Unigram => true,
-        Kind::WordPiece => false,
-    }
-}
 
 // The id that row i gives its token: its index, or the id that it has.
 fn value(worth: Worth, i: usize) -> u32
@@ -57,16 +47,15 @@ fn enter_row(
 ) -> usize
     requires { ⌜ RowReady kind (now bytes) (now strings) (now «edge_n») (now id) (now work) room n i ⌝ }
     ensures { λ r.
-        ⌜ RowEntered (was «edge_n») (was id) (was work) (is «edge_n») (is id) (is work) (firstOf kind) room n
+        ⌜ RowEntered (was «edge_n») (was id) (was work) (is «edge_n») (is id) (is work) kind room n
         (tokenOf (was strings) (rowAt kind (was bytes) (rowStart i)))
-        (valueOf (firstOf kind) i (rowAt kind (was bytes) (rowStart i))) r ⌝ }
+        (valueOf kind i (idOfWorth (rowAt kind (was bytes) (rowStart i) .worth))) r ⌝ }
 {
     let row = row_at(kind, bytes, HEADER + ROW * i);
     let token = text::checked::span(strings, row.off, row.len);
     let worth = row.worth;
     let v = value(worth, i);
-    let first = keeps_first(kind);
-    enter_token(token, first, v, edge_n, id, work, room, n)
+    enter_token(token, kind, v, edge_n, id, work, room, n)
 }
 
 // All rows, from the root on: how many nodes there are, more than `room` where no room is left.
@@ -82,7 +71,7 @@ fn enter_on(
 ) -> usize
     requires { ⌜ FineRows kind (now bytes) (now strings) rows × Planted (now «edge_n») (now id) (now work) room ⌝ }
     ensures { λ r.
-        ⌜ RowDone (names (tokensOf (was strings) (rowsFrom kind (was bytes) 36 rows))) (rulesFrom (firstOf kind) (was strings)
+        ⌜ RowDone (names (tokensOf (was strings) (rowsFrom kind (was bytes) 36 rows))) (rulesFrom kind (was strings)
         noRule 0 (rowsFrom kind (was bytes) 36 rows)) room (is «edge_n») (is id) (is work) r ⌝ }
 {
     let mut n: usize = 1;
@@ -110,7 +99,7 @@ fn enter_rows(
 ) -> usize
     requires { ⌜ FineRows kind (now bytes) (now strings) rows × Roomy room (now «edge_n») (now id) (now work) ⌝ }
     ensures { λ r.
-        ⌜ RowDone (names (tokensOf (was strings) (rowsFrom kind (was bytes) 36 rows))) (rulesFrom (firstOf kind) (was strings)
+        ⌜ RowDone (names (tokensOf (was strings) (rowsFrom kind (was bytes) 36 rows))) (rulesFrom kind (was strings)
         noRule 0 (rowsFrom kind (was bytes) 36 rows)) room (is «edge_n») (is id) (is work) r ⌝ }
 {
     let n = start(edge_n, id, work, room);
@@ -137,7 +126,7 @@ pub fn build_rows(
     requires { ⌜ FineRows kind (now bytes) (now strings) rows × RoomFor room
         (memoryNow «edge_at» «edge_n» id byte to work) ⌝ }
     ensures { λ r.
-        ⌜ BuiltOf (firstOf kind) (was strings) (rowsFrom kind (was bytes) 36 rows) room
+        ⌜ BuiltOf kind (was strings) (rowsFrom kind (was bytes) 36 rows) room
         (memoryWas «edge_at» «edge_n» id byte to work) (memoryIs «edge_at» «edge_n» id byte to work) r ⌝ }
 {
     let n = enter_rows(kind, bytes, strings, rows, edge_n, id, work, room);

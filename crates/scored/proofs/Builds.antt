@@ -16,6 +16,7 @@ use Rattle.refusal.specs.declared.Fault.the-variants as fault
 use Rattle.refusal.specs.declared.Reason.the-variants as reason
 use Rattle.refusal.specs.Places.{filled}
 use Rattle.refusal.specs.Sizes.{noId}
+use Rattle.rows.specs.declared.Kind.{Kind}
 use Rattle.rows.specs.declared.Kind.the-variants.{Unigram}
 use Rattle.rows.specs.Rows.{Row}
 use Rattle.rows.specs.Columns.{Columns, rowAt, rowsOf, columnsFault}
@@ -100,8 +101,8 @@ pub record Placed (n k : ℕ) (m : Memory) : Type 0 where
   pub small : n ≤ 4_294_967_295
 
 pub nodes-placed :
-    {b : Bool} {tab : List ℕ} {rows : List Row} {m after : Memory} {room n : ℕ} {answer : core.Built} (xs : List Float)
-    → room ≡ min (roomOf m) (length xs) → BuiltOf b tab rows room m after answer → answer ≡ Nodes n → Placed n (length xs) m
+    {kind : Kind} {tab : List ℕ} {rows : List Row} {m after : Memory} {room n : ℕ} {answer : core.Built} (xs : List Float)
+    → room ≡ min (roomOf m) (length xs) → BuiltOf kind tab rows room m after answer → answer ≡ Nodes n → Placed n (length xs) m
 nodes-placed {m = m} xs r d e =
     let same = r ∙ ap (min (roomOf m)) (sym (length-map xs units)) in
     let every = scored-room-for m (map units xs) same in
@@ -131,13 +132,13 @@ module _ (tab off len : List ℕ) (score : List Float) (ids : List ℕ) (m after
         (omega (arith, nodes-small Unigram tab c fine))
 
     pub lists-full :
-        {answer : core.Built} {ys : List Double} → BuiltOf true tab (given off len ids) room m after answer → answer ≡ NoRoom → ys ≡ zeroScores was
+        {answer : core.Built} {ys : List Double} → BuiltOf Unigram tab (given off len ids) room m after answer → answer ≡ NoRoom → ys ≡ zeroScores was
         → Built tab c (withScores m was) (answer-is.Refused (reason.Call fault.Room)) (withScores after ys)
     unfolding told
     lists-full {ys = ys} d e s = core-short Unigram tab rows (reportOf tab rows) m after was ys (columns-built Unigram tab c fine d) fine decides e s
 
     pub lists-built :
-        {answer : core.Built} {n : ℕ} {said : Told Report} {ys : List Double} → BuiltOf true tab (given off len ids) room m after answer → answer ≡ Nodes n
+        {answer : core.Built} {n : ℕ} {said : Told Report} {ys : List Double} → BuiltOf Unigram tab (given off len ids) room m after answer → answer ≡ Nodes n
         → said ≡ built (record { nodes = n; unknown = unknownScore (map units score) }) → ys ≡ filledScores (map units score) (take n (after .parts .id)) was
         → Promised Unigram tab rows (columnsFault Unigram tab c) (noScoredRoom (nodesOf tab rows) (withScores m was)) (reportOf tab rows) (withScores m was) said (withScores after ys)
     lists-built {n = n} {ys = ys} d e t s =

@@ -4,6 +4,7 @@ use crate::Summary;
 use build::Built;
 use refusal::Fault;
 use refusal::Reason;
+use rows::Kind;
 ghost use mathlib.Core.Path.{_≡_};
 ghost use mathlib.Core.Option.{none};
 ghost use Prim.Native.Nat.{min};
@@ -60,7 +61,7 @@ pub fn build_rows(
 {
     let room = room(edge_at, edge_n, node_id, node_score, byte, to, work);
     let built = build::checked::build(
-        true,
+        Kind::Unigram,
         tab,
         off,
         len,

@@ -28,7 +28,7 @@ use Rattle.wordpiece.specs.declared.BuildAnswer.the-variants as answer-i
 use Rattle.wordpiece.specs.Build.{told, Built}
 
 module _ (tab off len : List ℕ) (ids : List ℕ) (m after : Memory) {room : ℕ} {answer : core.Built}
-    (r : room ≡ roomOf m) (d : BuiltOf false tab (given off len ids) room m after answer)
+    (r : room ≡ roomOf m) (d : BuiltOf WordPiece tab (given off len ids) room m after answer)
     (scored : List Bool) (scores : List Float) (fine : columnsFault WordPiece tab (columns off len scored scores ids) ≡ none)
   where
     abbrev c : Columns

@@ -49,7 +49,7 @@ pub fn from_rows(
     }
     let room = build::checked::room(edge_at, edge_n, node_id, byte, to, work);
     let built = build::checked::build(
-        false,
+        Kind::WordPiece,
         tab,
         off,
         len,

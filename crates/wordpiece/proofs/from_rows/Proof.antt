@@ -81,7 +81,7 @@ build-requires : tie.Need-build-requires
 build-requires c κs =
     let r = c .before .before .before .before .before .before in
     let e = begun r in (
-      judged WordPiece (e .args .tab .now) (lists e) (fine (told r)) _,
+      judged WordPiece (e .args .tab .now) (lists e) (fine (told r)),
       subst (λ (n : ℕ). RoomFor n (lent e)) (sym (r .room .ensures)) (room-is (lent e)),
     )
 

@@ -47,7 +47,7 @@ fitting c =
 returns : tie.Need-returns
 returns c =
     let k = cleared-all c in
-    record { built = λ first tab rows done. built-full done (full k .if1 .taken) (k .clear .ensures) }
+    record { built = λ kind tab rows done. built-full done (full k .if1 .taken) (k .clear .ensures) }
 
 lay-out-requires : tie.Need-lay-out-requires
 lay-out-requires c κs = let b = fitting c in finish-ready (entry (b .before) .pre) (b .if1 .left)
@@ -57,7 +57,7 @@ returns-2 c =
     let o = laid c in
     let fits = fitting (o .before) .if1 .left in
     record {
-      built = λ first tab rows done.
+      built = λ kind tab rows done.
           let h = done .held fits in
           built-done done fits (o .lay-out .ensures .laid (names (tokensOf tab rows)) (h .links) (h .bytes) (done .count fits));
     }

@@ -35,7 +35,7 @@ returns c =
     let s = start (c .before) in
     let a = s .args in
     let bare = length-zero (a .token .now) (c .if1 .taken) in
-    record { entered = λ ns rule h e small. row-empty (a .first) (a .v) bare h e (s .pre .fits) }
+    record { entered = λ ns rule h e small. row-empty (a .kind) (a .v) bare h e (s .pre .fits) }
 
 returns-2 : tie.Need-returns-2
 returns-2 c =

@@ -13,11 +13,11 @@ use Rattle.build.proofs.vocabulary.enter_on.Statement.{statement}
 use Rattle.build.proofs.vocabulary.enter_on.Tie as tie
 
 abbrev Inv-loop : tie.InvT-loop
-Inv-loop first tab off len ids edge-n₀ id₀ work₀ room n₀ i₀ edge-n id work n i =
-    (i ≤ length off) × Rowed first tab (given off len ids) room edge-n₀ id₀ work₀ (restOf off len ids i) i edge-n id work n
+Inv-loop kind tab off len ids edge-n₀ id₀ work₀ room n₀ i₀ edge-n id work n i =
+    (i ≤ length off) × Rowed kind tab (given off len ids) room edge-n₀ id₀ work₀ (restOf off len ids i) i edge-n id work n
 
 abbrev μ-loop : tie.MeasureT-loop
-μ-loop first tab off len ids edge-n₀ id₀ work₀ room n₀ i₀ edge-n id work n i = length off - i
+μ-loop kind tab off len ids edge-n₀ id₀ work₀ room n₀ i₀ edge-n id work n i = length off - i
 
 -- ---- the ways back: to the start from the loop's head, to the turn from the call of `enter_row` and from what follows it
 
@@ -56,7 +56,7 @@ returns c =
     let t = turn (f .before) in
     let h = t .before in
     let a = entry h .args in
-    let same = value-given (a .first) (a .off .now) (a .len .now) (a .ids .now) (h .loop .i) in
+    let same = value-given (a .kind) (a .off .now) (a .len .now) (a .ids .now) (h .loop .i) in
     rowed-full (h .loop .inv .1) (rest-next (a .off .now) (a .len .now) (a .ids .now) (h .loop .i) (t .loop-test .taken))
     (omega (arith, t .loop-test .taken, entry h .pre .0 .few)) (row-valued refl (sym same) (f .enter-row .ensures))
     (c .if1 .taken)
@@ -67,7 +67,7 @@ loop-again c =
     let t = turn (f .before) in
     let h = t .before in
     let a = entry h .args in
-    let same = value-given (a .first) (a .off .now) (a .len .now) (a .ids .now) (h .loop .i) in
+    let same = value-given (a .kind) (a .off .now) (a .len .now) (a .ids .now) (h .loop .i) in
     let l = f .enter-row .kept .1 .1 .1 .1 .1 .1 in (
       omega (arith, t .loop-test .taken),
       rowed-turn (h .loop .inv .1) (rest-next (a .off .now) (a .len .now) (a .ids .now) (h .loop .i) (t .loop-test .taken))

@@ -33,7 +33,7 @@ returns c =
     let a = entry f .args in
     let rows = given (a .off .now) (a .len .now) (a .ids .now) in
     let l = f .start .last in
-    roomless (tokensOf (a .tab .now) rows) (rulesFrom (a .first) (a .tab .now) noRule 0 rows) (a .room) (l .0) (l .1 .0) (l .1 .1 .0)
+    roomless (tokensOf (a .tab .now) rows) (rulesFrom (a .kind) (a .tab .now) noRule 0 rows) (a .room) (l .0) (l .1 .0) (l .1 .1 .0)
     (f .start .result) (f .start .ensures .one) (c .if1 .taken)
 
 enter-on-requires : tie.Need-enter-on-requires

@@ -3,7 +3,6 @@
 use borrow.Author.Needs.{needs}
 use Prim.Native.Nat.{_-_, _≤_}
 use native.Mathlib.Omega.{arith}
-use Rattle.build.specs.Given.{firstOf}
 use Rattle.build.proofs.Rowing.{Rowed, rowed-start, rowed-turn, rowed-full, rowed-end, rowed-enterable}
 use Rattle.pack.proofs.Resting.{all, rest, rest-all, rest-next, rest-none}
 use Rattle.pack.proofs.enter.enter_on.Statement.{statement}
@@ -12,7 +11,7 @@ use Rattle.pack.proofs.enter.enter_on.Tie as tie
 abbrev Inv-loop : tie.InvT-loop
 Inv-loop kind bytes strings rows edge-n₀ id₀ work₀ room n₀ i₀ edge-n id work n i =
     (i ≤ rows)
-    × Rowed (firstOf kind) strings (all kind bytes rows) room edge-n₀ id₀ work₀ (rest kind bytes rows i) i edge-n id work n
+    × Rowed kind strings (all kind bytes rows) room edge-n₀ id₀ work₀ (rest kind bytes rows i) i edge-n id work n
 
 abbrev μ-loop : tie.MeasureT-loop
 μ-loop kind bytes strings rows edge-n₀ id₀ work₀ room n₀ i₀ edge-n id work n i = rows - i

@@ -31,7 +31,7 @@ called c =
     let k₁ = k .before .before in
     k₁ .before .before
 
-abbrev lent : tie.After-enter-token-arg3 → tie.After-keeps-first
+abbrev lent : tie.After-enter-token-arg3 → tie.After-value
 lent c = let k = c .before .before in k .before
 
 -- the row that is read is the row
@@ -54,13 +54,12 @@ returns : tie.Need-returns
 unfolding rowIs
 returns c =
     let t = called c in
-    let first = lent (t .before) in
-    let v = first .before in
+    let v = lent (t .before) in
     let g = spanned v in
     let k = g .before in
     let s = entry k in
     entered-row (s .args .kind) (s .args .bytes .now) (s .args .strings .now) (rowStart (s .args .i)) (s .args .i) (rowIs (k .row-at .result))
-    (row-is k) (first .keeps-first .ensures) (v .value .ensures) (row-valued (bytes-given (g .span .ensures)) refl (t .enter-token .ensures))
+    (row-is k) (v .value .ensures) (row-valued (bytes-given (g .span .ensures)) refl (t .enter-token .ensures))
 
 pub enter-row-spec : {M : Type 1} → statement M
 enter-row-spec =
@@ -70,7 +69,6 @@ enter-row-spec =
     (λ c. search needs)
     (λ c κs. search needs)
     span-requires
-    (λ c κs. search needs)
     (λ c κs. search needs)
     (λ c κs. search needs)
     (λ c. search needs)

@@ -2,7 +2,7 @@
 use native.Mathlib.Omega.{arith}
 use borrow.Author.Needs.{needs}
 use Rattle.build.specs.Rules.{tokensOf}
-use Rattle.build.specs.Given.{firstOf, rulesFrom, noRule}
+use Rattle.build.specs.Given.{rulesFrom, noRule}
 use Rattle.build.proofs.Rowing.{roomless}
 use Rattle.pack.specs.Pack.{rowsFrom}
 use Rattle.pack.proofs.enter.enter_rows.Statement.{statement}
@@ -33,7 +33,7 @@ returns c =
     let a = entry f .args in
     let rows = rowsFrom (a .kind) (a .bytes .now) 36 (a .rows) in
     let l = f .start .last in
-    roomless (tokensOf (a .strings .now) rows) (rulesFrom (firstOf (a .kind)) (a .strings .now) noRule 0 rows) (a .room) (l .0) (l .1 .0) (l .1 .1 .0)
+    roomless (tokensOf (a .strings .now) rows) (rulesFrom (a .kind) (a .strings .now) noRule 0 rows) (a .room) (l .0) (l .1 .0) (l .1 .1 .0)
     (f .start .result) (f .start .ensures .one) (c .if1 .taken)
 
 enter-on-requires : tie.Need-enter-on-requires

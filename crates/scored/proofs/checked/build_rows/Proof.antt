@@ -74,7 +74,7 @@ build-requires : tie.Need-build-requires
 build-requires c κs =
     let r = c .before .before .before .before .before .before in
     let a = entry r .args in (
-      judged Unigram (a .tab .now) (rows-lent (entry r)) (entry r .pre) _,
+      judged Unigram (a .tab .now) (rows-lent (entry r)) (entry r .pre),
       scored-room-for (lent (entry r)) (map units (a .node-score .now))
           (r .room .ensures ∙ ap (min (roomOf (lent (entry r)))) (sym (length-map (a .node-score .now) units))),
     )
@@ -85,8 +85,8 @@ fill-requires c κs =
     let kept = called (t .before .before) .build .kept .1 .1 .1 .1 .1 .1 .1 .0 in
     (omega (arith, placed t .ids, kept), placed t .scores)
 
-cast-t53 : tie.Need-cast-t53
-cast-t53 c = omega (arith, placed (counted (c .before .before)) .small)
+cast-t54 : tie.Need-cast-t54
+cast-t54 c = omega (arith, placed (counted (c .before .before)) .small)
 
 returns : tie.Need-returns
 returns c =
@@ -119,7 +119,7 @@ build-rows-spec =
     (λ c κs. search needs)
     (λ c. search needs)
     fill-requires
-    cast-t53
+    cast-t54
     (λ c κs. search needs)
     (λ c. search needs)
     (λ c. search needs)
