@@ -15,6 +15,7 @@ use Rattle.rows.specs.declared.Kind.{Kind}
 use Rattle.rows.specs.declared.Kind.the-variants.{Unigram, WordPiece}
 use Rattle.rows.specs.Rows.{Row, score, id, tokenOf, firstBad}
 use Rattle.rows.specs.Columns.{Columns, rowAt, rowsFrom, rowsOf, columnsFault}
+use Rattle.rows.specs.Answers.{columns}
 use Rattle.rows.proofs.RowFaults.{fine-worth, fine-id}
 use Rattle.rows.proofs.RowLists.{rows-length, level-len, level-id}
 use Rattle.rows.proofs.FirstBad.{none-bad-says}
@@ -23,7 +24,7 @@ use Rattle.build.specs.declared.Built.{Built}
 use Rattle.build.specs.Names.{names}
 use Rattle.build.specs.Rules.{tokensOf, firstRow, idOfWorth, unigramTrie}
 use Rattle.build.specs.Parts.{trieOf}
-use Rattle.build.specs.Given.{rowGiven, givenFrom, given}
+use Rattle.build.specs.Given.{given}
 use Rattle.build.specs.Held.{Judged}
 use Rattle.build.specs.Memory.{Memory, cleared, holding}
 use Rattle.build.specs.Promise.{trieIn}
@@ -70,8 +71,8 @@ ids-marked tab rows fine k h e =
 
 tokens-from :
     (tab : List ℕ) (c : Columns) (ids : List ℕ) (n i : ℕ)
-    → map (tokenOf tab) (givenFrom (c .off) (c .len) ids i n) ≡ map (tokenOf tab) (rowsFrom c i n)
-unfolding givenFrom rowsFrom rowAt
+    → map (tokenOf tab) (rowsFrom (columns (c .off) (c .len) [] [] ids) i n) ≡ map (tokenOf tab) (rowsFrom c i n)
+unfolding rowsFrom rowAt
 tokens-from tab c ids zero i = refl
 tokens-from tab c ids (suc n) i =
     ap {B = List²} (λ r. tokenOf tab (rowAt c i) ∷ r) (tokens-from tab c ids n (suc i))
@@ -83,12 +84,12 @@ given-tokens tab c ids = tokens-from tab c ids (length (c .off)) 0
 
 rows-from :
     (c : Columns) (n i : ℕ) → ((k : ℕ) → k < i + n → getD (c .scored) k false ≡ false)
-    → givenFrom (c .off) (c .len) (c .id) i n ≡ rowsFrom c i n
-unfolding givenFrom rowsFrom rowAt
+    → rowsFrom (columns (c .off) (c .len) [] [] (c .id)) i n ≡ rowsFrom c i n
+unfolding rowsFrom rowAt
 rows-from c zero i h = refl
 rows-from c (suc n) i h =
     let none-scored : getD (c .scored) i false ≡ false = h i (omega arith) in
-    ap {B = List Row} (λ r. rowGiven (c .off) (c .len) (c .id) i ∷ r) (rows-from c n (suc i) (λ k p. h k (omega arith)))
+    ap {B = List Row} (λ r. rowAt (columns (c .off) (c .len) [] [] (c .id)) i ∷ r) (rows-from c n (suc i) (λ k p. h k (omega arith)))
     ∙ ap (λ (t : Bool). record {
       off = getD (c .off) i 0;
       len = getD (c .len) i 0;

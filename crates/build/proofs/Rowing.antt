@@ -13,11 +13,14 @@ use Rattle.refusal.proofs.Lists.{zero-one, none-some}
 use Rattle.refusal.specs.Sizes.{noId, maxRows}
 use Rattle.rows.specs.declared.Kind.{Kind}
 use Rattle.rows.specs.declared.Kind.the-variants.{Unigram, WordPiece}
+use Rattle.text.specs.Span.{spanOf}
 use Rattle.rows.specs.Rows.{Row, tokenOf}
+use Rattle.rows.specs.Columns.{rowAt, rowsFrom, rowsOf}
+use Rattle.rows.specs.Answers.{columns}
 use Rattle.build.specs.Names.{place, prefixes, enter, names}
 use Rattle.build.specs.Grown.{root}
 use Rattle.build.specs.Rules.{idOfWorth, tokensOf}
-use Rattle.build.specs.Given.{rowGiven, givenFrom, given, valueOf, kept, marked, rulesFrom, noRule}
+use Rattle.build.specs.Given.{given, valueOf, kept, marked, rulesFrom, noRule}
 use Rattle.build.specs.Held.{ZeroFrom, Held, Roomy, Enterable, RowDone, RowEntered, Ready, Planted}
 use Rattle.build.proofs.Strings.{snoc-nil, equal?}
 use Rattle.build.proofs.Places.{place-empty, place-other, place-below, place-at}
@@ -243,21 +246,29 @@ module _ {kind : Kind} {tab : List ℕ} {rows : List Row} {room : ℕ} where
 -- ---- the rest of the rows that are given as columns
 
 abbrev pub restOf : List ℕ → List ℕ → List ℕ → ℕ → List Row
-restOf off len ids i = givenFrom off len ids i (length off - i)
+restOf off len ids i = rowsFrom (columns off len [] [] ids) i (length off - i)
 
 pub rest-all : (off len ids : List ℕ) → given off len ids ≡ restOf off len ids 0
-rest-all off len ids = ap (givenFrom off len ids 0) (omega arith)
+unfolding rowsOf
+rest-all off len ids = ap (rowsFrom (columns off len [] [] ids) 0) (omega arith)
 
-pub rest-next : (off len ids : List ℕ) (i : ℕ) → i < length off → restOf off len ids i ≡ rowGiven off len ids i ∷ restOf off len ids (i + 1)
-unfolding givenFrom
+pub rest-next :
+    (off len ids : List ℕ) (i : ℕ) → i < length off → restOf off len ids i ≡ rowAt (columns off len [] [] ids) i ∷ restOf off len ids (i + 1)
+unfolding rowsFrom
 rest-next off len ids i h =
+    let c = columns off len [] [] ids in
     let e : length off - i ≡ suc (length off - (i + 1)) = omega arith in
-    ap (givenFrom off len ids i) e ∙ ap (λ (k : ℕ). rowGiven off len ids i ∷ givenFrom off len ids k (length off - (i + 1))) (sym (add-one i))
+    ap (rowsFrom c i) e ∙ ap (λ (k : ℕ). rowAt c i ∷ rowsFrom c k (length off - (i + 1))) (sym (add-one i))
 
 pub rest-none : (off len ids : List ℕ) (i : ℕ) → i ≡ length off → restOf off len ids i ≡ []
-unfolding givenFrom
-rest-none off len ids i h = let e : length off - i ≡ 0 = omega arith in ap (givenFrom off len ids i) e
+unfolding rowsFrom
+rest-none off len ids i h = let e : length off - i ≡ 0 = omega arith in ap (rowsFrom (columns off len [] [] ids) i) e
 
-pub value-given : (kind : Kind) (off len ids : List ℕ) (i : ℕ) → valueOf kind i (idOfWorth (rowGiven off len ids i .worth)) ≡ valueOf kind i (getD ids i 0)
-unfolding idOfWorth
-value-given kind off len ids i = refl
+-- row i, from its places
+pub row-given :
+    {edgeN id work edgeN′ id′ work′ : List ℕ} {kind : Kind} {room n n′ : ℕ} (tab off len ids : List ℕ) (i : ℕ)
+    → RowEntered edgeN id work edgeN′ id′ work′ kind room n (spanOf tab (getD off i 0) (getD len i 0)) (valueOf kind i (getD ids i 0)) n′
+    → let r = rowAt (columns off len [] [] ids) i in
+    RowEntered edgeN id work edgeN′ id′ work′ kind room n (tokenOf tab r) (valueOf kind i (idOfWorth (r .worth))) n′
+unfolding rowAt idOfWorth
+row-given tab off len ids i r = r

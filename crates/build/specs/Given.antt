@@ -2,25 +2,18 @@
 use mathlib.Core.Bool.{cond}
 use mathlib.Core.List.{List, [], _∷_}
 use mathlib.Core.Option.{Option, none, some}
-use Prim.Native.Nat.{ℕ, zero, suc}
-use lib.ListN.{length, getD}
+use Prim.Native.Nat.{ℕ, suc}
 use Rattle.rows.specs.declared.Kind.{Kind}
 use Rattle.rows.specs.declared.Kind.the-variants.{Unigram, WordPiece}
-use Rattle.rows.specs.Rows.{Row, id, tokenOf}
+use Rattle.rows.specs.Rows.{Row, tokenOf}
+use Rattle.rows.specs.Columns.{rowsOf}
+use Rattle.rows.specs.Answers.{columns}
 use Rattle.build.specs.Names.{same}
 use Rattle.build.specs.Rules.{idOfWorth}
 
--- row i of the columns: its token's span, and the id that WordPiece gives it
-abbrev pub rowGiven : List ℕ → List ℕ → List ℕ → ℕ → Row
-rowGiven off len ids i = record { off = getD off i 0; len = getD len i 0; worth = id (getD ids i 0) }
-
--- the n rows from i on
-unfoldable pub givenFrom : List ℕ → List ℕ → List ℕ → ℕ → ℕ → List Row
-givenFrom off len ids i zero = []
-givenFrom off len ids i (suc n) = rowGiven off len ids i ∷ givenFrom off len ids (suc i) n
-
+-- the rows of the columns: a token's span, and the id that WordPiece gives it
 abbrev pub given : List ℕ → List ℕ → List ℕ → List Row
-given off len ids = givenFrom off len ids 0 (length off)
+given off len ids = rowsOf (columns off len [] [] ids)
 
 -- the id that row i gives its token: Unigram its index, WordPiece its own
 abbrev pub valueOf : Kind → ℕ → ℕ → ℕ

@@ -1,14 +1,12 @@
 -- `build::vocabulary::enter_on` meets its contract. The loop's invariant: the first i rows are entered. The measure is what is left of them.
 -- Assumes nothing.
 use borrow.Author.Needs.{needs}
-use mathlib.Core.Path.{refl, sym}
 use Prim.Native.Nat.{_-_, _≤_}
 use native.Mathlib.Omega.{arith}
 use lib.ListN.{length}
 use Rattle.build.specs.Given.{given}
-use Rattle.build.proofs.Marking.{row-valued}
 use Rattle.build.proofs.Rowing.{Rowed, rowed-start, rowed-turn, rowed-full, rowed-end, rowed-enterable}
-use Rattle.build.proofs.Rowing.{restOf, rest-all, rest-next, rest-none, value-given}
+use Rattle.build.proofs.Rowing.{restOf, rest-all, rest-next, rest-none, row-given}
 use Rattle.build.proofs.vocabulary.enter_on.Statement.{statement}
 use Rattle.build.proofs.vocabulary.enter_on.Tie as tie
 
@@ -56,9 +54,8 @@ returns c =
     let t = turn (f .before) in
     let h = t .before in
     let a = entry h .args in
-    let same = value-given (a .kind) (a .off .now) (a .len .now) (a .ids .now) (h .loop .i) in
     rowed-full (h .loop .inv .1) (rest-next (a .off .now) (a .len .now) (a .ids .now) (h .loop .i) (t .loop-test .taken))
-    (omega (arith, t .loop-test .taken, entry h .pre .0 .few)) (row-valued refl (sym same) (f .enter-row .ensures))
+    (omega (arith, t .loop-test .taken, entry h .pre .0 .few)) (row-given (a .tab .now) (a .off .now) (a .len .now) (a .ids .now) (h .loop .i) (f .enter-row .ensures))
     (c .if1 .taken)
 
 loop-again : tie.Need-loop-again Inv-loop μ-loop
@@ -67,11 +64,10 @@ loop-again c =
     let t = turn (f .before) in
     let h = t .before in
     let a = entry h .args in
-    let same = value-given (a .kind) (a .off .now) (a .len .now) (a .ids .now) (h .loop .i) in
     let l = f .enter-row .kept .1 .1 .1 .1 .1 .1 in (
       omega (arith, t .loop-test .taken),
       rowed-turn (h .loop .inv .1) (rest-next (a .off .now) (a .len .now) (a .ids .now) (h .loop .i) (t .loop-test .taken))
-          (omega (arith, t .loop-test .taken, entry h .pre .0 .few)) (row-valued refl (sym same) (f .enter-row .ensures))
+          (omega (arith, t .loop-test .taken, entry h .pre .0 .few)) (row-given (a .tab .now) (a .off .now) (a .len .now) (a .ids .now) (h .loop .i) (f .enter-row .ensures))
           (l .0) (l .1 .0) (l .1 .1 .0) (c .if1 .left),
     )
 
