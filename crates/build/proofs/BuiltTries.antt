@@ -16,8 +16,8 @@ use Rattle.doubles.proofs.Largest.{isDouble}
 use Rattle.refusal.specs.declared.Reason.{Reason}
 use Rattle.refusal.specs.Sizes.{maxRows}
 use Rattle.trie.specs.Trie.{Trie, partsOf}
-use Rattle.trie.specs.Sound.{sound, SoundScored}
-use Rattle.trie.proofs.SoundParts.{sound-of}
+use Rattle.trie.specs.Sound.{sound, soundScored}
+use Rattle.trie.proofs.SoundParts.{of-scored}
 use Rattle.rows.specs.declared.Kind.{Kind}
 use Rattle.rows.specs.declared.Kind.the-variants.{Unigram, WordPiece}
 use Rattle.rows.specs.Rows.{Row, firstBad}
@@ -111,16 +111,17 @@ module _ (tab : List ℕ) (rows : List Row) (fine : firstBad Unigram tab 0 rows 
   node-finite (some i) = score-finite i
 
   -- sound, scores and unknown score finite
-  pub rows-scored : Bytes tab → length rows ≤ maxRows → Doubles (scoresOf rows) → SoundScored (unigramTrie tab rows) (unigramScores tab rows) (unknownScore (scoresOf rows))
+  pub rows-scored : Bytes tab → length rows ≤ maxRows → Doubles (scoresOf rows) → soundScored (unigramTrie tab rows) (unigramScores tab rows) (unknownScore (scoresOf rows)) ≡ true
   unfolding trieIn unigramTrie
   rows-scored bytes few doubles =
       let tokens = tokensOf tab rows in
-      record {
-        parts = sound-of (trieOf (firstRow tokens) tokens) (rows-sound tab rows bytes Unigram few fine);
+      of-scored _ _ _
+      (record {
+        parts = rows-sound tab rows bytes Unigram few fine;
         level-score = length-scores tab rows ∙ sym (length-edgeAt (firstRow tokens) tokens);
         finite = λ k h. ap isFinite (score-at tab rows k (omega (arith, length-scores tab rows))) ∙ node-finite (firstRow tokens (getD (names tokens) k []));
         finite-unknown = is-true _ (unknown-finite (scoresOf rows) (λ k h. (doubles k h, subst T (sym (score-finite k)) tt)));
-      }
+      })
 
 -- ---- after a build
 

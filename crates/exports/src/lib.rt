@@ -12,6 +12,7 @@ pub mod packs;
 
 ghost use mathlib.Core.Path.{_≡_};
 ghost use mathlib.Core.List.{[]};
+ghost use mathlib.Core.Bool.{true};
 ghost use mathlib.Core.Option.{none};
 ghost use Prim.Native.Nat.{_+_, _^_};
 ghost use lib.ListN.{length};
@@ -20,7 +21,7 @@ ghost use Rattle.refusal.specs.Refusal.{number, unlessFault};
 ghost use Rattle.text.specs.Text.{lengthOf, validUpTo, boundary, characters};
 ghost use Rattle.text.specs.Span.{spanFault, spanOf};
 ghost use Rattle.trie.specs.Trie.{idOf, parts, partsNow};
-ghost use Rattle.trie.specs.Sound.{sound, soundScored, Sound};
+ghost use Rattle.trie.specs.Sound.{sound, soundScored};
 ghost use Rattle.trie.specs.Lookup.{lookupFault, found, lookupAnswer};
 ghost use Rattle.unigram.specs.Work.{model, modelNow};
 ghost use Rattle.unigram.specs.Checked.{Cut, scratchIs, scratchNow, scratchWas};
@@ -184,7 +185,7 @@ pub extern "C" fn sk_exact_checked(
     to: &[u32],
     s: &[u8],
 ) -> u64
-    requires { ⌜ Sound (partsNow «edge_at» «edge_n» id byte to) ⌝ }
+    requires { ⌜ sound (partsNow «edge_at» «edge_n» id byte to) ≡ true ⌝ }
     ensures { λ r. ⌜ r ≡ lookupNumber (found (idOf (parts «edge_at» «edge_n» id byte to) (was s))) ⌝ }
 {
     match trie::checked::exact(edge_at, edge_n, id, byte, to, s) {

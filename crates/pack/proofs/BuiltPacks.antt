@@ -22,8 +22,7 @@ use Rattle.refusal.specs.declared.Reason.the-variants as reason
 use Rattle.text.specs.Text.{wellFormed}
 use Rattle.text.specs.Span.{spanOf}
 use Rattle.trie.specs.Trie.{Trie}
-use Rattle.trie.specs.Sound.{sound, soundScored, SoundScored}
-use Rattle.trie.proofs.SoundParts.{of-scored}
+use Rattle.trie.specs.Sound.{sound, soundScored}
 use Rattle.rows.specs.declared.Kind.{Kind}
 use Rattle.rows.specs.declared.Kind.the-variants.{Unigram, WordPiece}
 use Rattle.rows.specs.Scores.{unknownScore}
@@ -90,7 +89,7 @@ module _ (bytes : List ℕ) (good : Bytes bytes) {kind : Kind} (laid : kindOf by
   -- and for Unigram its node scores and its unknown score are finite: a pattern gives a double
   pub pack-sound-scored :
       kind ≡ Unigram
-      → SoundScored (unigramTrie (stringsOf bytes) (rowsOf Unigram bytes)) (unigramScores (stringsOf bytes) (rowsOf Unigram bytes)) (unknownScore (scoresOf (rowsOf Unigram bytes)))
+      → soundScored (unigramTrie (stringsOf bytes) (rowsOf Unigram bytes)) (unigramScores (stringsOf bytes) (rowsOf Unigram bytes)) (unknownScore (scoresOf (rowsOf Unigram bytes))) ≡ true
   unfolding rowsOf
   pack-sound-scored k =
       rows-scored (stringsOf bytes) (rowsOf Unigram bytes) (rows-fine Unigram bytes (subst (λ (y : Kind). contentFault y bytes ≡ none) k fine)) strings-bytes
@@ -211,7 +210,7 @@ module _ (bytes : List ℕ) (m after : Memory) (n unknown : ℕ) (lowest : Float
   -- it is sound, and its scores and unknown score are finite
   pub unigram-sound : soundScored (partsIn n after) (take n (after .score)) (units lowest) ≡ true
   unigram-sound =
-      (λ i. soundScored (unigram-parts i) (unigram-scores i) (unigram-score i)) ∙ of-scored _ _ _ (pack-sound-scored bytes good unigram-kind fine refl)
+      (λ i. soundScored (unigram-parts i) (unigram-scores i) (unigram-score i)) ∙ pack-sound-scored bytes good unigram-kind fine refl
 
   -- so `segment` does not find 8 in it, whatever the text and the scratch
   pub unigram-not-refused : (text : List ℕ) (lent : Lengths) → segmentFault (soundModel given) text lent ≡ some fault.Trie → ⊥

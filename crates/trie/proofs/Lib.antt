@@ -2,7 +2,7 @@
 
 -- a test of every number below a count
 pub mod Every
--- the test of soundness and the record of its facts say the same
+-- the facts that the test of soundness stands for
 pub mod SoundParts
 -- looking a byte up among rising bytes
 pub mod Seeking

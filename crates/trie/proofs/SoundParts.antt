@@ -1,4 +1,4 @@
--- The test `sound` and the record `Sound` say the same. Each conjunct of the test is a field: a number's test is the fact on numbers, a
+-- The facts that the test `sound` stands for, `Sound`: the two say the same. Each conjunct of the test is a field: a number's test is the fact on numbers, a
 -- test of every node or edge the fact of each. Assumes nothing.
 use mathlib.Core.Path.{_≡_, refl}
 use mathlib.Core.Bool.{Bool, true, false, _&&_}
@@ -14,7 +14,7 @@ use native.Mathlib.Numerals.{add-one}
 use Rattle.doubles.specs.Units.{units}
 use Rattle.doubles.specs.Double.{Double, plusZero, isFinite}
 use Rattle.trie.specs.Trie.{Trie}
-use Rattle.trie.specs.Sound.{every, rises, soundEdges, soundNode, sound, allFinite, soundScored, Sound, SoundScored}
+use Rattle.trie.specs.Sound.{every, rises, soundEdges, soundNode, sound, allFinite, soundScored}
 use Rattle.trie.proofs.Every.{both, first, second, five, fails, every-all, all-every, every-more, every-fails}
 
 -- ---- the edges of one node
@@ -29,23 +29,25 @@ module _ (bytes : List ℕ) (at n : ℕ) where
   rise : ℕ → Bool
   rise i = ltb (getD bytes (at + i) 0) (getD bytes (at + suc i) 0)
 
-  pub edges-of : soundEdges bytes at n ≡ true → NodeEdges bytes at n
+  pub rising-of : rises bytes at n ≡ true → (i : ℕ) → suc i < n → getD bytes (at + i) 0 < getD bytes (at + suc i) 0
   unfolding rise
+  rising-of h i l = ltb-true (getD bytes (at + i) 0) (getD bytes (at + suc i) 0) (every-all rise (n - 1) h i (omega arith))
+
+  pub of-rising : ((i : ℕ) → suc i < n → getD bytes (at + i) 0 < getD bytes (at + suc i) 0) → rises bytes at n ≡ true
+  unfolding rise
+  of-rising r = all-every rise (n - 1) (λ i l. lt-ltb (getD bytes (at + i) 0) (getD bytes (at + suc i) 0) (r i (omega arith)))
+
+  pub edges-of : soundEdges bytes at n ≡ true → NodeEdges bytes at n
   edges-of h =
       let two = first (leb (at + n) (length bytes) && leb n 256) (rises bytes at n) h in
       record {
         inside = leb-true (at + n) (length bytes) (first (leb (at + n) (length bytes)) (leb n 256) two);
         at-most = leb-true n 256 (second (leb (at + n) (length bytes)) (leb n 256) two);
-        rising = λ i l.
-            ltb-true (getD bytes (at + i) 0) (getD bytes (at + suc i) 0)
-            (every-all rise (n - 1) (second (leb (at + n) (length bytes) && leb n 256) (rises bytes at n) h) i (omega arith));
+        rising = rising-of (second (leb (at + n) (length bytes) && leb n 256) (rises bytes at n) h);
       }
 
   pub of-edges : NodeEdges bytes at n → soundEdges bytes at n ≡ true
-  unfolding rise
-  of-edges e =
-      both (both (le-leb (at + n) (length bytes) (e .inside)) (le-leb n 256 (e .at-most)))
-      (all-every rise (n - 1) (λ i l. lt-ltb (getD bytes (at + i) 0) (getD bytes (at + suc i) 0) (e .rising i (omega arith))))
+  of-edges e = both (both (le-leb (at + n) (length bytes) (e .inside)) (le-leb n 256 (e .at-most))) (of-rising (e .rising))
 
   -- the tests in their order
   pub edges-outside : length bytes < at + n → soundEdges bytes at n ≡ false
@@ -78,6 +80,18 @@ module _ (bytes : List ℕ) (at n : ℕ) where
         (le-ltb (getD bytes (at + (i - 1)) 0) (getD bytes (at + suc (i - 1)) 0) (rw (← next, ← here) l))
 
 -- ---- all parts
+
+-- what is asked of both kinds, as facts
+pub record Sound (t : Trie) : Type 0 where
+  pub some-node : 1 ≤ length (t .edgeAt)
+  pub few : length (t .edgeAt) ≤ 4_294_967_295
+  pub level-n : length (t .edgeN) ≡ length (t .edgeAt)
+  pub level-id : length (t .id) ≡ length (t .edgeAt)
+  pub level-to : length (t .to) ≡ length (t .byte)
+  pub inside : (k : ℕ) → k < length (t .edgeAt) → getD (t .edgeAt) k 0 + getD (t .edgeN) k 0 ≤ length (t .byte)
+  pub at-most : (k : ℕ) → k < length (t .edgeAt) → getD (t .edgeN) k 0 ≤ 256
+  pub rising : (k i : ℕ) → k < length (t .edgeAt) → suc i < getD (t .edgeN) k 0 → getD (t .byte) (getD (t .edgeAt) k 0 + i) 0 < getD (t .byte) (getD (t .edgeAt) k 0 + suc i) 0
+  pub target : (e : ℕ) → e < length (t .byte) → getD (t .to) e 0 < length (t .edgeAt)
 
 module _ (t : Trie) where
   inside-nodes : ℕ → Bool
@@ -198,6 +212,13 @@ module _ (t : Trie) where
 
 -- ---- scores
 
+-- and of a Unigram trie
+pub record SoundScored (t : Trie) (scores : List Double) (unknown : Double) : Type 0 where
+  pub parts : sound t ≡ true
+  pub level-score : length scores ≡ length (t .edgeAt)
+  pub finite : (k : ℕ) → k < length scores → isFinite (getD scores k plusZero) ≡ true
+  pub finite-unknown : isFinite unknown ≡ true
+
 -- the turns of a loop that is at k
 module _ (xs : List Float) (k : ℕ) where
   pub finite-turn :
@@ -234,7 +255,7 @@ module _ (t : Trie) (scores : List Double) (unknown : Double) where
       let three = first (sound t && level && allFinite scores) (isFinite unknown) h in
       let two = first (sound t && level) (allFinite scores) three in
       record {
-        parts = sound-of t (first (sound t) level two);
+        parts = first (sound t) level two;
         level-score = eqb-true _ _ (second (sound t) level two);
         finite = finite-all scores (second (sound t && level) (allFinite scores) three);
         finite-unknown = second (sound t && level && allFinite scores) (isFinite unknown) h;
@@ -244,7 +265,7 @@ module _ (t : Trie) (scores : List Double) (unknown : Double) where
   unfolding soundScored
   of-scored s =
       both
-      (both (both (of-sound t (s .parts)) (eq-eqb (length scores) (length (t .edgeAt)) (s .level-score))) (all-finite scores (s .finite)))
+      (both (both (s .parts) (eq-eqb (length scores) (length (t .edgeAt)) (s .level-score))) (all-finite scores (s .finite)))
       (s .finite-unknown)
 
   -- the tests, from the cheap ones on

@@ -1,6 +1,7 @@
 -- Steps and walks. A walk is its first step and the walk after it, so walks compose, each law an induction on the string. In sound parts
 -- every target is a node, so a step, and then a walk, from a node leads to a node. Neither looks at the ids. Assumes nothing.
 use mathlib.Core.Path.{_≡_, refl, sym, ap, _∙_}
+use mathlib.Core.Bool.{true}
 use mathlib.Core.List.{List, [], _∷_, _++_}
 use mathlib.Core.Option.{Option, none, some, bind}
 use Prim.Native.Nat.{ℕ, zero, suc, _+_, _≤_, _<_}
@@ -12,8 +13,9 @@ use lib.Seq.{drop-cons}
 use Rattle.refusal.proofs.Lists.{none-some}
 use Rattle.refusal.specs.Sizes.{noId}
 use Rattle.trie.specs.Trie.{Trie, step, walk, idAt, idFrom, idOf}
-use Rattle.trie.specs.Sound.{Sound}
+use Rattle.trie.specs.Sound.{sound}
 use Rattle.trie.proofs.Seeking.{seek-found}
+use Rattle.trie.proofs.SoundParts.{Sound, sound-of}
 
 -- ---- one step more
 
@@ -138,12 +140,13 @@ id-of t s = refl
 
 -- ---- in sound parts
 
-module _ {t : Trie} (sound : Sound t) where
+module _ (t : Trie) (tested : sound t ≡ true) where
   pub step-inside : (k b : ℕ) {j : ℕ} → k < length (t .edgeAt) → step t k b ≡ some j → j < length (t .edgeAt)
   unfolding step
   step-inside k b l e =
+      let facts : Sound t = sound-of t tested in
       let h = seek-found (t .byte) (t .to) b (getD (t .edgeN) k 0) (getD (t .edgeAt) k 0) e in
-      omega (arith, h .target, sound .target (h .edge) (omega (arith, sound .inside k l, h .below)))
+      omega (arith, h .target, facts .target (h .edge) (omega (arith, facts .inside k l, h .below)))
 
   pub walk-inside : (k : ℕ) (s : List ℕ) {j : ℕ} → k < length (t .edgeAt) → walk t k s ≡ some j → j < length (t .edgeAt)
   unfolding walk

@@ -1,7 +1,7 @@
 -- What steps and walks in sound parts rest on, and their answers as options. Definitions only; assumes nothing.
 use mathlib.Core.Path.{_≡_}
-use Prim.Native.Nat.{ℕ, suc, _+_, _≤_, _<_}
-use mathlib.Core.Bool.{cond}
+use Prim.Native.Nat.{ℕ, _<_}
+use mathlib.Core.Bool.{true, cond}
 use mathlib.Core.List.{List}
 use mathlib.Core.Option.{Option, none, some}
 use lib.Dec.{eqb}
@@ -12,18 +12,12 @@ use Rattle.trie.specs.declared.checked.Step.the-variants.{To, Stop}
 use Rattle.trie.specs.declared.checked.NodeId.{NodeId}
 use Rattle.trie.specs.declared.checked.NodeId.the-variants.{Is, Missing}
 use Rattle.trie.specs.Trie.{partsOf, seek}
-use Rattle.trie.specs.Sound.{Sound}
-
--- the n edges from `at` on lie inside both columns, and their bytes rise strictly
-pub record Edges (bytes tos : List ℕ) (at n : ℕ) : Type 0 where
-  pub inside : at + n ≤ length bytes
-  pub inside-to : at + n ≤ length tos
-  pub rising : (i : ℕ) → suc i < n → getD bytes (at + i) 0 < getD bytes (at + suc i) 0
+use Rattle.trie.specs.Sound.{sound}
 
 -- the node is one of the parts, which are sound with some ids: a step asks for none
 pub record Stands (edgeAt edgeN byte to : List ℕ) (node : ℕ) : Type 0 where
   pub ids : List ℕ
-  pub parts : Sound (partsOf edgeAt edgeN ids byte to)
+  pub parts : sound (partsOf edgeAt edgeN ids byte to) ≡ true
   pub inside : node < length edgeAt
 
 -- the node that a step leads to

@@ -1,15 +1,15 @@
 // Steps and walks in sound parts, for layers above that have tested soundness once: each function asks for sound parts and refuses nothing.
 use refusal::NO_ID;
 ghost use mathlib.Core.Path.{_≡_};
-ghost use mathlib.Core.Bool.{cond};
+ghost use mathlib.Core.Bool.{true, cond};
 ghost use mathlib.Core.List.{List};
 ghost use Prim.Native.Nat.{ℕ, _+_, _≤_, _<_};
 ghost use lib.Dec.{leb};
 ghost use lib.ListN.{length, getD, replicate};
 ghost use Rattle.refusal.specs.Sizes.{noId};
 ghost use Rattle.trie.specs.Trie.{Trie, partsOf, seek, step, walk, idAt, idOf, parts, partsNow};
-ghost use Rattle.trie.specs.Sound.{Sound};
-ghost use Rattle.trie.specs.Walks.{Edges, Stands, nextOf, idIn, marked, Leads};
+ghost use Rattle.trie.specs.Sound.{rises, sound};
+ghost use Rattle.trie.specs.Walks.{Stands, nextOf, idIn, marked, Leads};
 ghost use Rattle.refusal.specs.Lent.{is, was};
 
 // A position in the trie: the node that the bytes so far lead to.
@@ -66,7 +66,7 @@ fn seek_few(byte: &[u8], to: &[u32], at: usize, n: usize, b: u8) -> Step
 // The target of the byte b among the n edges from `at` on. Their bytes rise, so each turn leaves out three quarters of those that are left: 4 turns
 // for 256 edges. Its three reads don't wait for each other.
 fn seek(byte: &[u8], to: &[u32], at: usize, n: usize, b: u8) -> Step
-    requires { ⌜ Edges (now byte) (now to) at n ⌝ }
+    requires { ⌜ (at + n ≤ length (now byte)) × (at + n ≤ length (now to)) × (rises (now byte) at n ≡ true) ⌝ }
     ensures { λ r. ⌜ nextOf r ≡ seek (was byte) (was to) b at n ⌝ }
 {
     let mut low = at;
@@ -200,7 +200,7 @@ pub fn exact(
     to: &[u32],
     s: &[u8],
 ) -> NodeId
-    requires { ⌜ Sound (partsNow «edge_at» «edge_n» id byte to) ⌝ }
+    requires { ⌜ sound (partsNow «edge_at» «edge_n» id byte to) ≡ true ⌝ }
     ensures { λ r. ⌜ idIn r ≡ idOf (parts «edge_at» «edge_n» id byte to) (was s) ⌝ }
 {
     match Walk::root().over(edge_at, edge_n, byte, to, s) {

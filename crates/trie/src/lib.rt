@@ -7,12 +7,13 @@ use refusal::MAX_TEXT;
 pub mod checked;
 pub mod soundness;
 
+ghost use mathlib.Core.Path.{_≡_};
 ghost use mathlib.Core.Bool.{true};
 ghost use Prim.Native.Nat.{_≤_};
 ghost use lib.ListN.{length};
 ghost use Rattle.doubles.specs.Units.{units, scoresWas};
 ghost use Rattle.trie.specs.Trie.{parts, partsNow};
-ghost use Rattle.trie.specs.Sound.{sound, soundScored, Sound};
+ghost use Rattle.trie.specs.Sound.{sound, soundScored};
 ghost use Rattle.trie.specs.Lookup.{LookedUp};
 ghost use Rattle.refusal.specs.Lent.{was};
 
@@ -32,7 +33,7 @@ fn look_up(
     to: &[u32],
     s: &[u8],
 ) -> LookupAnswer
-    requires { ⌜ Sound (partsNow «edge_at» «edge_n» id byte to) × (length (now s) ≤ 65536) ⌝ }
+    requires { ⌜ (sound (partsNow «edge_at» «edge_n» id byte to) ≡ true) × (length (now s) ≤ 65536) ⌝ }
     ensures { λ r. ⌜ LookedUp true (parts «edge_at» «edge_n» id byte to) (was s) r ⌝ }
 {
     if let Judged::Bad(f) = text::utf8::judge(s) {

@@ -21,7 +21,6 @@ use Rattle.refusal.specs.declared.CodeAnswer.the-variants.{Refused}
 use Rattle.refusal.proofs.Codings.{refused-exactly}
 use Rattle.trie.specs.Trie.{Trie, walk, idAt, idFrom, idOf}
 use Rattle.trie.specs.Sound.{soundScored}
-use Rattle.trie.proofs.SoundParts.{of-scored}
 use Rattle.rows.specs.declared.Kind.the-variants.{Unigram}
 use Rattle.rows.specs.Rows.{Row}
 use Rattle.rows.specs.Columns.{Columns, rowsOf, columnsFault}
@@ -221,7 +220,7 @@ module _ (tab : List ℕ) (c : Columns) (m after : Memory) (s : Summary) (bytes 
     pub built-sound : soundScored (partsIn (s .nodes) after) (take (s .nodes) (after .score)) (units (s .«unknown_score»)) ≡ true
     built-sound =
         (λ i. soundScored (built-parts i) (built-scores i) (ap (λ (r : Report). r .unknown) report i))
-        ∙ of-scored _ _ _ (rows-scored tab (rowsOf c) (rows-fine Unigram tab c built-fine) bytes few (subst Doubles (sym (scores-are tab c built-fine)) doubles))
+        ∙ rows-scored tab (rowsOf c) (rows-fine Unigram tab c built-fine) bytes few (subst Doubles (sym (scores-are tab c built-fine)) doubles)
 
     -- so `segment` does not find 8 in it, whatever the unknown id, the text and the scratch
     module _ (unknown : ℕ) where

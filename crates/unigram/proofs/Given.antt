@@ -16,11 +16,12 @@ use Rattle.doubles.proofs.Order.{at-most-numbers}
 use Rattle.text.specs.Text.{wellFormed, boundary, next, part, characters}
 use Rattle.text.proofs.Boundaries.{boundary-le, boundary-zero, next-above, next-boundary, next-first, characters-append, characters-next}
 use Rattle.trie.specs.Trie.{walk, idAt}
-use Rattle.trie.specs.Sound.{SoundScored}
+use Rattle.trie.proofs.SoundParts.{SoundScored, sound-of, scored-of}
 use Rattle.trie.proofs.Walking.{walk-inside}
 use Rattle.trie.proofs.Every.{both}
 use Rattle.cutting.specs.Cuttings.{Piece, nth}
 use Rattle.cutting.specs.Records.{best}
+use Rattle.unigram.specs.Segment.{soundModel}
 use Rattle.unigram.specs.Pieces.{Model, pieceAt, known, pieceOf, rule}
 use Rattle.refusal.specs.Refusal.{first}
 use Rattle.refusal.proofs.Lists.{none-some, true-false, below-or}
@@ -102,13 +103,16 @@ back-number notANumber y t = absurd t
 back-number (infinite s) y t = tt
 back-number (finite s n) y t = tt
 
-module _ (m : Model) (s : List ℕ) (well : wellFormed s ≡ true) (sound : SoundScored (m .trie) (m .score) (m .unknown .score)) where
+module _ (m : Model) (s : List ℕ) (well : wellFormed s ≡ true) (tested : soundModel m ≡ true) where
+  sound : SoundScored (m .trie) (m .score) (m .unknown .score)
+  sound = scored-of (m .trie) (m .score) (m .unknown .score) tested
+
   finite-piece : (i j : ℕ) (p : Piece) → pieceOf m s i j ≡ some p → T (isFinite (p .score))
   finite-piece i j p e =
       ⊎-elim
       (λ (k : known m (part s i j) ≡ some p).
       let w = known-node m (part s i j) p k in
-      let inside = walk-inside (sound .parts) 0 (part s i j) (sound .parts .some-node) (w .1) in
+      let inside = walk-inside (m .trie) (sound .parts) 0 (part s i j) (sound-of (m .trie) (sound .parts) .some-node) (w .1) in
       subst (λ (x : Double). T (isFinite x)) (sym (w .2))
       (of-true (sound .finite (w .0) (omega (arith, inside, sound .level-score)))))
       (λ (w : (known m (part s i j) ≡ none) × (eqb j (next s i) ≡ true) × (m .unknown ≡ p)).

@@ -23,7 +23,6 @@ use Rattle.text.specs.Text.{characters, part}
 use Rattle.text.proofs.Boundaries.{characters-le}
 use Rattle.trie.specs.Trie.{idOf}
 use Rattle.trie.specs.Lookup.{lookupFault}
-use Rattle.trie.proofs.SoundParts.{scored-of}
 use Rattle.trie.proofs.Lookups.{lookup-fine, sound-lookup}
 use Rattle.build.specs.Memory.{anyBelow}
 use Rattle.cutting.specs.Slots.{Inside}
@@ -78,7 +77,7 @@ module _ (parts : Bool) (s : List ℕ) (n : Lengths) where
 pub ready-for : (m : Model) (s : List ℕ) (n : Lengths) → segmentFault (soundModel m) s n ≡ none → Ready m s
 ready-for m s n e =
     let fine = lookup-fine (soundModel m) s (tests (soundModel m) s n e .0) in
-    record { sound = scored-of (m .trie) (m .score) (m .unknown .score) (fine .1); well = fine .2; size = fine .0 }
+    record { sound = fine .1; well = fine .2; size = fine .0 }
 
 -- ---- the promise
 

@@ -17,6 +17,7 @@ use Rattle.doubles.specs.Units.{units}
 use Rattle.refusal.specs.Places.{overlay}
 use Rattle.text.specs.Text.{boundary, characters}
 use Rattle.text.proofs.Boundaries.{boundary-end}
+use Rattle.trie.proofs.SoundParts.{scored-of}
 use Rattle.cutting.specs.Records.{best, shown}
 use Rattle.cutting.specs.Slots.{Slots, slotsOf, slotAt, Inside}
 use Rattle.cutting.specs.Tracing.{endsFrom, stepsAt, Ends, Falling}
@@ -93,7 +94,7 @@ module _ {m : Model} {s : List ℕ} (ready : Ready m s) where
     pub mergeable : {places : List ℕ} → length s < length (a .id) → characters s ≤ length places → Mergeable (m .trie) s (a .id) (take n path′) places
     mergeable {places} inside room =
         record {
-          sound = ready .sound .parts;
+          sound = scored-of _ _ _ (ready .sound) .parts;
           ends = subst (Ends (length s) 0) (sym front-is) (ends-rise laws (w .slots) (last .0) (last .1));
           slots = inside;
           room = omega (arith, ap length front-is, length-map (piecesOf m s) (λ e. e .end), pieces-few);

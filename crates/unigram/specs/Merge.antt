@@ -1,14 +1,14 @@
 -- What merging reads and writes: the path, the slots' ids, the lent id places. Definitions only; assumes nothing.
 use mathlib.Core.Path.{_≡_}
 use Prim.Native.Nat.{ℕ, _+_, _≤_, _<_}
-use mathlib.Core.Bool.{cond}
+use mathlib.Core.Bool.{true, cond}
 use mathlib.Core.List.{List, [], _∷_, _++_}
 use mathlib.Core.Option.{Option}
 use lib.Dec.{ltb, eqb}
 use lib.ListN.{length, take, drop}
 use Rattle.text.specs.Text.{part}
 use Rattle.trie.specs.Trie.{Trie, idOf}
-use Rattle.trie.specs.Sound.{Sound}
+use Rattle.trie.specs.Sound.{sound}
 use Rattle.cutting.specs.Tracing.{Ends}
 use Rattle.unigram.specs.Runs.{runId}
 
@@ -31,13 +31,13 @@ pub record Placed (ws before : List ℕ) (n : ℕ) (after : List ℕ) (r : ℕ) 
 
 -- the run may be looked up: in sound parts, within the text
 pub record Run (t : Trie) (s : List ℕ) (run at : ℕ) : Type 0 where
-  pub sound : Sound t
+  pub sound : sound t ≡ true
   pub forward : run ≤ at
   pub inside : at ≤ length s
 
 -- the path may be merged: it rises within the text, each of its places has a slot, and there is an id place for each
 pub record Mergeable (t : Trie) (s slotIds path ids : List ℕ) : Type 0 where
-  pub sound : Sound t
+  pub sound : sound t ≡ true
   pub ends : Ends (length s) 0 path
   pub slots : length s < length slotIds
   pub room : length path ≤ length ids

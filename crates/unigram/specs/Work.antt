@@ -14,11 +14,12 @@ use Rattle.refusal.specs.Lent.{Lent, was}
 use Rattle.refusal.specs.Sizes.{maxText}
 use Rattle.text.specs.Text.{wellFormed, boundary, part}
 use Rattle.trie.specs.Trie.{partsOf}
-use Rattle.trie.specs.Sound.{Sound, SoundScored}
+use Rattle.trie.specs.Sound.{sound}
 use Rattle.cutting.specs.Cuttings.{Piece}
 use Rattle.cutting.specs.Slots.{Slots, slotAt, afterOffer, Inside, PutAt}
 use Rattle.cutting.specs.Law.{Holds, pathLeft}
 use Rattle.cutting.specs.Law as law
+use Rattle.unigram.specs.Segment.{soundModel}
 use Rattle.unigram.specs.Pieces.{Model, pieceAt, known, rule, piecesOf}
 
 -- the model in lent columns
@@ -56,7 +57,7 @@ knownTo m s at j = elim (ltb at j && boundary s j) [ true ↦ known m (part s at
 
 -- a walk may be begun at `at`, in sound parts with a score for each node; `one` is past it, and the text is within the limit
 pub record Walkable (edgeAt edgeN id : List ℕ) (score : List Float) (byte to s : List ℕ) (at one : ℕ) : Type 0 where
-  pub parts : Sound (partsOf edgeAt edgeN id byte to)
+  pub parts : sound (partsOf edgeAt edgeN id byte to) ≡ true
   pub level-score : length score ≡ length edgeAt
   pub inside : at ≤ length s
   pub ahead : at < one
@@ -69,7 +70,7 @@ pub record KnownOffered (m : Model) (s : List ℕ) (at one : ℕ) (x : Double) (
 
 -- what the core rests on: sound parts and a well-formed text within the limit
 pub record Ready (m : Model) (s : List ℕ) : Type 0 where
-  pub sound : SoundScored (m .trie) (m .score) (m .unknown .score)
+  pub sound : soundModel m ≡ true
   pub well : wellFormed s ≡ true
   pub size : length s ≤ maxText
 

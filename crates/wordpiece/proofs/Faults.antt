@@ -16,7 +16,6 @@ use Rattle.text.specs.Text.{wellFormed, textFault, characters}
 use Rattle.text.proofs.Spans.{fine-text, text-not}
 use Rattle.trie.specs.Trie.{Trie}
 use Rattle.trie.specs.Sound.{sound}
-use Rattle.trie.proofs.SoundParts.{sound-of}
 use Rattle.wordpiece.specs.Encode.{encodeFault}
 use Rattle.wordpiece.specs.Checked.{Encodable}
 
@@ -70,4 +69,4 @@ module _ (parts : Bool) (prefix w : List ℕ) (places : ℕ) where
 pub ready : (t : Trie) (prefix w ids : List ℕ) → encodeFault (sound t) prefix w (length ids) ≡ none → Encodable t w ids
 ready t prefix w ids e =
     let f = fine (sound t) prefix w (length ids) e in
-    record { parts = sound-of t (f .0); well = f .1; room = f .2 }
+    record { parts = f .0; well = f .1; room = f .2 }

@@ -9,7 +9,7 @@ use lib.ListN.{length}
 use lib.Seq.{sets}
 use Rattle.text.specs.Text.{wellFormed, characters}
 use Rattle.trie.specs.Trie.{Trie}
-use Rattle.trie.specs.Sound.{Sound}
+use Rattle.trie.specs.Sound.{sound}
 use Rattle.wordpiece.specs.declared.checked.Match.{Match}
 use Rattle.wordpiece.specs.declared.checked.Match.the-variants as match-is
 use Rattle.wordpiece.specs.declared.checked.Count.{Count}
@@ -50,6 +50,6 @@ pub record Fitting (find : List ℕ → Option ℕ) (w : List ℕ) (i : ℕ) (pl
 
 -- Sound parts, a tested word, and room for an id a character.
 pub record Encodable (t : Trie) (w ids : List ℕ) : Type 0 where
-  pub parts : Sound t
+  pub parts : sound t ≡ true
   pub well : wellFormed w ≡ true
   pub room : characters w ≤ length ids

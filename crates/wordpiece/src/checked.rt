@@ -21,7 +21,6 @@ ghost use Rattle.refusal.specs.Places.{overlay};
 ghost use Rattle.text.specs.Text.{wellFormed, boundary, characters};
 ghost use Rattle.trie.specs.Trie.{idFrom, idOf, parts, partsNow};
 ghost use Rattle.trie.specs.Sound as soundness;
-ghost use Rattle.trie.specs.Sound.{Sound};
 ghost use Rattle.wordpiece.specs.Pieces.{longestTo, piecesOf, idsOf};
 ghost use Rattle.wordpiece.specs.Encode.{encodeFault, Encoded};
 ghost use Rattle.wordpiece.specs.Checked.{foundIn, foundSince, restFrom, Walked, Fitting, Encodable};
@@ -84,7 +83,7 @@ pub(crate) fn longest(
     w: &[u8],
     i: usize,
 ) -> Match
-    requires { ⌜ Sound (partsNow «edge_at» «edge_n» id byte to) ⌝ }
+    requires { ⌜ soundness.sound (partsNow «edge_at» «edge_n» id byte to) ≡ true ⌝ }
     requires { ⌜ from .node < length (now «edge_at») ⌝ }
     requires { ⌜ i ≤ length (now w) ⌝ }
     ensures { λ r.
@@ -131,7 +130,7 @@ fn count_rest(
     i: usize,
     held: &mut [u32],
 ) -> Count
-    requires { ⌜ Sound (partsNow «edge_at» «edge_n» id byte to) ⌝ }
+    requires { ⌜ soundness.sound (partsNow «edge_at» «edge_n» id byte to) ≡ true ⌝ }
     requires { ⌜ rest .node < length (now «edge_at») ⌝ }
     requires { ⌜ i ≤ length (now w) ⌝ }
     ensures { λ r.
@@ -162,7 +161,7 @@ fn write_rest(
     i: usize,
     ids: &mut [u32],
 ) -> usize
-    requires { ⌜ Sound (partsNow «edge_at» «edge_n» id byte to) ⌝ }
+    requires { ⌜ soundness.sound (partsNow «edge_at» «edge_n» id byte to) ≡ true ⌝ }
     requires { ⌜ rest .node < length (now «edge_at») ⌝ }
     requires { ⌜ Fitting (idFrom (partsNow «edge_at» «edge_n» id byte to) (rest .node)) (now w) i (now ids) ⌝ }
     ensures { λ r.
@@ -232,7 +231,7 @@ fn put_all(
     n: usize,
     ids: &mut [u32],
 ) -> usize
-    requires { ⌜ Sound (partsNow «edge_at» «edge_n» id byte to) ⌝ }
+    requires { ⌜ soundness.sound (partsNow «edge_at» «edge_n» id byte to) ≡ true ⌝ }
     requires { ⌜ rest .node < length (now «edge_at») ⌝ }
     requires { ⌜ Fitting (idFrom (partsNow «edge_at» «edge_n» id byte to) (rest .node)) (now w) (first .end) (now ids) ⌝ }
     requires { ⌜ ((xs : List ℕ) → restFrom (idFrom (partsNow «edge_at» «edge_n» id byte to) (rest .node)) (now w)

@@ -6,7 +6,6 @@ use borrow.Author.Needs.{needs}
 use borrow.Author.Tests.{not-true, not-false}
 use Rattle.trie.specs.Trie.{Trie, partsOf}
 use Rattle.trie.specs.Sound.{sound}
-use Rattle.trie.proofs.SoundParts.{sound-of}
 use Rattle.trie.proofs.Lookups.{fault-size, refused-for, refused-unsound, looked-sound}
 use Rattle.trie.proofs.exact_unscored.Statement.{statement}
 use Rattle.trie.proofs.exact_unscored.Tie as tie
@@ -33,7 +32,7 @@ returns-2 : tie.Need-returns-2
 returns-2 c = refused-unsound (omega arith) (sym (c .before .sound .ensures) ∙ not-true _ (c .if2 .taken))
 
 look-up-requires : tie.Need-look-up-requires
-look-up-requires c κs = (let e = begun (c .before) in sound-of (parts e) (tested c), omega arith)
+look-up-requires c κs = (tested c, omega arith)
 
 returns-3 : tie.Need-returns-3
 returns-3 c = looked-sound (tested (c .before)) (c .look-up .ensures)

@@ -6,6 +6,7 @@ use native.Mathlib.Omega.{arith}
 use borrow.Author.Needs.{needs}
 use Rattle.trie.specs.Trie.{Trie, partsOf, walk}
 use Rattle.trie.specs.Walks.{nextOf}
+use Rattle.trie.proofs.SoundParts.{sound-of}
 use Rattle.trie.proofs.Walking.{id-of, from-none, from-some, walk-inside}
 use Rattle.trie.proofs.checked.exact.Statement.{statement}
 use Rattle.trie.proofs.checked.exact.Tie as tie
@@ -34,13 +35,14 @@ ended c = walked (c .before .before) ∙ ap nextOf (c .end .given .1)
 over-requires : tie.Need-over-requires
 over-requires c κs =
     let e = entry c in
-    record { ids = e .args .id .now; parts = e .pre; inside = omega (arith, c .root .ensures, e .pre .some-node) }
+    record { ids = e .args .id .now; parts = e .pre; inside = omega (arith, c .root .ensures, sound-of (parts e) (e .pre) .some-node) }
 
 id-at-requires : tie.Need-id-at-requires
 id-at-requires c κs =
     let last = c .before in
     let e = begun (last .before .before) in
-    omega (arith, walk-inside (e .pre) 0 (e .args .s .now) (e .pre .some-node) (ended last), e .pre .level-id)
+    let facts = sound-of (parts e) (e .pre) in
+    omega (arith, walk-inside (parts e) (e .pre) 0 (e .args .s .now) (facts .some-node) (ended last), facts .level-id)
 
 returns : tie.Need-returns
 returns c =

@@ -5,6 +5,8 @@ use Prim.Native.Nat.{suc, _+_, _-_, _≤_, _<_}
 use native.Mathlib.Omega.{arith}
 use lib.ListN.{length, getD, length-set, length-replicate}
 use Rattle.refusal.specs.Sizes.{noId}
+use Rattle.trie.specs.Trie.{partsOf}
+use Rattle.trie.proofs.SoundParts.{Sound, sound-of}
 use Rattle.trie.proofs.Leading.{Led, led-nowhere, led-more}
 use Rattle.trie.proofs.checked.fill_first.Statement.{statement}
 use Rattle.trie.proofs.checked.fill_first.Tie as tie
@@ -23,12 +25,16 @@ entry c = c .before .before
 abbrev head : tie.After-shared-slice-known4 Inv-loop μ-loop → tie.At-loop Inv-loop μ-loop
 head c = c .before .before .before
 
+-- the parts are sound
+facts : (c : tie.Start Inv-loop μ-loop) → let a = c .args in Sound (partsOf (a .edge-at .now) (a .edge-n .now) (c .pre .0 .ids) (a .byte .now) (a .to .now))
+facts c = sound-of _ (c .pre .0 .parts)
+
 -- the root's edges lie inside
 inside : (c : tie.Start Inv-loop μ-loop) → let a = c .args in getD (a .edge-at .now) 0 0 + getD (a .edge-n .now) 0 0 ≤ length (a .byte .now)
-inside c = c .pre .0 .parts .inside 0 (c .pre .0 .inside)
+inside c = facts c .inside 0 (c .pre .0 .inside)
 
 inside-to : (c : tie.Start Inv-loop μ-loop) → let a = c .args in getD (a .edge-at .now) 0 0 + getD (a .edge-n .now) 0 0 ≤ length (a .to .now)
-inside-to c = omega (arith, inside c, c .pre .0 .parts .level-to)
+inside-to c = omega (arith, inside c, facts c .level-to)
 
 places : (c : tie.Start Inv-loop μ-loop) → length (c .args .first .now) ≡ 256
 places c = ap length (c .pre .1) ∙ length-replicate 256 noId
@@ -50,7 +56,7 @@ cast-at : tie.Need-cast-at Inv-loop μ-loop
 cast-at c = omega (arith, c .shared-slice-known .given 0)
 
 shared-slice-read-left : tie.Need-shared-slice-read-left Inv-loop μ-loop
-shared-slice-read-left c = omega (arith, entry c .pre .0 .inside, entry c .pre .0 .parts .level-n)
+shared-slice-read-left c = omega (arith, entry c .pre .0 .inside, facts (entry c) .level-n)
 
 cast-left : tie.Need-cast-left Inv-loop μ-loop
 cast-left c = omega (arith, c .shared-slice-known2 .given 0)
@@ -104,12 +110,12 @@ loop-again c =
     let some-left = c .before .before .loop-test .taken in
     let next : suc k ≡ getD (a .edge-at .now) 0 0 + h .loop .left = omega (arith, some-left) in
     let more : n - (h .loop .left - 1) ≡ suc (n - h .loop .left) = omega (arith, some-left, h .loop .inv .0) in
-    let target = e .pre .0 .parts .target k (omega (arith, some-left, h .loop .inv .0, inside e)) in (
+    let target = facts e .target k (omega (arith, some-left, h .loop .inv .0, inside e)) in (
       omega (arith, h .loop .inv .0),
       length-set (h .loop .first) (getD bytes k 0) (getD tos k 0) ∙ h .loop .inv .1,
       rw more
           (led-more bytes tos (h .loop .first) k (n - h .loop .left) (h .loop .inv .1 ∙ places e) (byte-below (c .before))
-          (omega (arith, target, e .pre .0 .parts .few)) (rw next (h .loop .inv .2))),
+          (omega (arith, target, facts e .few)) (rw next (h .loop .inv .2))),
     )
 
 same-length : tie.Need-same-length Inv-loop μ-loop

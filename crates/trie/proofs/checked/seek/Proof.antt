@@ -6,6 +6,7 @@ use native.Mathlib.Omega.{arith}
 use borrow.Author.Needs.{needs}
 use Rattle.trie.specs.Trie.{seek}
 use Rattle.trie.proofs.Seeking.{quarters}
+use Rattle.trie.proofs.SoundParts.{rising-of}
 use Rattle.trie.proofs.checked.seek.Statement.{statement}
 use Rattle.trie.proofs.checked.seek.Tie as tie
 
@@ -87,7 +88,7 @@ loop-again c =
       omega arith,
       omega (arith, first (second c) .passed .ensures, second c .passed2 .ensures, c .passed3 .ensures),
       h .loop .inv .2
-          ∙ quarters (a .byte .now) (a .to .now) (a .b) (a .at) (a .n) (e .pre .rising) (h .loop .low) part (h .loop .left) (omega arith) (omega arith)
+          ∙ quarters (a .byte .now) (a .to .now) (a .b) (a .at) (a .n) (rising-of (a .byte .now) (a .at) (a .n) (e .pre .2)) (h .loop .low) part (h .loop .left) (omega arith) (omega arith)
           (omega arith) (omega arith) (omega arith)
           ∙ ap
           (λ (k : ℕ). seek (a .byte .now) (a .to .now) (a .b) (h .loop .low + k) (h .loop .left - 3 * part))
@@ -95,7 +96,7 @@ loop-again c =
     )
 
 seek-few-requires : tie.Need-seek-few-requires Inv-loop μ-loop
-seek-few-requires c κs = let e = begun (c .before) in (omega arith, omega (arith, e .pre .inside), omega (arith, e .pre .inside-to))
+seek-few-requires c κs = let e = begun (c .before) in (omega arith, omega (arith, e .pre .0), omega (arith, e .pre .1))
 
 returns : tie.Need-returns Inv-loop μ-loop
 returns c = c .seek-few .ensures ∙ sym (c .before .before .loop .inv .2)

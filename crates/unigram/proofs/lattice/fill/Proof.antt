@@ -9,6 +9,7 @@ use borrow.Author.Needs.{needs}
 use lib.ListN.{length}
 use Rattle.text.specs.Text.{boundary, next}
 use Rattle.text.proofs.Boundaries.{boundary-zero, next-above, next-inside, next-boundary}
+use Rattle.trie.proofs.SoundParts.{sound-of, scored-of}
 use Rattle.unigram.specs.Pieces.{rule}
 use Rattle.cutting.specs.Slots.{slotsOf, slotAt}
 use Rattle.unigram.specs.Work.{modelOf}
@@ -80,8 +81,8 @@ clear-requires c κs = asked c .pre .1
 fill-first-requires : tie.Need-fill-first-requires Inv-loop μ-loop
 fill-first-requires c κs =
     let e = begun (unmade c) in
-    let p = e .pre .0 .sound .parts in
-    (record { ids = e .args .id .now; parts = p; inside = p .some-node }, refl)
+    let p = scored-of _ _ _ (e .pre .0 .sound) .parts in
+    (record { ids = e .args .id .now; parts = p; inside = sound-of _ p .some-node }, refl)
 
 loop-holds : tie.Need-loop-holds Inv-loop μ-loop
 loop-holds c =

@@ -12,6 +12,7 @@ use Rattle.doubles.specs.Units.{units}
 use Rattle.text.specs.Text.{part}
 use Rattle.trie.specs.Trie.{Trie, partsOf, step, walk}
 use Rattle.trie.specs.Walks.{nextOf}
+use Rattle.trie.proofs.SoundParts.{sound-of}
 use Rattle.trie.proofs.Walking.{step-inside}
 use Rattle.unigram.specs.Pieces.{Model}
 use Rattle.cutting.specs.Slots.{Slots, slotsOf}
@@ -90,12 +91,12 @@ led-inside :
 led-inside c =
     let h = head (c .before .before) in
     let e = entry (h .before) in
-    step-inside (e .pre .0 .parts) (h .loop .node) (getD (text e) (h .loop .i) 0) (h .loop .inv .2) (led c)
+    step-inside (parts e) (e .pre .0 .parts) (h .loop .node) (getD (text e) (h .loop .i) 0) (h .loop .inv .2) (led c)
 
 loop-holds : tie.Need-loop-holds Inv-loop μ-loop
 loop-holds c =
     let e = entry c in
-    (omega arith, e .pre .0 .inside, e .pre .0 .parts .some-node, refl, refl, refl, walk-none-yet (model e 0 (e .args .till)) (text e) (e .args .at), λ u x. offered-none (model e u x) (text e) (e .args .at) (e .args .one) (units (e .args .till)) (columns e) (e .pre .0 .ahead))
+    (omega arith, e .pre .0 .inside, sound-of (parts e) (e .pre .0 .parts) .some-node, refl, refl, refl, walk-none-yet (model e 0 (e .args .till)) (text e) (e .args .at), λ u x. offered-none (model e u x) (text e) (e .args .at) (e .args .one) (units (e .args .till)) (columns e) (e .pre .0 .ahead))
 
 shared-slice-read-step-by : tie.Need-shared-slice-read-step-by Inv-loop μ-loop
 shared-slice-read-step-by c = omega arith
@@ -133,7 +134,7 @@ end-at-requires c κs =
     let e = entry (h .before) in
     let p = e .pre .0 in
     let l = led-inside n in (
-      omega (arith, p .parts .level-id),
+      omega (arith, sound-of (parts e) (p .parts) .level-id),
       omega (arith, p .level-score),
       omega (arith, p .inside, p .size),
       inside-kept (e .pre .1) (omega arith) (h .loop .inv .3) (h .loop .inv .4) (h .loop .inv .5),

@@ -10,6 +10,7 @@ use Rattle.doubles.specs.Double.{Double, sum}
 use Rattle.doubles.specs.Units.{units}
 use Rattle.text.specs.Text.{next}
 use Rattle.text.proofs.Boundaries.{next-above, next-inside}
+use Rattle.trie.proofs.SoundParts.{scored-of}
 use Rattle.cutting.specs.Cuttings.{Piece, Slot}
 use Rattle.cutting.specs.Records.{candidate}
 use Rattle.unigram.specs.Pieces.{Model}
@@ -128,10 +129,11 @@ offer-known-requires : tie.Need-offer-known-requires
 offer-known-requires c κs =
     let d = asked c in
     let e = entry d in
-    let w = e .pre .0 .ready in (
+    let w = e .pre .0 .ready in
+    let facts = scored-of _ _ _ (w .sound) in (
       record {
-        parts = w .sound .parts;
-        level-score = sym (length-map (e .args .score .now) units) ∙ w .sound .level-score;
+        parts = facts .parts;
+        level-score = sym (length-map (e .args .score .now) units) ∙ facts .level-score;
         inside = omega (arith, e .pre .0 .below);
         ahead = omega (arith, next-above (text e) (w .well) (e .args .at) (e .pre .0 .boundary) (e .pre .0 .below), one-is d);
         size = w .size;

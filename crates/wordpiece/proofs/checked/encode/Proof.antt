@@ -8,6 +8,7 @@ use native.Mathlib.Omega.{arith}
 use borrow.Author.Needs.{needs}
 use lib.ListN.{length}
 use Rattle.trie.specs.Trie.{Trie, partsOf, idFrom, idOf}
+use Rattle.trie.proofs.SoundParts.{sound-of}
 use Rattle.wordpiece.specs.Pieces.{longestTo, piecesOf, idsOf}
 use Rattle.wordpiece.proofs.Turns.{orUnknown}
 use Rattle.wordpiece.specs.Checked.{foundIn}
@@ -95,7 +96,7 @@ returns-2 c =
 longest-requires : tie.Need-longest-requires
 longest-requires c κs =
     let e = entry (c .before .before .before) in
-    (e .pre .parts, (omega (arith, c .root .ensures, e .pre .parts .some-node), omega arith))
+    (e .pre .parts, (omega (arith, c .root .ensures, sound-of (parts e) (e .pre .parts) .some-node), omega arith))
 
 put-requires-2 : tie.Need-put-requires-2
 put-requires-2 c κs = place (nonempty (c .before .before .before))

@@ -10,6 +10,7 @@ use lib.ListN.{length}
 use Rattle.text.specs.Text.{characters}
 use Rattle.trie.specs.Trie.{Trie, partsOf, walk, idFrom, idOf}
 use Rattle.trie.specs.Walks.{nextOf}
+use Rattle.trie.proofs.SoundParts.{sound-of}
 use Rattle.trie.proofs.Walking.{walk-inside}
 use Rattle.wordpiece.specs.Pieces.{piecesOf}
 use Rattle.wordpiece.specs.Checked.{countIn}
@@ -55,7 +56,7 @@ at : (r : tie.After-rest) → walk (parts (begun r)) 0 (prefix (begun r)) ≡ so
 at r = walked (r .before .before) ∙ ap nextOf (r .rest .given .1)
 
 inside : (r : tie.After-rest) → r .rest .given .0 .0 .node < length (parts (begun r) .edgeAt)
-inside r = let s = begun r .pre .0 .parts in walk-inside s 0 (prefix (begun r)) (s .some-node) (at r)
+inside r = let e = begun r in walk-inside (parts e) (e .pre .0 .parts) 0 (prefix e) (sound-of (parts e) (e .pre .0 .parts) .some-node) (at r)
 
 -- nowhere
 missing : (c : tie.After-enum-told) → (all (entry (c .before .before)) ≡ entry (c .before .before) .args .unknown ∷ []) × (1 ≤ characters (word (entry (c .before .before))))
@@ -93,7 +94,7 @@ pieces c =
 over-requires : tie.Need-over-requires
 over-requires c κs =
     let e = c .before .before .before .before .before .before .before .before .before in
-    record { ids = e .args .id .now; parts = e .pre .0 .parts; inside = omega (arith, c .root .ensures, e .pre .0 .parts .some-node) }
+    record { ids = e .args .id .now; parts = e .pre .0 .parts; inside = omega (arith, c .root .ensures, sound-of (parts e) (e .pre .0 .parts) .some-node) }
 
 put-requires : tie.Need-put-requires
 put-requires c κs =

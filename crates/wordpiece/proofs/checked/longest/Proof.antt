@@ -14,6 +14,7 @@ use Rattle.refusal.specs.Refusal.{first}
 use Rattle.text.specs.Text.{boundary, part}
 use Rattle.trie.specs.Trie.{Trie, partsOf, walk, step, idFrom}
 use Rattle.trie.specs.Walks.{nextOf}
+use Rattle.trie.proofs.SoundParts.{sound-of}
 use Rattle.trie.proofs.Walking.{walk-nil, step-inside}
 use Rattle.wordpiece.specs.Pieces.{Found, longestTo}
 use Rattle.wordpiece.specs.Checked.{foundSince}
@@ -72,10 +73,10 @@ turned c = sym (stepped (c .before .before)) ∙ ap nextOf (c .next .given .1)
 inside : (c : tie.After-next Inv-loop μ-loop) → c .next .given .0 .0 .node < length (parts (entry (head (c .before .before))) .edgeAt)
 inside c =
     let h = head (c .before .before) in
-    step-inside (entry h .pre .0) (h .loop .node) (getD (word (entry h)) (h .loop .j) 0) (h .loop .inv .inside) (turned c)
+    step-inside (parts (entry h)) (entry h .pre .0) (h .loop .node) (getD (word (entry h)) (h .loop .j) 0) (h .loop .inv .inside) (turned c)
 
 inside-ids : (c : tie.After-next Inv-loop μ-loop) → c .next .given .0 .0 .node < length (entry (head (c .before .before)) .args .id .now)
-inside-ids c = omega (arith, inside c, entry (head (c .before .before)) .pre .0 .level-id)
+inside-ids c = let e = entry (head (c .before .before)) in omega (arith, inside c, sound-of (parts e) (e .pre .0) .level-id)
 
 -- ---- a turn
 

@@ -83,7 +83,7 @@ loop-again c =
     let h = head (next .before .before) in
     let e = entry (h .before) in (
       omega arith,
-      step-inside (e .pre .parts) (h .loop .node) (getD (text e) (h .loop .i) 0) (h .loop .inv .1) (led next (e .pre .ids)),
+      step-inside _ (e .pre .parts) (h .loop .node) (getD (text e) (h .loop .i) 0) (h .loop .inv .1) (led next (e .pre .ids)),
       λ ids.
           h .loop .inv .2 ids ∙ turn-to (parts e ids) (text e) (h .loop .i) (h .loop .node) (omega arith) (led next ids),
     )

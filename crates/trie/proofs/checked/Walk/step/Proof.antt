@@ -2,6 +2,7 @@
 use native.Mathlib.Omega.{arith}
 use borrow.Author.Needs.{needs}
 use Rattle.trie.specs.Trie.{step}
+use Rattle.trie.proofs.SoundParts.{sound-of, of-rising}
 use Rattle.trie.proofs.checked.Walk.step.Statement.{statement}
 use Rattle.trie.proofs.checked.Walk.step.Tie as tie
 
@@ -12,6 +13,9 @@ entry c = c .before .before .before .before .before .before
 cast-at : tie.Need-cast-at
 cast-at c = omega (arith, c .shared-slice-known5 .given (entry c .args .self .node))
 
+shared-slice-read-n : tie.Need-shared-slice-read-n
+shared-slice-read-n c = let e = entry (c .before) in omega (arith, e .pre .inside, sound-of _ (e .pre .parts) .level-n)
+
 cast-n : tie.Need-cast-n
 cast-n c = omega (arith, c .shared-slice-known6 .given (entry (c .before) .args .self .node))
 
@@ -19,12 +23,9 @@ seek-requires : tie.Need-seek-requires
 seek-requires c κs =
     let e = entry (c .before) in
     let node = e .args .self .node in
-    let p = e .pre .parts in
-    record {
-      inside = p .inside node (e .pre .inside);
-      inside-to = omega (arith, p .inside node (e .pre .inside), p .level-to);
-      rising = λ i. p .rising node i (e .pre .inside);
-    }
+    let p = sound-of _ (e .pre .parts) in
+    let inside = p .inside node (e .pre .inside) in
+    (inside, omega (arith, inside, p .level-to), of-rising (e .args .byte .now) _ _ (λ i. p .rising node i (e .pre .inside)))
 
 returns : tie.Need-returns
 unfolding step
@@ -39,7 +40,7 @@ step-spec =
     (λ c. search needs)
     cast-at
     (λ c. search needs)
-    (λ c. search needs)
+    shared-slice-read-n
     cast-n
     seek-requires
     returns)
