@@ -9,6 +9,7 @@ use lib.Ieee.{Float}
 use Rattle.doubles.specs.Double.{Double}
 use Rattle.doubles.specs.Units.{units}
 use Rattle.doubles.proofs.Determinacy.{allHeld, column-once}
+use Rattle.refusal.specs.declared.CodeAnswer.the-variants.{Ids}
 use Rattle.refusal.proofs.Codings.{coded-once}
 use Rattle.trie.specs.Trie.{Trie}
 use Rattle.rows.specs.Columns.{Columns}
@@ -18,8 +19,8 @@ use Rattle.build.proofs.Promises.{promised-once}
 use Rattle.scored.specs.Build.{Report, told, Built}
 use Rattle.unigram.specs.Pieces.{Model}
 use Rattle.unigram.specs.Segment.{Scratch, Segmented}
-use Rattle.unigram.specs.Checked.{scratchOf, Cut}
-use Rattle.unigram.proofs.Determinacy.{scratch-once, cut-once}
+use Rattle.unigram.specs.Checked.{scratchOf}
+use Rattle.unigram.proofs.Determinacy.{scratch-once, segment-once}
 use Rattle.wordpiece.specs.Build as from-rows
 use Rattle.wordpiece.specs.Encode.{Encoded}
 use Rattle.wordpiece.proofs.Determinacy as words
@@ -60,12 +61,12 @@ module _ {a b c d a′ b′ c′ d′ : List ℕ} (x x′ : List Float) (held : 
       (as-once p q (ap codeNumber (one .0)), left .0, left .1, left .2, left .3, left .4)
 
   pub segmented-checked-once :
-      {m : Model} {s : List ℕ} {before : Scratch} {r r′ : ℕ} → Cut m s before (scratchOf a b x c d) r
-      → Cut m s before (scratchOf a′ b′ x′ c′ d′) r′ → (r ≡ r′) × (a ≡ a′) × (b ≡ b′) × (x ≡ x′) × (c ≡ c′) × (d ≡ d′)
-  segmented-checked-once p q =
-      let once = cut-once p q in
-      let left = scratch-once x x′ held held′ (once .1) in
-      (once .0, left .0, left .1, left .2, left .3, left .4)
+      {m : Model} {s : List ℕ} {before : Scratch} {r r′ : ℕ} → Segmented m s before (Ids r) (scratchOf a b x c d)
+      → Segmented m s before (Ids r′) (scratchOf a′ b′ x′ c′ d′) → (r ≡ r′) × (a ≡ a′) × (b ≡ b′) × (x ≡ x′) × (c ≡ c′) × (d ≡ d′)
+  segmented-checked-once {r = r} {r′ = r′} p q =
+      let once = segment-once x x′ held held′ p q in
+      let count : r ≡ r′ = cc (once .0) in
+      (count, once .1, once .2, once .3, once .4, once .5)
 
 -- `sk_from_rows`
 module _ (tab : List ℕ) (c : Columns) (before : Memory) where

@@ -17,6 +17,7 @@ ghost use mathlib.Core.Option.{none};
 ghost use Prim.Native.Nat.{_+_, _^_};
 ghost use lib.ListN.{length};
 ghost use Rattle.doubles.specs.Units.{units, scoresWas};
+ghost use Rattle.refusal.specs.declared.CodeAnswer.the-variants.{Ids};
 ghost use Rattle.refusal.specs.Refusal.{number, unlessFault};
 ghost use Rattle.text.specs.Text.{lengthOf, validUpTo, boundary, characters};
 ghost use Rattle.text.specs.Span.{spanFault, spanOf};
@@ -24,7 +25,7 @@ ghost use Rattle.trie.specs.Trie.{idOf, parts, partsNow};
 ghost use Rattle.trie.specs.Sound.{sound, soundScored};
 ghost use Rattle.trie.specs.Lookup.{lookupFault, found, lookupAnswer};
 ghost use Rattle.unigram.specs.Work.{model, modelNow};
-ghost use Rattle.unigram.specs.Checked.{Cut, scratchIs, scratchNow, scratchWas};
+ghost use Rattle.unigram.specs.Checked.{scratchIs, scratchNow, scratchWas};
 ghost use Rattle.unigram.specs.Segment.{lengthsOf, segmentFault, soundModel, Segmented};
 ghost use Rattle.wordpiece.specs.Pieces.{idsOf};
 ghost use Rattle.wordpiece.specs.Checked.{Encodable};
@@ -330,8 +331,8 @@ pub extern "C" fn sk_segment_checked(
     requires { ⌜ segmentFault (soundModel (modelNow «edge_at» «edge_n» id score byte to unknown «unknown_score»)) (now text)
         (lengthsOf (scratchNow start «slot_id» «slot_score» path ids)) ≡ none ⌝ }
     ensures { λ r.
-        ⌜ Cut (model «edge_at» «edge_n» id score byte to unknown «unknown_score») (was text)
-        (scratchWas start «slot_id» «slot_score» path ids) (scratchIs start «slot_id» «slot_score» path ids) r ⌝ }
+        ⌜ Segmented (model «edge_at» «edge_n» id score byte to unknown «unknown_score») (was text)
+        (scratchWas start «slot_id» «slot_score» path ids) (Ids r) (scratchIs start «slot_id» «slot_score» path ids) ⌝ }
 {
     unigram::checked::segment(
         edge_at,

@@ -15,8 +15,8 @@ use Rattle.refusal.specs.declared.CodeAnswer.the-variants.{Ids, Refused}
 use Rattle.refusal.specs.Places.{overlay}
 use Rattle.refusal.proofs.Codings.{refused-exactly, told-ids}
 use Rattle.text.proofs.Boundaries.{characters-le}
-use Rattle.unigram.specs.Segment.{Scratch, Lengths, lengthsOf}
-use Rattle.unigram.specs.Checked.{scratchOf, lengths}
+use Rattle.unigram.specs.Segment.{Scratch, Lengths, lengths, lengthsOf}
+use Rattle.unigram.specs.Checked.{scratchOf}
 use Rattle.coder.specs.Vocabulary.{Vocabulary, faultIn, idsIn, CodedIn}
 use Rattle.coder.proofs.Codes.{ids-few, places-enough, ids-stand}
 use Rattle.output.specs.Lines.{printedIds, printedRefusal}

@@ -14,8 +14,7 @@ use Rattle.rows.specs.declared.Kind.{Kind}
 use Rattle.rows.specs.declared.Kind.the-variants.{Unigram, WordPiece}
 use Rattle.build.specs.Memory.{Memory, memory, withScores}
 use Rattle.build.specs.Promise.{trieIn}
-use Rattle.unigram.specs.Segment.{Lengths}
-use Rattle.unigram.specs.Checked.{lengths}
+use Rattle.unigram.specs.Segment.{Lengths, lengths}
 use Rattle.coder.specs.Vocabulary.{Vocabulary, unigramOf, wordpieceOf, faultIn, idsIn}
 use Rattle.pack.specs.Pack.{headerOf, rowsOf, stringsOf, prefixOf}
 use Rattle.pack.specs.Build.{packFault, theKind, modelOf}

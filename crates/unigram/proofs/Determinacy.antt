@@ -17,18 +17,12 @@ use Rattle.refusal.proofs.Codings as codings
 use Rattle.refusal.proofs.Codings.{coded-once}
 use Rattle.unigram.specs.Pieces.{Model, idsOf}
 use Rattle.unigram.specs.Segment.{Scratch, lengthsOf, segmentFault, soundModel, Segmented}
-use Rattle.unigram.specs.Checked.{scratchOf, Cut}
+use Rattle.unigram.specs.Checked.{scratchOf}
 
 pub segmented-once :
     {m : Model} {s : List ℕ} {b : Scratch} {a₁ a₂ : CodeAnswer} {b₁ b₂ : Scratch} → Segmented m s b a₁ b₁ → Segmented m s b a₂ b₂
     → (a₁ ≡ a₂) × (b₁ ≡ b₂)
 segmented-once p q = coded-once (p .coded) (q .coded)
-
--- the same of `checked::segment`
-pub cut-once :
-    {m : Model} {s : List ℕ} {b : Scratch} {n₁ n₂ : ℕ} {b₁ b₂ : Scratch} → Cut m s b b₁ n₁ → Cut m s b b₂ n₂
-    → (n₁ ≡ n₂) × (b₁ ≡ b₂)
-cut-once p q = (p .count ∙ sym (q .count), p .left ∙ sym (q .left))
 
 -- Lent columns that are one as a scratch are one, the scores as the f64 that stand there. Every `&[f64]` is held.
 module _ {a b c d a′ b′ c′ d′ : List ℕ} (x x′ : List Float) (held : T (allHeld x)) (held′ : T (allHeld x′)) where

@@ -26,10 +26,10 @@ use Rattle.trie.specs.Lookup.{lookupFault}
 use Rattle.trie.proofs.Lookups.{lookup-fine, sound-lookup}
 use Rattle.build.specs.Memory.{anyBelow}
 use Rattle.cutting.specs.Slots.{Inside}
-use Rattle.unigram.specs.Pieces.{Model, piecesOf, idsOf}
-use Rattle.unigram.specs.Segment.{Scratch, Lengths, lengthsOf, shortScratch, segmentFault, soundModel, written, writes, Segmented}
+use Rattle.unigram.specs.Pieces.{Model, piecesOf, partId, idsOf}
+use Rattle.unigram.specs.Segment.{Scratch, Lengths, lengths, lengthsOf, shortScratch, segmentFault, soundModel, written, writes, Segmented}
 use Rattle.unigram.specs.Work.{Ready}
-use Rattle.unigram.specs.Checked.{scratchOf, lengths, Cut}
+use Rattle.unigram.specs.Checked.{scratchOf}
 use Rattle.unigram.proofs.Merging.{merged-few}
 use Rattle.unigram.proofs.Segmenting.{pieces-few, law-held}
 
@@ -86,20 +86,15 @@ module _ (m : Model) (s : List ℕ) (b : Scratch) where
   refused-for e = record { coded = coded-refused e; law = λ h. absurd (zero-one cc) }
 
   -- an empty text has no ids, and nothing is written
-  pub empty-for : Ready m s → length s ≡ 0 → Cut m s b b 0
+  pub empty-for : segmentFault (soundModel m) s (lengthsOf b) ≡ none → Ready m s → length s ≡ 0 → Segmented m s b (Ids 0) b
   unfolding writes idsOf
-  empty-for ready e =
+  empty-for free ready e =
       let stays : writes m s b ≡ b = ap (λ (t : Bool). cond t b (written m s b)) (eq-eqb (length s) 0 e) in
-      let merging = merged-few (λ i j. idOf (m .trie) (part s i j)) (m .unknown .id) 0 (piecesOf m s) in
+      let merging = merged-few (partId (m .trie) s) (m .unknown .id) 0 (piecesOf m s) in
       record {
-        left = sym stays;
-        count = omega (arith, merging, pieces-few ready, characters-le s);
-        law = law-held ready (b .slots) (λ j l inside. absurd (omega arith));
+        coded = coded-ids free (omega (arith, merging, pieces-few ready, characters-le s)) (sym stays);
+        law = λ h. law-held ready (b .slots) (λ j l inside. absurd (omega arith));
       }
-
-  -- what the cutting leaves is what is promised
-  pub cut-for : {after : Scratch} {n : ℕ} → segmentFault (soundModel m) s (lengthsOf b) ≡ none → Cut m s b after n → Segmented m s b (Ids n) after
-  cut-for free c = record { coded = coded-ids free (c .count) (c .left); law = λ h. c .law }
 
 -- ---- too little scratch
 

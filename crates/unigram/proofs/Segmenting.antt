@@ -14,7 +14,9 @@ use lib.Seq.{take-at, take-length}
 use lib.Dec.{T}
 use Rattle.doubles.specs.Double.{Double}
 use Rattle.doubles.specs.Units.{units}
+use Rattle.refusal.specs.declared.CodeAnswer.the-variants.{Ids}
 use Rattle.refusal.specs.Places.{overlay}
+use Rattle.refusal.proofs.Codings.{coded-ids}
 use Rattle.text.specs.Text.{boundary, characters}
 use Rattle.text.proofs.Boundaries.{boundary-end}
 use Rattle.trie.proofs.SoundParts.{scored-of}
@@ -28,11 +30,11 @@ use Rattle.cutting.proofs.Best.{is-true}
 use Rattle.cutting.proofs.Following.{few}
 use Rattle.cutting.proofs.Leaving.{slot-holds, slots-are, falls, path-is, path-left, ends-rise, steps-are, law-of}
 use Rattle.unigram.specs.Runs.{merged}
-use Rattle.unigram.specs.Pieces.{Model, rule, piecesOf, idsOf}
+use Rattle.unigram.specs.Pieces.{Model, rule, piecesOf, idsOf, partId}
 use Rattle.unigram.specs.Work.{Ready, Recorded, BestCutting}
-use Rattle.unigram.specs.Merge.{partId, Mergeable}
-use Rattle.unigram.specs.Segment.{Scratch, written, writes}
-use Rattle.unigram.specs.Checked.{scratchOf, Cut}
+use Rattle.unigram.specs.Merge.{Mergeable}
+use Rattle.unigram.specs.Segment.{Scratch, lengthsOf, segmentFault, soundModel, written, writes, Segmented}
+use Rattle.unigram.specs.Checked.{scratchOf}
 use Rattle.unigram.proofs.Given.{given, boundary-stands, piece-rises}
 
 module _ {m : Model} {s : List ℕ} (ready : Ready m s) where
@@ -114,14 +116,14 @@ scratch c path ids = record { slots = c; path = path; ids = ids }
 
 pub cut-of :
     {m : Model} {s : List ℕ} (ready : Ready m s) {starts ids : List ℕ} {scores : List Float} {path places : List ℕ} (starts′ ids′ : List ℕ)
-    (scores′ : List Float) {path′ places′ : List ℕ} {n count : ℕ} → (length s ≡ 0 → ⊥) → Inside starts ids scores (length s)
+    (scores′ : List Float) {path′ places′ : List ℕ} {n count : ℕ} → segmentFault (soundModel m) s (lengthsOf (scratchOf starts ids scores path places)) ≡ none → (length s ≡ 0 → ⊥) → Inside starts ids scores (length s)
     → length starts′ ≡ length starts → length ids′ ≡ length ids → length scores′ ≡ length scores
     → BestCutting m s (slotsOf starts ids scores) path (slotsOf starts′ ids′ scores′) path′ n
     → let all = merged (partId (m .trie) s) (m .unknown .id) none 0 (stepsAt ids′ (take n path′)) in
     (count ≡ length all) × (places′ ≡ overlay all places)
-    → Cut m s (scratchOf starts ids scores path places) (scratchOf starts′ ids′ scores′ path′ places′) count
+    → Segmented m s (scratchOf starts ids scores path places) (Ids count) (scratchOf starts′ ids′ scores′ path′ places′)
 unfolding written writes scratch
-cut-of {m} {s} ready {starts} {ids} {scores} {path} {places} starts′ ids′ scores′ {path′} {places′} {n} {count} some-text inside level-start level-id level-score w g =
+cut-of {m} {s} ready {starts} {ids} {scores} {path} {places} starts′ ids′ scores′ {path′} {places′} {n} {count} free some-text inside level-start level-id level-score w g =
     let before = scratchOf starts ids scores path places in
     let after = slotsOf starts′ ids′ scores′ in
     let P = rule m s in
@@ -131,11 +133,11 @@ cut-of {m} {s} ready {starts} {ids} {scores} {path} {places} starts′ ids′ sc
     (record { start = inside .start; id = inside .id; score = omega (arith, inside .score, length-map scores units) })
     in
     record {
-      left =
-          ap (λ (c : Slots). scratch c path′ places′) now
+      coded =
+          coded-ids free (g .0 ∙ ap length (ids-are ready w))
+          (ap (λ (c : Slots). scratch c path′ places′) now
           ∙ ap (λ (u : List ℕ). scratch (slotsLeft P (length s) (slotsOf starts ids scores)) u places′) (w .path)
           ∙ ap (λ (u : List ℕ). scratch (slotsLeft P (length s) (slotsOf starts ids scores)) (pathLeft P (length s) path) u) (g .1 ∙ ap (λ (u : List ℕ). overlay u places) (ids-are ready w))
-          ∙ sym (ap (λ (t : Bool). cond t before (written m s before)) (ne-eqb (length s) 0 some-text));
-      count = g .0 ∙ ap length (ids-are ready w);
-      law = law-held ready after (λ j p l. slot-holds (laws ready) (w .slots) j l);
+          ∙ sym (ap (λ (t : Bool). cond t before (written m s before)) (ne-eqb (length s) 0 some-text)));
+      law = λ h. law-held ready after (λ j p l. slot-holds (laws ready) (w .slots) j l);
     }

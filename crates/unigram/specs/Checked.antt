@@ -1,14 +1,11 @@
--- What the cutting of a text rests on, once all has been tested, and what it leaves. Definitions only; assumes nothing.
-use mathlib.Core.Path.{_≡_}
+-- The lent columns of a cutting, as contracts name them. Definitions only; assumes nothing.
 use Prim.Native.Nat.{ℕ}
 use mathlib.Core.List.{List}
 use lib.Ieee.{Float}
-use lib.ListN.{length}
 use denote.Ref.{RefT, now}
 use Rattle.refusal.specs.Lent.{Lent, was, is}
-use Rattle.unigram.specs.Pieces.{Model, idsOf}
 use Rattle.cutting.specs.Slots.{slotsOf}
-use Rattle.unigram.specs.Segment.{Scratch, Lengths, writes, RecordLaw}
+use Rattle.unigram.specs.Segment.{Scratch}
 
 -- the lent columns
 abbrev pub scratchOf : List ℕ → List ℕ → List Float → List ℕ → List ℕ → Scratch
@@ -24,13 +21,3 @@ scratchIs start id score path ids = scratchOf (is start) (is id) (is score) (is 
 -- and in a `requires`
 abbrev pub scratchNow : RefT (List ℕ) → RefT (List ℕ) → RefT (List Float) → RefT (List ℕ) → RefT (List ℕ) → Scratch
 scratchNow start id score path ids = scratchOf (now start) (now id) (now score) (now path) (now ids)
-
--- so many places as a function is told that it is lent
-abbrev pub lengths : ℕ → ℕ → ℕ → ℕ → ℕ → Lengths
-lengths starts slotIds scores path ids = record { starts = starts; slotIds = slotIds; scores = scores; path = path; ids = ids }
-
--- "After success", "Empty text writes nothing", and the record law of demand 3
-pub record Cut (m : Model) (s : List ℕ) (before after : Scratch) (r : ℕ) : Type 0 where
-  pub left : after ≡ writes m s before
-  pub count : r ≡ length (idsOf m s)
-  pub law : RecordLaw m s after

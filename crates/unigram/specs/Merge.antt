@@ -6,15 +6,10 @@ use mathlib.Core.List.{List, [], _∷_, _++_}
 use mathlib.Core.Option.{Option}
 use lib.Dec.{ltb, eqb}
 use lib.ListN.{length, take, drop}
-use Rattle.text.specs.Text.{part}
-use Rattle.trie.specs.Trie.{Trie, idOf}
+use Rattle.trie.specs.Trie.{Trie}
 use Rattle.trie.specs.Sound.{sound}
 use Rattle.cutting.specs.Tracing.{Ends}
 use Rattle.unigram.specs.Runs.{runId}
-
--- the id of the bytes from i up to j, where they have one
-abbrev pub partId : Trie → List ℕ → ℕ → ℕ → Option ℕ
-partId t s i j = idOf t (part s i j)
 
 -- the ids of the run from `run` up to `at`: none where the two are one
 unfoldable pub runIds : (ℕ → ℕ → Option ℕ) → ℕ → ℕ → ℕ → List ℕ

@@ -43,6 +43,10 @@ rule m s = record { pieces = λ i j. Option·toList (pieceOf m s i j); counts = 
 abbrev pub piecesOf : Model → List ℕ → List Step
 piecesOf m s = bestPieces (rule m s) (length s)
 
+-- the id of the bytes from i up to j, where they have one
+abbrev pub partId : Trie → List ℕ → ℕ → ℕ → Option ℕ
+partId t s i j = idOf t (part s i j)
+
 -- the ids of s
 unfoldable pub idsOf : Model → List ℕ → List ℕ
-idsOf m s = merged (λ i j. idOf (m .trie) (part s i j)) (m .unknown .id) none 0 (piecesOf m s)
+idsOf m s = merged (partId (m .trie) s) (m .unknown .id) none 0 (piecesOf m s)

@@ -30,21 +30,22 @@ pub record Scratch : Type 0 where
 
 -- how many places are lent: slots in each column, path places and id places
 pub record Lengths : Type 0 where
-  pub starts : ℕ
-  pub slotIds : ℕ
-  pub scores : ℕ
+  pub slots : List ℕ
   pub path : ℕ
   pub ids : ℕ
+
+-- so many places as a function is told that it is lent
+abbrev pub lengths : ℕ → ℕ → ℕ → ℕ → ℕ → Lengths
+lengths starts slotIds scores path ids = record { slots = starts ∷ slotIds ∷ scores ∷ []; path = path; ids = ids }
 
 abbrev pub lengthsOf : Scratch → Lengths
 lengthsOf b =
     let c = b .slots in
-    record { starts = length (c .start); slotIds = length (c .id); scores = length (c .score); path = length (b .path); ids = length (b .ids) }
+    lengths (length (c .start)) (length (c .id)) (length (c .score)) (length (b .path)) (length (b .ids))
 
 -- 9: "non-empty Unigram text, fewer slots in any lent column than bytes + 1 or fewer path places than characters"
 unfoldable pub shortScratch : List ℕ → Lengths → Bool
-shortScratch s n =
-    ltb 0 (length s) && (anyBelow (length s + 1) (n .starts ∷ n .slotIds ∷ n .scores ∷ []) || ltb (n .path) (characters s))
+shortScratch s n = ltb 0 (length s) && (anyBelow (length s + 1) (n .slots) || ltb (n .path) (characters s))
 
 -- "For a text or word: 1, 8, 4, 9, 10", by whether the parts are sound and how many places are lent. 10 is "fewer id places than
 -- characters".

@@ -9,11 +9,12 @@ ghost use mathlib.Core.List.{[], _∷_};
 ghost use mathlib.Core.Option.{none};
 ghost use Prim.Native.Nat.{_+_};
 ghost use lib.Dec.{ltb};
+ghost use Rattle.refusal.specs.declared.CodeAnswer.the-variants.{Ids};
 ghost use Rattle.refusal.specs.Refusal.{faultIn};
 ghost use Rattle.build.specs.Memory.{anyBelow};
-ghost use Rattle.unigram.specs.Segment.{lengthsOf, segmentFault, soundModel, Segmented};
+ghost use Rattle.unigram.specs.Segment.{lengths, lengthsOf, segmentFault, soundModel, Segmented};
 ghost use Rattle.unigram.specs.Work.{model, modelNow};
-ghost use Rattle.unigram.specs.Checked.{Cut, lengths, scratchIs, scratchNow, scratchWas};
+ghost use Rattle.unigram.specs.Checked.{scratchIs, scratchNow, scratchWas};
 ghost use Rattle.refusal.specs.Lent.{was};
 
 // Nothing is refused here: the parts are sound, the text is well-formed and within the limit, and there are enough places. The
@@ -38,8 +39,8 @@ pub fn segment(
     requires { ⌜ segmentFault (soundModel (modelNow «edge_at» «edge_n» id score byte to unknown «unknown_score»)) (now text)
         (lengthsOf (scratchNow start «slot_id» «slot_score» path ids)) ≡ none ⌝ }
     ensures { λ r.
-        ⌜ Cut (model «edge_at» «edge_n» id score byte to unknown «unknown_score») (was text)
-        (scratchWas start «slot_id» «slot_score» path ids) (scratchIs start «slot_id» «slot_score» path ids) r ⌝ }
+        ⌜ Segmented (model «edge_at» «edge_n» id score byte to unknown «unknown_score») (was text)
+        (scratchWas start «slot_id» «slot_score» path ids) (Ids r) (scratchIs start «slot_id» «slot_score» path ids) ⌝ }
 {
     if text.len() == 0 {
         return 0;

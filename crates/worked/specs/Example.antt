@@ -15,8 +15,7 @@ use Rattle.build.specs.Names as names
 use Rattle.build.specs.Rules.{scoresOf, unigramTrie, unigramScores, wordpieceTrie}
 use Rattle.cutting.specs.Records.{best, shown}
 use Rattle.unigram.specs.Pieces as unigram
-use Rattle.unigram.specs.Segment.{segmentFault, soundModel}
-use Rattle.unigram.specs.Checked.{lengths}
+use Rattle.unigram.specs.Segment.{lengths, segmentFault, soundModel}
 use Rattle.wordpiece.specs.Pieces as wordpiece
 use Rattle.wordpiece.specs.Encode.{encodeFault}
 

@@ -15,8 +15,7 @@ use Rattle.text.proofs.Spans.{fine-text}
 use Rattle.trie.specs.Lookup.{lookupFault}
 use Rattle.trie.proofs.Lookups as lookups
 use Rattle.build.specs.Memory.{anyBelow}
-use Rattle.unigram.specs.Segment.{Lengths, shortScratch}
-use Rattle.unigram.specs.Checked.{lengths}
+use Rattle.unigram.specs.Segment.{Lengths, lengths, shortScratch}
 use Rattle.unigram.proofs.Refusing.{fault-early, fault-scratch, fault-ids, fault-none}
 use Rattle.unigram.proofs.checked.judge.Statement.{statement}
 use Rattle.unigram.proofs.checked.judge.Tie as tie

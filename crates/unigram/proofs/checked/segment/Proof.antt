@@ -58,7 +58,7 @@ fits c =
 returns : tie.Need-returns
 returns c =
     let e = start (c .before) in
-    empty-for (model e) (e .args .text .now) (columns e) (prepared e .ready) (c .if1 .taken)
+    empty-for (model e) (e .args .text .now) (columns e) (e .pre) (prepared e .ready) (c .if1 .taken)
 
 best-cutting-requires : tie.Need-best-cutting-requires
 best-cutting-requires c κs =
@@ -85,7 +85,7 @@ returns-2 c =
     let w = chosen (m .before) in
     let l = w .best-cutting .last .1 .1 .1 .1 .1 .1 .1 .1 .1 in
     let kept = w .best-cutting .kept .1 .1 .1 .1 .1 .1 .1 .1 .1 in
-    cut-of (prepared (entry w) .ready) (l .0) (l .1 .0) (l .1 .1 .0) (some-text w .if1 .left) (inside (some-text w)) (kept .0) (kept .1 .0) (kept .1 .1 .0) (w .best-cutting .ensures) (g .merge .ensures)
+    cut-of (prepared (entry w) .ready) (l .0) (l .1 .0) (l .1 .1 .0) (entry w .pre) (some-text w .if1 .left) (inside (some-text w)) (kept .0) (kept .1 .0) (kept .1 .1 .0) (w .best-cutting .ensures) (g .merge .ensures)
 
 pub segment-spec : {M : Type 1} → statement M
 segment-spec =

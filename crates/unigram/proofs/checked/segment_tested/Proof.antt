@@ -10,9 +10,9 @@ use borrow.Author.Needs.{needs}
 use Rattle.refusal.specs.Refusal.{faultIn}
 use Rattle.unigram.specs.Pieces.{Model}
 use Rattle.unigram.specs.Work.{modelOf}
-use Rattle.unigram.specs.Segment.{Scratch, Lengths, lengthsOf, segmentFault, soundModel}
-use Rattle.unigram.specs.Checked.{scratchOf, lengths}
-use Rattle.unigram.proofs.Refusing.{lengths-are, refused-for, cut-for}
+use Rattle.unigram.specs.Segment.{Scratch, Lengths, lengths, lengthsOf, segmentFault, soundModel}
+use Rattle.unigram.specs.Checked.{scratchOf}
+use Rattle.unigram.proofs.Refusing.{lengths-are, refused-for}
 use Rattle.unigram.proofs.checked.segment_tested.Statement.{statement}
 use Rattle.unigram.proofs.checked.segment_tested.Tie as tie
 
@@ -67,11 +67,7 @@ returns c =
     refused-for (model e) (text e) (columns e) (by-columns e ∙ found j ∙ ap faultIn (bound .judged .given .1))
 
 returns-2 : tie.Need-returns-2
-returns-2 c =
-    let g = cutting c in
-    let t = asked (g .before) in
-    let e = entry (t .before .before) in
-    cut-for (model e) (text e) (columns e) (by-columns e ∙ free t) (g .segment .ensures)
+returns-2 c = cutting c .segment .ensures
 
 pub segment-tested-spec : {M : Type 1} → statement M
 segment-tested-spec =

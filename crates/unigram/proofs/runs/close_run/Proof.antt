@@ -5,7 +5,8 @@ use Prim.Native.Nat.{ℕ, _<_}
 use native.Mathlib.Omega.{arith}
 use lib.ListN.{length}
 use Rattle.trie.specs.Trie.{Trie, partsOf}
-use Rattle.unigram.specs.Merge.{partId, runIds}
+use Rattle.unigram.specs.Pieces.{partId}
+use Rattle.unigram.specs.Merge.{runIds}
 use Rattle.unigram.proofs.Placing.{placed-none, placed-as, placed-more, ids-there, ids-none}
 use borrow.Author.Needs.{needs}
 use Rattle.unigram.proofs.runs.close_run.Statement.{statement}

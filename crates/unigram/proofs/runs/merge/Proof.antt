@@ -8,7 +8,7 @@ use borrow.Author.Needs.{needs}
 use lib.ListN.{length, getD}
 use Rattle.refusal.specs.Sizes.{noId}
 use Rattle.trie.specs.Trie.{partsOf}
-use Rattle.unigram.specs.Merge.{partId}
+use Rattle.unigram.specs.Pieces.{partId}
 use Rattle.refusal.proofs.Lists.{place-inside}
 use Rattle.unigram.proofs.Placing.{Going, going-first, next-end, going-more, going-end, ids-there}
 use Rattle.unigram.proofs.runs.merge.Statement.{statement}

@@ -2,7 +2,7 @@
 use mathlib.Core.Path.{sym, ap, _∙_}
 use Rattle.trie.specs.Trie.{Trie, partsOf}
 use Rattle.trie.specs.Walks.{idIn}
-use Rattle.unigram.specs.Merge.{partId}
+use Rattle.unigram.specs.Pieces.{partId}
 use Rattle.unigram.proofs.Laws.{run-known, run-unknown}
 use borrow.Author.Needs.{needs}
 use Rattle.unigram.proofs.runs.run_id.Statement.{statement}

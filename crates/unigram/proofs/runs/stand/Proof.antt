@@ -4,7 +4,7 @@ use Prim.Native.Nat.{_<_}
 use native.Mathlib.Omega.{arith}
 use lib.ListN.{length}
 use Rattle.trie.specs.Trie.{Trie, partsOf}
-use Rattle.unigram.specs.Merge.{partId}
+use Rattle.unigram.specs.Pieces.{partId}
 use Rattle.unigram.proofs.Placing.{placed-none, placed-as, placed-more, closes, closes-not, ids-there}
 use borrow.Author.Needs.{needs}
 use Rattle.unigram.proofs.runs.stand.Statement.{statement}
