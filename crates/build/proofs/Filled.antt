@@ -21,28 +21,19 @@ use Rattle.build.specs.Grown.{Grown}
 use Rattle.build.specs.Parts.{edgesOf, starts, lay, trieOf}
 use Rattle.build.specs.Rules.{tokensOf}
 use Rattle.build.specs.Given.{rulesFrom, noRule}
-use Rattle.build.specs.Held.{ZeroFrom, Identified, Roomy, RowDone, Ready}
-use Rattle.build.specs.Laying.{bytesOf, targetsOf, allEdges, countsOf, AllReady, AllDone, OutReady, OutDone}
+use Rattle.build.specs.Held.{ZeroFrom, Identified, RowDone}
+use Rattle.build.specs.Laying.{bytesOf, targetsOf, allEdges, countsOf, AllReady, AllDone, OutDone}
 use Rattle.build.specs.Memory.{Memory, memory, cleared, holding}
 use Rattle.build.specs.Promise.{trieIn}
-use Rattle.build.specs.Checked.{RoomFor, nodesOf, BuiltOf, Finishable, Finished}
+use Rattle.build.specs.Checked.{roomOf, nodesOf, BuiltOf, Finishable, Finished}
 use Rattle.build.proofs.Grown.{List², grown-distinct, grown-some}
 use Rattle.build.proofs.Laid.{getD-map-of, length-starts}
 use Rattle.build.proofs.Counted.{count-names}
+use Rattle.build.proofs.Zeros.{getD-zeros, zero-from, length-zeroed}
+use Rattle.build.proofs.Rooms.{room-for}
 use Rattle.build.proofs.Ruled.{trie-given}
 
 -- ---- zeros
-
-getD-zeros : (n k : ℕ) → _≡_ {A = ℕ} (getD (replicate n 0) k 0) 0
-getD-zeros zero k = refl
-getD-zeros (suc n) zero = refl
-getD-zeros (suc n) (suc k) = getD-zeros n k
-
-pub zero-from : (xs ys : List ℕ) (n : ℕ) → ys ≡ zeroed 0 xs → ZeroFrom n ys
-zero-from xs ys n e k h = ap (λ (l : List ℕ). getD l k 0) e ∙ getD-zeros (length xs) k
-
-pub length-zeroed : (xs ys : List ℕ) → ys ≡ zeroed 0 xs → length ys ≡ length xs
-length-zeroed xs ys e = ap length e ∙ length-replicate (length xs) 0
 
 drop-zeros : (l : List ℕ) (j : ℕ) → ZeroFrom j l → drop j l ≡ replicate (length l - j) 0
 drop-zeros [] zero h = let e : 0 - 0 ≡ 0 = omega arith in ap (λ (k : ℕ). replicate k 0) (sym e)
@@ -70,23 +61,6 @@ filled-same vs l m e = ap (λ (k : ℕ). vs ++ replicate (k - length vs) 0) e
 pub zeroed-same : (l m : List ℕ) → length l ≡ length m → zeroed 0 l ≡ zeroed 0 m
 zeroed-same l m e = ap (λ (k : ℕ). replicate k 0) e
 
--- ---- rows may be entered in columns made zero
-
-pub ready-zeroed :
-    (room : ℕ) (edgeN id work edgeN′ id′ : List ℕ) → Roomy room edgeN id work → edgeN′ ≡ zeroed 0 edgeN → id′ ≡ zeroed 0 id
-    → Ready edgeN′ id′ work room
-ready-zeroed room edgeN id work edgeN′ id′ r p q =
-    record {
-      roomy = record {
-        nodes = omega (arith, length-zeroed edgeN edgeN′ p, r .nodes);
-        ids = omega (arith, length-zeroed id id′ q, r .ids);
-        links = r .links;
-        small = r .small;
-      };
-      nodes = zero-from edgeN edgeN′ 0 p;
-      ids = zero-from id id′ 0 q;
-    }
-
 -- ---- the nodes may be laid out in columns made zero
 
 pub ready-again :
@@ -105,7 +79,7 @@ ready-again {edgeAt = edgeAt} {byte = byte} {to = to} {edgeAt′ = edgeAt′} {b
     }
 
 module _ {ns : List²} (g : Grown ns) {edgeAt edgeN byte to work : List ℕ} {n : ℕ} (count : n ≡ length ns)
-    (r : OutReady edgeAt edgeN byte to work n) where
+    (r : AllReady edgeAt edgeN byte to work n) (past : ZeroFrom n edgeN) where
   length-counts : length (countsOf ns ns) ≡ length ns
   length-counts = length-map (map (edgesOf ns) ns) length ∙ length-map ns (edgesOf ns)
 
@@ -127,21 +101,21 @@ module _ {ns : List²} (g : Grown ns) {edgeAt edgeN byte to work : List ℕ} {n 
         begun =
             d .begun
             ∙ filled-sets (starts 0 (countsOf ns ns)) edgeAt₁ edgeAt (length-zeroed edgeAt edgeAt₁ p)
-            (omega (arith, length-begun, length-zeroed edgeAt edgeAt₁ p, r .ready .room-at))
+            (omega (arith, length-begun, length-zeroed edgeAt edgeAt₁ p, r .room-at))
             (zero-from edgeAt edgeAt₁ (length (starts 0 (countsOf ns ns))) p);
         counted =
             d .counted
-            ∙ filled-sets (countsOf ns ns) edgeN edgeN refl (omega (arith, length-counts, r .ready .bytes .room, r .ready .count))
-            (λ k h. r .past k (omega (arith, length-counts)));
+            ∙ filled-sets (countsOf ns ns) edgeN edgeN refl (omega (arith, length-counts, r .bytes .room, r .count))
+            (λ k h. past k (omega (arith, length-counts)));
         written =
             d .written
             ∙ filled-sets (bytesOf (allEdges ns ns)) byte₁ byte (length-zeroed byte byte₁ q)
-            (omega (arith, few-bytes, grown-some g, length-zeroed byte byte₁ q, r .ready .room-byte))
+            (omega (arith, few-bytes, grown-some g, length-zeroed byte byte₁ q, r .room-byte))
             (zero-from byte byte₁ (length (bytesOf (allEdges ns ns))) q);
         led =
             d .led
             ∙ filled-sets (targetsOf (allEdges ns ns)) to₁ to (length-zeroed to to₁ s)
-            (omega (arith, few-targets, grown-some g, length-zeroed to to₁ s, r .ready .room-to))
+            (omega (arith, few-targets, grown-some g, length-zeroed to to₁ s, r .room-to))
             (zero-from to to₁ (length (targetsOf (allEdges ns ns))) s);
         unlinked = w;
       }
@@ -184,23 +158,24 @@ module _ (ns : List²) (g : Grown ns) (rule : List ℕ → Option ℕ) (id befor
 -- ---- the build
 
 module _ {edgeAt edgeN id byte to work : List ℕ} {room n : ℕ} where
-  pub finish-ready : Finishable room (memory edgeAt edgeN id byte to work) n → n ≤ room → OutReady edgeAt edgeN byte to work n
+  pub finish-ready :
+      Finishable room (memory edgeAt edgeN id byte to work) n → n ≤ room → AllReady edgeAt edgeN byte to work n × ZeroFrom n edgeN
   finish-ready f fits =
       let held = f .done .held fits in
       let count = f .done .count fits in
-      record {
-        ready = record {
+      let every = room-for (memory edgeAt edgeN id byte to work) room (f .roomy) in (
+        record {
           names = f .nodes;
           links = held .links;
           bytes = held .bytes;
           count = count;
-          small = omega (arith, f .roomy .small);
-          room-at = omega (arith, f .roomy .starts);
-          room-byte = omega (arith, f .roomy .bytes);
-          room-to = omega (arith, f .roomy .targets);
-        };
-        past = λ k p. held .past k (omega (arith, count));
-      }
+          small = omega (arith, every .roomy .small);
+          room-at = omega (arith, every .starts);
+          room-byte = omega (arith, every .bytes);
+          room-to = omega (arith, every .targets);
+        },
+        λ k p. held .past k (omega (arith, count)),
+      )
 
   module _ {kind : Kind} {tab : List ℕ} {rows : List Row}
       (done : RowDone (names (tokensOf tab rows)) (rulesFrom kind tab noRule 0 rows) room edgeN id work n) where
@@ -240,28 +215,15 @@ module _ {edgeAt edgeN id byte to work : List ℕ} {room n : ℕ} where
 
 -- ---- the build once the rows are entered: it leaves the same in other columns of the same lengths
 
-module _ {edgeAt edgeN₀ id₀ byte to work₀ edgeN id work : List ℕ} {room n : ℕ} where
-  pub entered-ready :
-      {ns : List²} {rule : List ℕ → Option ℕ} → RowDone ns rule room edgeN id work n
-      → RoomFor room (memory edgeAt edgeN₀ id₀ byte to work₀)
-      → length edgeN ≡ length edgeN₀ → length id ≡ length id₀ → length work ≡ length work₀
-      → Finishable room (memory edgeAt edgeN id byte to work) n
-  entered-ready {ns = ns} {rule = rule} d r kn ki kw =
-      record {
-        nodes = ns;
-        rule = rule;
-        done = d;
-        roomy = record {
-          starts = r .starts;
-          counts = omega (arith, r .counts);
-          ids = omega (arith, r .ids);
-          bytes = r .bytes;
-          targets = r .targets;
-          links = omega (arith, r .links);
-          small = r .small;
-        };
-      }
+pub entered-ready :
+    {edgeAt byte to edgeN id work : List ℕ} {room n : ℕ} {ns : List²} {rule : List ℕ → Option ℕ} (edgeN₀ id₀ work₀ : List ℕ)
+    → RowDone ns rule room edgeN id work n → room ≤ roomOf (memory edgeAt edgeN₀ id₀ byte to work₀)
+    → length edgeN ≡ length edgeN₀ → length id ≡ length id₀ → length work ≡ length work₀
+    → Finishable room (memory edgeAt edgeN id byte to work) n
+entered-ready {ns = ns} {rule = rule} edgeN₀ id₀ work₀ d r kn ki kw =
+    record { nodes = ns; rule = rule; done = d; roomy = rw (kn, ki, kw) r }
 
+module _ {edgeAt edgeN₀ id₀ byte to work₀ edgeN id work : List ℕ} {room n : ℕ} where
   pub entered-built :
       {kind : Kind} {tab : List ℕ} {rows : List Row} {after : Memory} {answer : Built}
       → RowDone (names (tokensOf tab rows)) (rulesFrom kind tab noRule 0 rows) room edgeN id work n

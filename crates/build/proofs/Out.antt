@@ -8,8 +8,9 @@ use lib.ListN.{length, getD, set, drop, length-map, length-set}
 use lib.Seq.{sets, drop-cons, drop-length, getD-set-other}
 use Rattle.build.specs.Parts.{Edge, edgesOf, starts}
 use Rattle.build.specs.Links.{Linked, Spelled}
+use Rattle.build.specs.Held.{Chained}
 use Rattle.build.specs.Laying.{bytesOf, targetsOf, allEdges, countsOf, NodeDone, AllDone}
-use Rattle.build.proofs.Grown.{List²}
+use Rattle.build.proofs.Grown.{List², grown-distinct}
 use Rattle.build.proofs.Laid.{starts-cons, flatten-cons}
 use Rattle.build.proofs.Counted.{total, total-one, count-edges}
 
@@ -24,6 +25,10 @@ map-join f [] m = refl
 map-join f (x ∷ l) m = ap {B = List ℕ} (λ r. f x ∷ r) (map-join f l m)
 
 -- ---- the first k nodes are laid out
+
+abbrev pub chained-at : {ns : List²} {edgeN work : List ℕ} {k : ℕ} → Linked ns work → Spelled ns k edgeN → k < length ns → Chained edgeN work k k
+chained-at {ns = ns} {k = k} l sp h =
+    record { names = ns; string = getD ns k []; links = l; bytes = sp; here = grown-distinct (l .grown) k h }
 
 pub record LaidTo (ns : List²) (edgeAt₀ edgeN₀ byte₀ to₀ edgeAt edgeN byte to : List ℕ) (k at : ℕ) : Type 0 where
   pub begun : sets edgeAt₀ 0 (starts 0 (countsOf ns ns)) ≡ sets edgeAt k (starts at (countsOf ns (drop k ns)))
@@ -65,7 +70,7 @@ module _ {ns : List²} {edgeAt₀ edgeN₀ byte₀ to₀ edgeAt edgeN byte to : 
     laid-few l = omega (arith, sum-next, count-edges (l .grown))
 
     pub laid-turn :
-        {edgeAt′ edgeN′ byte′ to′ : List ℕ} {end : ℕ} → NodeDone ns edgeAt edgeN byte to edgeAt′ edgeN′ byte′ to′ k at end
+        {edgeAt′ edgeN′ byte′ to′ : List ℕ} {end : ℕ} → NodeDone ns s edgeAt edgeN byte to edgeAt′ edgeN′ byte′ to′ k at end
         → LaidTo ns edgeAt₀ edgeN₀ byte₀ to₀ edgeAt′ edgeN′ byte′ to′ (k + 1) end
     laid-turn {end = end} d =
         let m = length (edgesOf ns s) in

@@ -19,8 +19,9 @@ use Rattle.rows.proofs.RowFaults.{fine-short, fine-token-length}
 use Rattle.refusal.proofs.Tests.{neither-says}
 use Rattle.rows.proofs.FirstBad.{none-bad-says}
 use Rattle.build.specs.Rules.{tokensOf}
+use Rattle.build.specs.Held.{Roomy}
 use Rattle.build.specs.Memory.{Memory, withScores, anyBelow, noRoom, noScoredRoom}
-use Rattle.build.specs.Checked.{roomOf, RoomFor, nodesOf}
+use Rattle.build.specs.Checked.{roomOf, nodesOf}
 use Rattle.build.proofs.Named.{names-are, names-few, bytes-few, entered-grows}
 use Rattle.build.proofs.Lookups.{noRow, token-at, length-tokens}
 
@@ -34,6 +35,13 @@ min-right a b n h = omega arith
 
 min-both : (a b n : ℕ) → n ≤ a → n ≤ b → n ≤ min a b
 min-both a b n p q = omega arith
+
+-- every lent column has room for `room` nodes
+pub record RoomFor (room : ℕ) (m : Memory) : Type 0 where
+  pub starts : room ≤ length (m .parts .edgeAt)
+  pub bytes : room ≤ length (m .parts .byte) + 1
+  pub targets : room ≤ length (m .parts .to) + 1
+  pub roomy : Roomy room (m .parts .edgeN) (m .parts .id) (m .work)
 
 -- what fits fits every column
 pub room-for : (m : Memory) (n : ℕ) → n ≤ roomOf m → RoomFor n m
@@ -52,12 +60,14 @@ room-for m n h =
     let half = min-right tt′ wo n links in
     record {
       starts = min-left at en n starts;
-      counts = min-right at en n starts;
-      ids = min-left im by n ids;
       bytes = min-right im by n ids;
       targets = min-left tt′ wo n links;
-      links = omega arith;
-      small = min-right (min tt′ wo) 4_294_967_295 n edges;
+      roomy = record {
+        nodes = min-right at en n starts;
+        ids = min-left im by n ids;
+        links = omega arith;
+        small = min-right (min tt′ wo) 4_294_967_295 n edges;
+      };
     }
 
 -- and what fits every column fits
@@ -66,14 +76,10 @@ for-room m n r =
     min-both (min (min (length (m .parts .edgeAt)) (length (m .parts .edgeN))) (min (length (m .parts .id)) (length (m .parts .byte) + 1)))
     (min (min (length (m .parts .to) + 1) (length (m .work) / 2)) 4_294_967_295) n
     (min-both (min (length (m .parts .edgeAt)) (length (m .parts .edgeN))) (min (length (m .parts .id)) (length (m .parts .byte) + 1)) n
-    (min-both (length (m .parts .edgeAt)) (length (m .parts .edgeN)) n (r .starts) (r .counts))
-    (min-both (length (m .parts .id)) (length (m .parts .byte) + 1) n (r .ids) (r .bytes)))
+    (min-both (length (m .parts .edgeAt)) (length (m .parts .edgeN)) n (r .starts) (r .roomy .nodes))
+    (min-both (length (m .parts .id)) (length (m .parts .byte) + 1) n (r .roomy .ids) (r .bytes)))
     (min-both (min (length (m .parts .to) + 1) (length (m .work) / 2)) 4_294_967_295 n
-    (min-both (length (m .parts .to) + 1) (length (m .work) / 2) n (r .targets) (omega (arith, r .links))) (r .small))
-
--- the room that `room` answers is room
-pub room-is : (m : Memory) → RoomFor (roomOf m) m
-room-is m = room-for m (roomOf m) (omega arith)
+    (min-both (length (m .parts .to) + 1) (length (m .work) / 2) n (r .targets) (omega (arith, r .roomy .links))) (r .roomy .small))
 
 -- ---- 7
 
@@ -82,11 +88,11 @@ unfolding noRoom anyBelow
 fits-all m n r =
     rw (
       le-ltb (length (m .parts .edgeAt)) n (r .starts),
-      le-ltb (length (m .parts .edgeN)) n (r .counts),
-      le-ltb (length (m .parts .id)) n (r .ids),
+      le-ltb (length (m .parts .edgeN)) n (r .roomy .nodes),
+      le-ltb (length (m .parts .id)) n (r .roomy .ids),
       le-ltb (length (m .parts .byte)) (n - 1) (omega (arith, r .bytes)),
       le-ltb (length (m .parts .to)) (n - 1) (omega (arith, r .targets)),
-      le-ltb (length (m .work)) (2 * n) (r .links),
+      le-ltb (length (m .work)) (2 * n) (r .roomy .links),
     )
 
 -- no column below n
@@ -108,12 +114,9 @@ all-fit m n some-node small e =
     let u = none-below (n - 1) (length (m .parts .byte)) (length (m .parts .to)) (q .1) in
     record {
       starts = ltb-false (length (m .parts .edgeAt)) n (s .0);
-      counts = t .0;
-      ids = t .1;
       bytes = omega (arith, u .0);
       targets = omega (arith, u .1);
-      links = ltb-false (length (m .work)) (2 * n) (p .1);
-      small = small;
+      roomy = record { nodes = t .0; ids = t .1; links = ltb-false (length (m .work)) (2 * n) (p .1); small = small };
     }
 
 -- "with N nodes needed: fewer than N node, N-1 edge or 2N work places in any lent column"
@@ -153,8 +156,8 @@ lesser-right a b e = omega (arith, e)
 
 -- of a memory with this score column, whose room is that lesser one
 module _ (m : Memory) (xs : List Double) {room : ℕ} (e : room ≡ min (roomOf m) (length xs)) where
-  pub scored-room-for : RoomFor room m
-  scored-room-for = room-for m room (lesser-left (roomOf m) (length xs) e)
+  pub scored-room : room ≤ roomOf m
+  scored-room = lesser-left (roomOf m) (length xs) e
 
   pub scores-roomy : room ≤ length xs
   scores-roomy = lesser-right (roomOf m) (length xs) e

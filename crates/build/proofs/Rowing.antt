@@ -10,6 +10,7 @@ use native.Mathlib.Numerals.{add-one}
 use lib.ListN.{length, getD, set, length-set}
 use lib.Seq.{getD-set-same, getD-set-other}
 use Rattle.refusal.proofs.Lists.{zero-one, none-some}
+use Rattle.refusal.specs.Places.{zeroed}
 use Rattle.refusal.specs.Sizes.{noId, maxRows}
 use Rattle.rows.specs.declared.Kind.{Kind}
 use Rattle.rows.specs.declared.Kind.the-variants.{Unigram, WordPiece}
@@ -21,7 +22,8 @@ use Rattle.build.specs.Names.{place, prefixes, enter, names}
 use Rattle.build.specs.Grown.{root}
 use Rattle.build.specs.Rules.{idOfWorth, tokensOf}
 use Rattle.build.specs.Given.{given, valueOf, kept, marked, rulesFrom, noRule}
-use Rattle.build.specs.Held.{ZeroFrom, Held, Roomy, Enterable, RowDone, RowEntered, Ready, Planted}
+use Rattle.build.specs.Held.{ZeroFrom, Held, Roomy, Enterable, RowDone, RowEntered}
+use Rattle.build.proofs.Zeros.{zero-from, length-zeroed}
 use Rattle.build.proofs.Strings.{snoc-nil, equal?}
 use Rattle.build.proofs.Places.{place-empty, place-other, place-below, place-at}
 use Rattle.build.proofs.Grown.{List², grown-root}
@@ -68,44 +70,27 @@ held-root edgeN id work he hi hw ze zi =
       };
     }
 
-pub planted :
-    (edgeN id work : List ℕ) (room : ℕ) → Ready edgeN id work room → 1 ≤ room → (id′ work′ : List ℕ) → id′ ≡ set id 0 noId → work′ ≡ set work 0 0
-    → Planted edgeN id′ work′ room
-planted edgeN id work room r h id′ work′ p q =
+-- in columns made zero, where there is room for it
+pub root-done :
+    {room : ℕ} {edgeN id work edgeN₁ id₁ id′ work′ : List ℕ} → Roomy room edgeN id work → 1 ≤ room → edgeN₁ ≡ zeroed 0 edgeN → id₁ ≡ zeroed 0 id
+    → id′ ≡ set id₁ 0 noId → work′ ≡ set work 0 0 → RowDone ([] ∷ []) noRule room edgeN₁ id′ work′ 1
+root-done {edgeN = edgeN} {id = id} {work = work} {edgeN₁ = edgeN₁} {id₁ = id₁} r h ze zi p q =
     record {
-      roomy = record {
-        nodes = r .roomy .nodes;
-        ids = omega (arith, ap length p, length-set id 0 noId, r .roomy .ids);
-        links = omega (arith, ap length q, length-set work 0 0, r .roomy .links);
-        small = r .roomy .small;
-      };
-      some-room = h;
-      held =
+      full = λ z. absurd (omega arith);
+      count = λ z. refl;
+      held = λ z.
           rw (p, q)
-          (held-root edgeN id work (omega (arith, r .roomy .nodes)) (omega (arith, r .roomy .ids)) (omega (arith, r .roomy .links)) (r .nodes)
-          (r .ids));
+          (held-root edgeN₁ id₁ work (omega (arith, length-zeroed edgeN edgeN₁ ze, r .nodes))
+          (omega (arith, length-zeroed id id₁ zi, r .ids)) (omega (arith, r .links)) (zero-from edgeN edgeN₁ 0 ze) (zero-from id id₁ 0 zi));
     }
 
--- where there is no room for the root
-pub roomless :
-    (tokens : List²) (rule : List ℕ → Option ℕ) (room : ℕ) (edgeN id work : List ℕ) (n : ℕ) → n ≡ 1 → room < n
-    → RowDone (names tokens) rule room edgeN id work n
-roomless tokens rule room edgeN id work n e h =
-    record {
-      full = λ z. omega (arith, ap length (names-are tokens), entered-grows tokens ([] ∷ []));
-      count = λ z. absurd (omega arith);
-      held = λ z. absurd (omega arith);
-    }
-
--- ---- after i of the rows, the rest being still to be entered: the nodes fit, and the columns keep their lengths
+-- ---- after i of the rows, the rest being still to be entered: the columns keep their lengths
 
 pub record Rowed (kind : Kind) (tab : List ℕ) (rows : List Row) (room : ℕ) (edgeN₀ id₀ work₀ : List ℕ)
     (rest : List Row) (i : ℕ) (edgeN id work : List ℕ) (n : ℕ) : Type 0 where
   pub nodes : List²
   pub rule : List ℕ → Option ℕ
-  pub held : Held nodes rule edgeN id work
-  pub count : n ≡ length nodes
-  pub fits : n ≤ room
+  pub done : RowDone nodes rule room edgeN id work n
   pub lengths : Kept edgeN₀ id₀ work₀ edgeN id work
   pub low : kind ≡ Unigram → (s : List ℕ) (j : ℕ) → rule s ≡ some j → j < i
   pub names-on : names (tokensOf tab rows) ≡ entered nodes (tokensOf tab rest)
@@ -137,15 +122,13 @@ AllDone kind tab rows = RowDone (names (tokensOf tab rows)) (rulesFrom kind tab 
 
 module _ {kind : Kind} {tab : List ℕ} {rows : List Row} {room : ℕ} where
   pub rowed-start :
-      {edgeN id work : List ℕ} {rest : List Row} → Planted edgeN id work room → rows ≡ rest
-      → Rowed kind tab rows room edgeN id work rest 0 edgeN id work 1
-  rowed-start p e =
+      {edgeN id work : List ℕ} {rest : List Row} {n : ℕ} → RowDone ([] ∷ []) noRule room edgeN id work n → rows ≡ rest
+      → Rowed kind tab rows room edgeN id work rest 0 edgeN id work n
+  rowed-start d e =
       record {
         nodes = [] ∷ [];
         rule = noRule;
-        held = p .held;
-        count = refl;
-        fits = p .some-room;
+        done = d;
         lengths = record { nodes = refl; ids = refl; links = refl };
         low = λ e s j p. none-some p;
         names-on = names-are (tokensOf tab rows) ∙ ap (λ (x : List Row). entered ([] ∷ []) (tokensOf tab x)) e;
@@ -154,17 +137,26 @@ module _ {kind : Kind} {tab : List ℕ} {rows : List Row} {room : ℕ} where
 
   module _ {edgeN₀ id₀ work₀ : List ℕ} {rest : List Row} {i : ℕ} {edgeN id work : List ℕ} {n : ℕ}
       (r : Rowed kind tab rows room edgeN₀ id₀ work₀ rest i edgeN id work n) where
-    pub rowed-enterable : Roomy room edgeN₀ id₀ work₀ → Enterable edgeN id work room 0 n
-    rowed-enterable roomy =
+    pub rowed-enterable : n ≤ room → Roomy room edgeN₀ id₀ work₀ → Enterable edgeN id work room 0 n
+    rowed-enterable fits roomy =
         record {
           names = r .nodes;
           rule = r .rule;
           string = [];
-          held = r .held;
-          count = r .count;
-          here = grown-root (r .held .links .grown);
+          held = r .done .held fits;
+          count = r .done .count fits;
+          here = grown-root (r .done .held fits .links .grown);
           roomy = roomy-kept (r .lengths) roomy;
-          fits = r .fits;
+          fits = fits;
+        }
+
+    -- there was no room
+    pub rowed-full : room < n → AllDone kind tab rows room edgeN id work n
+    rowed-full z =
+        record {
+          full = λ y. omega (arith, r .done .full z, ap length (r .names-on), entered-grows (tokensOf tab rest) (r .nodes));
+          count = λ y. absurd (omega arith);
+          held = λ y. absurd (omega arith);
         }
 
     -- the next row is `row`, and what is left after it is `more`
@@ -195,40 +187,23 @@ module _ {kind : Kind} {tab : List ℕ} {rows : List Row} {room : ℕ} where
           (sym (ap (λ (k : Kind). marked k token value (r .rule) s) e
           ∙ ap (λ (v : ℕ). marked Unigram token v (r .rule) s) (value-first kind i (idOfWorth (row .worth)) e)) ∙ p)
 
-      module _ {edgeN′ id′ work′ : List ℕ} {n′ : ℕ} (few : i < maxRows)
+      module _ {edgeN′ id′ work′ : List ℕ} {n′ : ℕ} (few : i < maxRows) (fits : n ≤ room)
           (one : RowEntered edgeN id work edgeN′ id′ work′ kind room n token value n′) where
         done : RowDone (enter (r .nodes) (prefixes [] token)) rule-then room edgeN′ id′ work′ n′
-        done = one .entered (r .nodes) (r .rule) (r .held) (r .count) (λ e s j p. omega (arith, r .low e s j p))
+        done = one .entered (r .nodes) (r .rule) (r .done .held fits) (r .done .count fits) (λ e s j p. omega (arith, r .low e s j p))
 
         pub rowed-turn :
-            length edgeN′ ≡ length edgeN → length id′ ≡ length id → length work′ ≡ length work → n′ ≤ room
+            length edgeN′ ≡ length edgeN → length id′ ≡ length id → length work′ ≡ length work
             → Rowed kind tab rows room edgeN₀ id₀ work₀ more (i + 1) edgeN′ id′ work′ n′
-        rowed-turn ke ki kw fits =
+        rowed-turn ke ki kw =
             record {
               nodes = enter (r .nodes) (prefixes [] token);
               rule = rule-then;
-              held = done .held fits;
-              count = done .count fits;
-              fits = fits;
+              done = done;
               lengths = kept-on (r .lengths) ke ki kw;
               low = low-next;
               names-on = names-next;
               rules-on = rules-next;
-            }
-
-        -- it found no room
-        pub rowed-full : room < n′ → AllDone kind tab rows room edgeN′ id′ work′ n′
-        rowed-full z =
-            record {
-              full = λ y.
-                  omega (
-                    arith,
-                    done .full z,
-                    ap length names-next,
-                    entered-grows (tokensOf tab more) (enter (r .nodes) (prefixes [] token)),
-                  );
-              count = λ y. absurd (omega arith);
-              held = λ y. absurd (omega arith);
             }
 
     pub rowed-end : rest ≡ [] → AllDone kind tab rows room edgeN id work n
@@ -237,11 +212,7 @@ module _ {kind : Kind} {tab : List ℕ} {rows : List Row} {room : ℕ} where
         let all : names (tokensOf tab rows) ≡ r .nodes =
         r .names-on ∙ ap (λ (x : List Row). entered (r .nodes) (map (tokenOf tab) x)) e ∙ entered-none (r .nodes) in
         let rules : rulesFrom kind tab noRule 0 rows ≡ r .rule = r .rules-on ∙ ap (rulesFrom kind tab (r .rule) i) e in
-        record {
-          full = λ z. absurd (omega (arith, r .fits));
-          count = λ z. r .count ∙ ap length (sym all);
-          held = λ z. rw (all, rules) (r .held);
-        }
+        rw (all, rules) (r .done)
 
 -- ---- the rest of the rows that are given as columns
 

@@ -1,13 +1,29 @@
 -- Places made zero from the front: those below i are zero, the others as they were. One law for columns of every width. Assumes nothing.
-use mathlib.Core.Path.{_≡_, ap, _∙_}
+use mathlib.Core.Path.{_≡_, refl, ap, _∙_}
 use mathlib.Core.List.{List, [], _++_, append-nil}
-use Prim.Native.Nat.{ℕ, _+_, _≤_, _<_}
+use Prim.Native.Nat.{ℕ, zero, suc, _+_, _≤_, _<_}
 use native.Mathlib.Omega.{arith}
 use borrow.Author.Fill.{fill-more}
-use lib.ListN.{length, drop, set, replicate, length-set}
+use lib.ListN.{length, getD, drop, set, replicate, length-set, length-replicate}
 use lib.Seq.{drop-length}
 use Rattle.refusal.specs.Places.{zeroed}
+use Rattle.build.specs.Held.{ZeroFrom}
 use Rattle.build.specs.Memory.{memory, cleared}
+
+-- ---- what stands in zeros
+
+pub getD-zeros : (n k : ℕ) → _≡_ {A = ℕ} (getD (replicate n 0) k 0) 0
+getD-zeros zero k = refl
+getD-zeros (suc n) zero = refl
+getD-zeros (suc n) (suc k) = getD-zeros n k
+
+pub zero-from : (xs ys : List ℕ) (n : ℕ) → ys ≡ zeroed 0 xs → ZeroFrom n ys
+zero-from xs ys n e k h = ap (λ (l : List ℕ). getD l k 0) e ∙ getD-zeros (length xs) k
+
+pub length-zeroed : (xs ys : List ℕ) → ys ≡ zeroed 0 xs → length ys ≡ length xs
+length-zeroed xs ys e = ap length e ∙ length-replicate (length xs) 0
+
+-- ---- zeros written one by one
 
 pub record Zeroing (s₀ s : List ℕ) (i : ℕ) : Type 0 where
   pub inside : i ≤ length s₀

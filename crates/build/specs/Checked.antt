@@ -3,7 +3,7 @@ use mathlib.Core.Path.{_≡_}
 use mathlib.Core.Bool.{cond}
 use mathlib.Core.List.{List, []}
 use mathlib.Core.Option.{Option}
-use Prim.Native.Nat.{ℕ, _+_, _*_, _/_, _≤_, min}
+use Prim.Native.Nat.{ℕ, _+_, _/_, _≤_, min}
 use lib.Dec.{ltb}
 use lib.ListN.{length}
 use Rattle.rows.specs.declared.Kind.{Kind}
@@ -23,16 +23,6 @@ abbrev pub roomOf : Memory → ℕ
 roomOf m =
     min (min (min (length (m .parts .edgeAt)) (length (m .parts .edgeN))) (min (length (m .parts .id)) (length (m .parts .byte) + 1)))
     (min (min (length (m .parts .to) + 1) (length (m .work) / 2)) 4_294_967_295)
-
--- every lent column has room for `room` nodes
-pub record RoomFor (room : ℕ) (m : Memory) : Type 0 where
-  pub starts : room ≤ length (m .parts .edgeAt)
-  pub counts : room ≤ length (m .parts .edgeN)
-  pub ids : room ≤ length (m .parts .id)
-  pub bytes : room ≤ length (m .parts .byte) + 1
-  pub targets : room ≤ length (m .parts .to) + 1
-  pub links : 2 * room ≤ length (m .work)
-  pub small : room ≤ 4_294_967_295
 
 -- N: "1 plus the number of distinct non-empty prefixes of tokens"
 abbrev pub nodesOf : List ℕ → List Row → ℕ
@@ -54,7 +44,7 @@ pub record Finishable (room : ℕ) (m : Memory) (n : ℕ) : Type 0 where
   pub nodes : List (List ℕ)
   pub rule : List ℕ → Option ℕ
   pub done : RowDone nodes rule room (m .parts .edgeN) (m .parts .id) (m .work) n
-  pub roomy : RoomFor room m
+  pub roomy : room ≤ roomOf m
 
 -- whichever rows these were, their build is done
 pub record Finished (room : ℕ) (before after : Memory) (n : ℕ) (answer : Built) : Type 0 where

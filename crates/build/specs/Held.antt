@@ -11,7 +11,7 @@ use Rattle.refusal.specs.Sizes.{noId, maxRows}
 use Rattle.rows.specs.declared.Kind.{Kind}
 use Rattle.rows.specs.declared.Kind.the-variants.{Unigram, WordPiece}
 use Rattle.build.specs.Names.{place, prefixes, add, enter}
-use Rattle.build.specs.Given.{marked, noRule}
+use Rattle.build.specs.Given.{marked}
 use Rattle.build.specs.Links.{Slot, Linked, Spelled, linkedWork}
 
 -- every place from n on is zero
@@ -41,33 +41,17 @@ pub record Roomy (room : ℕ) (edgeN id work : List ℕ) : Type 0 where
 
 -- ---- seeking a child
 
--- `node` is a node of some names that are linked
-pub record Chained (edgeN work : List ℕ) (node : ℕ) : Type 0 where
+-- `node` is a node of some names that are linked, and each of them from `from` on has its own byte in its place
+pub record Chained (edgeN work : List ℕ) (from node : ℕ) : Type 0 where
   pub names : List (List ℕ)
   pub string : List ℕ
   pub links : Linked names work
-  pub bytes : Spelled names 0 edgeN
+  pub bytes : Spelled names from edgeN
   pub here : place names string ≡ some node
 
 -- `at` has the link to the first child of `node` by b or a later byte
 pub record Sought (edgeN work : List ℕ) (node b at : ℕ) : Type 0 where
-  pub slot : (ns : List (List ℕ)) (s : List ℕ) → Linked ns work → Spelled ns 0 edgeN → place ns s ≡ some node → Slot ns s b at
-
--- ---- one node more
-
--- node n may be put behind the link at `at`
-pub record Linkable (edgeN id work : List ℕ) (at n : ℕ) : Type 0 where
-  pub before : at < 2 * n
-  pub nodes : n < length edgeN
-  pub ids : n < length id
-  pub links : 2 * n + 1 < length work
-  pub small : n < 4_294_967_295
-
--- Node n, by the byte b, stands behind the link at `at`: it leads on to what that led to, and has no id yet and no child.
-pub record NodeLinked (edgeN id work edgeN′ id′ work′ : List ℕ) (at n b : ℕ) : Type 0 where
-  pub byte : edgeN′ ≡ set edgeN n b
-  pub bare : id′ ≡ set id n noId
-  pub links : work′ ≡ linkedWork work at n
+  pub slot : (c : Chained edgeN work 0 node) → Slot (c .names) (c .string) b at
 
 -- ---- one byte more
 
@@ -138,20 +122,3 @@ pub record RowReady (kind : Kind) (tab off len ids edgeN id work : List ℕ) (ro
   pub judged : Judged kind tab off len ids
   pub there : i < length off
   pub enterable : Enterable edgeN id work room 0 n
-
--- rows may be entered: nothing stands in the columns yet
-pub record Ready (edgeN id work : List ℕ) (room : ℕ) : Type 0 where
-  pub roomy : Roomy room edgeN id work
-  pub nodes : ZeroFrom 0 edgeN
-  pub ids : ZeroFrom 0 id
-
--- the root stands alone
-pub record Planted (edgeN id work : List ℕ) (room : ℕ) : Type 0 where
-  pub roomy : Roomy room edgeN id work
-  pub some-room : 1 ≤ room
-  pub held : Held ([] ∷ []) noRule edgeN id work
-
--- the root is entered: one node, which is more than `room` where there is no room
-pub record Started (edgeN id work : List ℕ) (room n : ℕ) : Type 0 where
-  pub one : n ≡ 1
-  pub planted : 1 ≤ room → Planted edgeN id work room

@@ -1,16 +1,14 @@
 -- What laying out the nodes asks and promises. As in entering, a step speaks of the names that the columns hold. Definitions only; assumes
 -- nothing.
 use mathlib.Core.Path.{_≡_}
-use mathlib.Core.List.{List, [], map, flatten}
-use mathlib.Core.Option.{some}
+use mathlib.Core.List.{List, map, flatten}
 use Prim.Native.Nat.{ℕ, _+_, _≤_, _<_}
-use lib.ListN.{length, getD, set}
+use lib.ListN.{length, set}
 use lib.Seq.{sets}
 use Rattle.refusal.specs.Places.{zeroed, filled}
-use Rattle.build.specs.Names.{place}
 use Rattle.build.specs.Parts.{Edge, edgesOf, starts}
 use Rattle.build.specs.Links.{Linked, Spelled}
-use Rattle.build.specs.Held.{ZeroFrom}
+use Rattle.build.specs.Held.{Chained}
 
 abbrev pub bytesOf : List Edge → List ℕ
 bytesOf es = map (λ e. e .byte) es
@@ -28,16 +26,12 @@ countsOf ns ms = map length (map (edgesOf ns) ms)
 
 -- ---- the edges of one node
 
--- `node` is a node of some names that are linked, its children's bytes stand, and there is room for its edges from `at` on
+-- `node` is chained, its children's bytes stand, and there is room for its edges from `at` on
 pub record ChildrenReady (edgeN work byte to : List ℕ) (node at : ℕ) : Type 0 where
-  pub names : List (List ℕ)
-  pub string : List ℕ
-  pub links : Linked names work
-  pub bytes : Spelled names node edgeN
-  pub here : place names string ≡ some node
-  pub small : length names ≤ 4_294_967_295
-  pub room-byte : at + length (edgesOf names string) ≤ length byte
-  pub room-to : at + length (edgesOf names string) ≤ length to
+  pub chained : Chained edgeN work node node
+  pub small : length (chained .names) ≤ 4_294_967_295
+  pub room-byte : at + length (edgesOf (chained .names) (chained .string)) ≤ length byte
+  pub room-to : at + length (edgesOf (chained .names) (chained .string)) ≤ length to
 
 pub record ChildrenDone (ns : List (List ℕ)) (s : List ℕ) (byte to byte′ to′ : List ℕ) (at end : ℕ) : Type 0 where
   pub written : byte′ ≡ sets byte at (bytesOf (edgesOf ns s))
@@ -45,33 +39,23 @@ pub record ChildrenDone (ns : List (List ℕ)) (s : List ℕ) (byte to byte′ t
   pub count : end ≡ at + length (edgesOf ns s)
 
 pub record ChildrenLaid (edgeN work byte to byte′ to′ : List ℕ) (node at end : ℕ) : Type 0 where
-  pub laid :
-      (ns : List (List ℕ)) (s : List ℕ) → Linked ns work → Spelled ns node edgeN → place ns s ≡ some node
-      → ChildrenDone ns s byte to byte′ to′ at end
+  pub laid : (c : Chained edgeN work node node) → ChildrenDone (c .names) (c .string) byte to byte′ to′ at end
 
 -- ---- one node
 
--- `node` is the next to be laid out, and there is room for its edges from `at` on
+-- `node` is the next to be laid out, and there is room for it and for its edges from `at` on
 pub record NodeReady (edgeAt edgeN byte to work : List ℕ) (node at : ℕ) : Type 0 where
-  pub names : List (List ℕ)
-  pub links : Linked names work
-  pub bytes : Spelled names node edgeN
-  pub there : node < length names
-  pub small : length names ≤ 4_294_967_295
-  pub room-at : length names ≤ length edgeAt
-  pub room-byte : at + length (edgesOf names (getD names node [])) ≤ length byte
-  pub room-to : at + length (edgesOf names (getD names node [])) ≤ length to
+  pub children : ChildrenReady edgeN work byte to node at
+  pub there : node < length edgeAt
   pub few : at ≤ 4_294_967_295
 
-pub record NodeDone (ns : List (List ℕ)) (edgeAt edgeN byte to edgeAt′ edgeN′ byte′ to′ : List ℕ) (node at end : ℕ) : Type 0 where
+pub record NodeDone (ns : List (List ℕ)) (s edgeAt edgeN byte to edgeAt′ edgeN′ byte′ to′ : List ℕ) (node at end : ℕ) : Type 0 where
   pub begun : edgeAt′ ≡ set edgeAt node at
-  pub counted : edgeN′ ≡ set edgeN node (length (edgesOf ns (getD ns node [])))
-  pub children : ChildrenDone ns (getD ns node []) byte to byte′ to′ at end
+  pub counted : edgeN′ ≡ set edgeN node (length (edgesOf ns s))
+  pub children : ChildrenDone ns s byte to byte′ to′ at end
 
 pub record NodeLaid (edgeAt edgeN byte to work edgeAt′ edgeN′ byte′ to′ : List ℕ) (node at end : ℕ) : Type 0 where
-  pub laid :
-      (ns : List (List ℕ)) → Linked ns work → Spelled ns node edgeN → node < length ns
-      → NodeDone ns edgeAt edgeN byte to edgeAt′ edgeN′ byte′ to′ node at end
+  pub laid : (c : Chained edgeN work node node) → NodeDone (c .names) (c .string) edgeAt edgeN byte to edgeAt′ edgeN′ byte′ to′ node at end
 
 -- ---- all nodes
 
@@ -97,11 +81,6 @@ pub record AllLaid (edgeAt edgeN byte to work edgeAt′ edgeN′ byte′ to′ :
       (ns : List (List ℕ)) → Linked ns work → Spelled ns 0 edgeN → n ≡ length ns → AllDone ns edgeAt edgeN byte to edgeAt′ edgeN′ byte′ to′
 
 -- ---- the parts
-
--- n nodes were entered, and there is room for them and their edges
-pub record OutReady (edgeAt edgeN byte to work : List ℕ) (n : ℕ) : Type 0 where
-  pub ready : AllReady edgeAt edgeN byte to work n
-  pub past : ZeroFrom n edgeN
 
 pub record OutDone (ns : List (List ℕ)) (edgeAt edgeN byte to work edgeAt′ edgeN′ byte′ to′ work′ : List ℕ) : Type 0 where
   pub begun : edgeAt′ ≡ filled 0 (starts 0 (countsOf ns ns)) edgeAt

@@ -4,11 +4,11 @@ use crate::steps::finish;
 use crate::vocabulary::enter_rows;
 use rows::Kind;
 ghost use mathlib.Core.Path.{_≡_};
-ghost use Prim.Native.Nat.{min};
+ghost use Prim.Native.Nat.{_≤_, min};
 ghost use Rattle.build.specs.Given.{given};
 ghost use Rattle.build.specs.Held.{Judged};
 ghost use Rattle.build.specs.Memory.{memoryIs, memoryNow, memoryWas};
-ghost use Rattle.build.specs.Checked.{roomOf, RoomFor, BuiltOf};
+ghost use Rattle.build.specs.Checked.{roomOf, BuiltOf};
 ghost use Rattle.refusal.specs.Lent.{was};
 
 fn least(a: usize, b: usize) -> usize
@@ -52,8 +52,8 @@ pub fn build(
     work: &mut [u32],
     room: usize,
 ) -> Built
-    requires { ⌜ Judged kind (now tab) (now off) (now len) (now ids) × RoomFor room
-        (memoryNow «edge_at» «edge_n» id byte to work) ⌝ }
+    requires { ⌜ Judged kind (now tab) (now off) (now len) (now ids) × (room ≤ roomOf
+        (memoryNow «edge_at» «edge_n» id byte to work)) ⌝ }
     ensures { λ r.
         ⌜ BuiltOf kind (was tab) (given (was off) (was len) (was ids)) room
         (memoryWas «edge_at» «edge_n» id byte to work) (memoryIs «edge_at» «edge_n» id byte to work) r ⌝ }

@@ -2,7 +2,8 @@
 // are read from their `edge_n` places before those take their own counts.
 use crate::zero::zero8;
 use crate::zero::zero32;
-ghost use Rattle.build.specs.Laying.{ChildrenReady, ChildrenLaid, NodeReady, NodeLaid, AllReady, AllLaid, OutReady, LaidOut};
+ghost use Rattle.build.specs.Laying.{ChildrenReady, ChildrenLaid, NodeReady, NodeLaid, AllReady, AllLaid, LaidOut};
+ghost use Rattle.build.specs.Held.{ZeroFrom};
 ghost use Rattle.refusal.specs.Lent.{is, was};
 
 // The edges of `node`, from edge number `from` on: the edge number after them.
@@ -80,7 +81,7 @@ pub fn lay_out(
     work: &mut [u32],
     n: usize,
 )
-    requires { ⌜ OutReady (now «edge_at») (now «edge_n») (now byte) (now to) (now work) n ⌝ }
+    requires { ⌜ AllReady (now «edge_at») (now «edge_n») (now byte) (now to) (now work) n × ZeroFrom n (now «edge_n») ⌝ }
     ensures { λ _.
         ⌜ LaidOut (was «edge_at») (was «edge_n») (was byte) (was to) (was work) (is «edge_at») (is «edge_n») (is byte)
         (is to) (is work) n ⌝ }

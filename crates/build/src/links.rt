@@ -1,14 +1,18 @@
 // The children of a node, linked by rising byte. Work place 2k has the first child of node k and place 2k + 1 its next sibling, 0 for none:
 use refusal::NO_ID;
 // the root is nobody's child. While tokens are entered, a node's own byte stands in its `edge_n` place.
-ghost use Prim.Native.Nat.{_+_, _*_};
-ghost use Rattle.build.specs.Held.{Chained, Sought, Linkable, NodeLinked, Enterable, ByteEntered};
+ghost use mathlib.Core.Path.{_≡_};
+ghost use Prim.Native.Nat.{_+_, _*_, _<_};
+ghost use lib.ListN.{set};
+ghost use Rattle.refusal.specs.Sizes.{noId};
+ghost use Rattle.build.specs.Links.{linkedWork};
+ghost use Rattle.build.specs.Held.{Roomy, Chained, Sought, Enterable, ByteEntered};
 ghost use Rattle.refusal.specs.Lent.{is, was};
 
 // The work place whose link leads to the first child of `node` by b or a later byte: the node's own, or that of the child before.
 // Bytes rise along the links, so the walk ends.
 pub fn seek(edge_n: &[u16], work: &[u32], node: usize, b: u8) -> usize
-    requires { ⌜ Chained (now «edge_n») (now work) node ⌝ }
+    requires { ⌜ Chained (now «edge_n») (now work) 0 node ⌝ }
     ensures { λ r. ⌜ Sought (was «edge_n») (was work) node b r ⌝ }
 {
     let byte = b as u16;
@@ -27,8 +31,9 @@ pub fn seek(edge_n: &[u16], work: &[u32], node: usize, b: u8) -> usize
 
 // Node n, by the byte b, behind the link at `at`. It leads on to what that led to, and has no id yet and no child.
 pub fn link(edge_n: &mut [u16], id: &mut [u32], work: &mut [u32], at: usize, n: usize, b: u8)
-    requires { ⌜ Linkable (now «edge_n») (now id) (now work) at n ⌝ }
-    ensures { λ _. ⌜ NodeLinked (was «edge_n») (was id) (was work) (is «edge_n») (is id) (is work) at n b ⌝ }
+    requires { ⌜ (at < 2 * n) × Roomy (n + 1) (now «edge_n») (now id) (now work) ⌝ }
+    ensures { λ _.
+        ⌜ (is «edge_n» ≡ set (was «edge_n») n b) × (is id ≡ set (was id) n noId) × (is work ≡ linkedWork (was work) at n) ⌝ }
 {
     let next = work[at];
     work[2 * n] = 0;

@@ -7,10 +7,12 @@ use crate::zero::zero16;
 use crate::zero::zero32;
 use refusal::NO_ID;
 ghost use mathlib.Core.Path.{_≡_};
+ghost use mathlib.Core.List.{[], _∷_};
 ghost use Prim.Native.Nat.{_<_};
 ghost use lib.ListN.{length, set};
 ghost use Rattle.refusal.specs.Sizes.{noId};
-ghost use Rattle.build.specs.Held.{Roomy, Started};
+ghost use Rattle.build.specs.Given.{noRule};
+ghost use Rattle.build.specs.Held.{Roomy, RowDone};
 ghost use Rattle.build.specs.Memory.{memoryIs, memoryNow, memoryWas};
 ghost use Rattle.build.specs.Checked.{Finishable, Finished};
 ghost use Rattle.refusal.specs.Lent.{is, was};
@@ -27,7 +29,7 @@ fn plant(id: &mut [u32], work: &mut [u32])
 // The root, alone, in columns that may hold anything: how many nodes there are, 1. That is more than `room` where there is none for it.
 pub fn start(edge_n: &mut [u16], id: &mut [u32], work: &mut [u32], room: usize) -> usize
     requires { ⌜ Roomy room (now «edge_n») (now id) (now work) ⌝ }
-    ensures { λ r. ⌜ Started (is «edge_n») (is id) (is work) room r ⌝ }
+    ensures { λ r. ⌜ (r ≡ 1) × RowDone ([] ∷ []) noRule room (is «edge_n») (is id) (is work) r ⌝ }
 {
     zero16(edge_n);
     zero32(id);

@@ -11,7 +11,7 @@ ghost use Rattle.rows.specs.declared.Kind.the-variants.{WordPiece};
 ghost use Rattle.build.specs.Names.{names};
 ghost use Rattle.build.specs.Rules.{tokensOf};
 ghost use Rattle.build.specs.Given.{given, valueOf, rulesFrom, noRule};
-ghost use Rattle.build.specs.Held.{RowEntered, RowDone, Judged, RowReady, Roomy, Planted};
+ghost use Rattle.build.specs.Held.{RowEntered, RowDone, Judged, RowReady, Roomy};
 ghost use Rattle.refusal.specs.Lent.{is, was};
 
 // The id of row i.
@@ -49,36 +49,8 @@ fn enter_row(
     enter_token(token, kind, v, edge_n, id, work, room, n)
 }
 
-// All rows, from the root on: how many nodes there are, more than `room` where no room is left.
-fn enter_on(
-    kind: Kind,
-    tab: &[u8],
-    off: &[u32],
-    len: &[u32],
-    ids: &[u32],
-    edge_n: &mut [u16],
-    id: &mut [u32],
-    work: &mut [u32],
-    room: usize,
-) -> usize
-    requires { ⌜ Judged kind (now tab) (now off) (now len) (now ids) × Planted (now «edge_n») (now id) (now work) room ⌝ }
-    ensures { λ r.
-        ⌜ RowDone (names (tokensOf (was tab) (given (was off) (was len) (was ids)))) (rulesFrom kind (was tab) noRule 0
-        (given (was off) (was len) (was ids))) room (is «edge_n») (is id) (is work) r ⌝ }
-{
-    let mut n: usize = 1;
-    let mut i: usize = 0;
-    while i < off.len() {
-        n = enter_row(kind, tab, off, len, ids, i, edge_n, id, work, room, n);
-        if room < n {
-            return n;
-        }
-        i += 1;
-    }
-    n
-}
-
-// The same into columns that may hold anything. The root needs room too.
+// All rows, from the root on, in columns that may hold anything: how many nodes there are, more than `room` where no room is left. The
+// root needs room too.
 pub fn enter_rows(
     kind: Kind,
     tab: &[u8],
@@ -95,9 +67,14 @@ pub fn enter_rows(
         ⌜ RowDone (names (tokensOf (was tab) (given (was off) (was len) (was ids)))) (rulesFrom kind (was tab) noRule 0
         (given (was off) (was len) (was ids))) room (is «edge_n») (is id) (is work) r ⌝ }
 {
-    let n = start(edge_n, id, work, room);
-    if room < n {
-        return n;
+    let mut n = start(edge_n, id, work, room);
+    let mut i: usize = 0;
+    while i < off.len() {
+        if room < n {
+            return n;
+        }
+        n = enter_row(kind, tab, off, len, ids, i, edge_n, id, work, room, n);
+        i += 1;
     }
-    enter_on(kind, tab, off, len, ids, edge_n, id, work, room)
+    n
 }

@@ -20,9 +20,9 @@ use Rattle.rows.specs.Rows.{Row}
 use Rattle.build.specs.declared.Built as core
 use Rattle.build.specs.declared.Built.the-variants.{Nodes, NoRoom}
 use Rattle.build.specs.Memory.{Memory, withScores, noScoredRoom, holding, zeroScores}
-use Rattle.build.specs.Checked.{roomOf, RoomFor, BuiltOf}
+use Rattle.build.specs.Checked.{roomOf, BuiltOf}
 use Rattle.build.specs.Promise.{trieIn, scoresIn, Told, built, refused, Promised}
-use Rattle.build.proofs.Rooms.{scored-room-for, scores-roomy, scored-decides, nodes-some, nodes-few}
+use Rattle.build.proofs.Rooms.{RoomFor, room-for, scored-room, scores-roomy, scored-decides, nodes-some, nodes-few}
 use Rattle.build.proofs.Outcomes.{core-fits, core-room}
 use Rattle.build.proofs.Promises.{built-bad, core-short, core-left, core-held}
 use Rattle.scored.proofs.Builds.{scores-filled}
@@ -71,8 +71,11 @@ module _ {bytes : List ℕ} {kind : Kind} {h : Header} (f : PackFine bytes kind 
     same-room : room ≡ min (roomOf m) (length was)
     same-room = r ∙ ap (min (roomOf m)) (sym (length-map xs units))
 
-    pub room-is : RoomFor room m
-    room-is = scored-room-for m was same-room
+    pub room-is : room ≤ roomOf m
+    room-is = scored-room m was same-room
+
+    every : RoomFor room m
+    every = room-for m room room-is
 
     abbrev lent : List ℕ
     lent = take (length bytes - h .«strings_off») (drop (h .«strings_off») bytes)
@@ -104,13 +107,13 @@ module _ {bytes : List ℕ} {kind : Kind} {h : Header} (f : PackFine bytes kind 
 
       module _ {n : ℕ} (e : answer ≡ Nodes n) where
         pub ids-there : n ≤ length (m .parts .id)
-        ids-there = omega (arith, core-room said e, room-is .ids)
+        ids-there = omega (arith, core-room said e, every .roomy .ids)
 
         pub scores-there : n ≤ length xs
         scores-there = omega (arith, core-room said e, scores-roomy m was same-room, length-map xs units)
 
         pub fits-word : n ≤ 4_294_967_295
-        fits-word = omega (arith, core-room said e, room-is .small)
+        fits-word = omega (arith, core-room said e, every .roomy .small)
 
         pub nodes-counted : n ≡ nodesOf kind bytes
         nodes-counted = core-fits said e .1

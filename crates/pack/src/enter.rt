@@ -9,15 +9,15 @@ use build::tokens::enter_token;
 use rows::Kind;
 use rows::Worth;
 ghost use mathlib.Core.Path.{_≡_};
-ghost use Prim.Native.Nat.{_<_};
+ghost use Prim.Native.Nat.{_≤_, _<_};
 ghost use Rattle.refusal.specs.Sizes.{maxRows};
 ghost use Rattle.rows.specs.Rows.{worthIs, tokenOf};
 ghost use Rattle.build.specs.Names.{names};
 ghost use Rattle.build.specs.Rules.{tokensOf, idOfWorth};
 ghost use Rattle.build.specs.Given.{valueOf, rulesFrom, noRule};
-ghost use Rattle.build.specs.Held.{Roomy, Planted, RowEntered, RowDone};
+ghost use Rattle.build.specs.Held.{Roomy, RowEntered, RowDone};
 ghost use Rattle.build.specs.Memory.{memoryIs, memoryNow, memoryWas};
-ghost use Rattle.build.specs.Checked.{RoomFor, BuiltOf};
+ghost use Rattle.build.specs.Checked.{roomOf, BuiltOf};
 ghost use Rattle.pack.specs.Pack.{rowAt, rowsFrom};
 ghost use Rattle.pack.specs.Reading.{rowStart, FineRows, valueIn, RowReady};
 ghost use Rattle.refusal.specs.Lent.{is, was};
@@ -58,35 +58,8 @@ fn enter_row(
     enter_token(token, kind, v, edge_n, id, work, room, n)
 }
 
-// All rows, from the root on: how many nodes there are, more than `room` where no room is left.
-fn enter_on(
-    kind: Kind,
-    bytes: &[u8],
-    strings: &[u8],
-    rows: usize,
-    edge_n: &mut [u16],
-    id: &mut [u32],
-    work: &mut [u32],
-    room: usize,
-) -> usize
-    requires { ⌜ FineRows kind (now bytes) (now strings) rows × Planted (now «edge_n») (now id) (now work) room ⌝ }
-    ensures { λ r.
-        ⌜ RowDone (names (tokensOf (was strings) (rowsFrom kind (was bytes) 36 rows))) (rulesFrom kind (was strings)
-        noRule 0 (rowsFrom kind (was bytes) 36 rows)) room (is «edge_n») (is id) (is work) r ⌝ }
-{
-    let mut n: usize = 1;
-    let mut i: usize = 0;
-    while i < rows {
-        n = enter_row(kind, bytes, strings, i, edge_n, id, work, room, n);
-        if room < n {
-            return n;
-        }
-        i += 1;
-    }
-    n
-}
-
-// The same into columns that may hold anything. The root needs room too.
+// All rows, from the root on, in columns that may hold anything: how many nodes there are, more than `room` where no room is left. The
+// root needs room too.
 fn enter_rows(
     kind: Kind,
     bytes: &[u8],
@@ -102,11 +75,16 @@ fn enter_rows(
         ⌜ RowDone (names (tokensOf (was strings) (rowsFrom kind (was bytes) 36 rows))) (rulesFrom kind (was strings)
         noRule 0 (rowsFrom kind (was bytes) 36 rows)) room (is «edge_n») (is id) (is work) r ⌝ }
 {
-    let n = start(edge_n, id, work, room);
-    if room < n {
-        return n;
+    let mut n = start(edge_n, id, work, room);
+    let mut i: usize = 0;
+    while i < rows {
+        if room < n {
+            return n;
+        }
+        n = enter_row(kind, bytes, strings, i, edge_n, id, work, room, n);
+        i += 1;
     }
-    enter_on(kind, bytes, strings, rows, edge_n, id, work, room)
+    n
 }
 
 // The trie of the rows in the lent columns, where `room` nodes fit. Where it needs more nodes, every lent place is zero afterwards.
@@ -123,8 +101,8 @@ pub fn build_rows(
     work: &mut [u32],
     room: usize,
 ) -> Built
-    requires { ⌜ FineRows kind (now bytes) (now strings) rows × RoomFor room
-        (memoryNow «edge_at» «edge_n» id byte to work) ⌝ }
+    requires { ⌜ FineRows kind (now bytes) (now strings) rows × (room ≤ roomOf
+        (memoryNow «edge_at» «edge_n» id byte to work)) ⌝ }
     ensures { λ r.
         ⌜ BuiltOf kind (was strings) (rowsFrom kind (was bytes) 36 rows) room
         (memoryWas «edge_at» «edge_n» id byte to work) (memoryIs «edge_at» «edge_n» id byte to work) r ⌝ }

@@ -33,7 +33,7 @@ use Rattle.build.specs.Given.{given}
 use Rattle.build.specs.Memory.{Memory, withScores, noScoredRoom, holding, zeroScores}
 use Rattle.build.specs.Checked.{roomOf, nodesOf, BuiltOf}
 use Rattle.build.specs.Promise.{trieIn, scoresIn, Told, built, Promised}
-use Rattle.build.proofs.Rooms.{scored-room-for, scores-roomy, scored-decides, nodes-some}
+use Rattle.build.proofs.Rooms.{room-for, scored-room, scores-roomy, scored-decides, nodes-some}
 use Rattle.build.proofs.Outcomes.{core-fits, core-room}
 use Rattle.build.proofs.Judging.{few-rows, nodes-small, columns-built}
 use Rattle.build.proofs.Promises.{core-short, core-left, core-held}
@@ -105,7 +105,7 @@ pub nodes-placed :
     → room ≡ min (roomOf m) (length xs) → BuiltOf kind tab rows room m after answer → answer ≡ Nodes n → Placed n (length xs) m
 nodes-placed {m = m} xs r d e =
     let same = r ∙ ap (min (roomOf m)) (sym (length-map xs units)) in
-    let every = scored-room-for m (map units xs) same in
+    let every = room-for m _ (scored-room m (map units xs) same) .roomy in
     let fits = core-room d e in
     record {
       ids = omega (arith, fits, every .ids);

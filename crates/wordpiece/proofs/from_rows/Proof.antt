@@ -10,8 +10,6 @@ use Rattle.rows.specs.Columns.{Columns, rowsOf, columnsFault}
 use Rattle.rows.specs.Answers.{columns, reasonIn}
 use Rattle.rows.proofs.NeverRoom.{columns-not-room}
 use Rattle.build.specs.Memory.{Memory, memory}
-use Rattle.build.specs.Checked.{RoomFor}
-use Rattle.build.proofs.Rooms.{room-is}
 use Rattle.build.proofs.Judging.{judged}
 use Rattle.build.proofs.Outcomes.{core-room}
 use Rattle.build.proofs.Promises.{built-bad}
@@ -82,7 +80,7 @@ build-requires c κs =
     let r = c .before .before .before .before .before .before in
     let e = begun r in (
       judged WordPiece (e .args .tab .now) (lists e) (fine (told r)),
-      subst (λ (n : ℕ). RoomFor n (lent e)) (sym (r .room .ensures)) (room-is (lent e)),
+      omega (arith, r .room .ensures),
     )
 
 cast-t46 : tie.Need-cast-t46
@@ -90,7 +88,7 @@ cast-t46 c =
     let bound = c .before in
     let b = called (bound .before .before) in
     let r = measured b in
-    omega (arith, core-room (b .build .ensures) (bound .built .given .1), r .room .ensures, room-is (lent (begun r)) .small)
+    omega (arith, core-room (b .build .ensures) (bound .built .given .1), r .room .ensures)
 
 returns-2 : tie.Need-returns-2
 returns-2 c =

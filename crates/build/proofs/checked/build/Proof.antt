@@ -41,7 +41,8 @@ finish-requires : tie.Need-finish-requires
 finish-requires c κs =
     let f = entered (lent c) in
     let l = f .enter-rows .kept .1 .1 .1 .1 .1 in
-    entered-ready (f .enter-rows .ensures) (entry f .pre .1) (l .0) (l .1 .0) (l .1 .1 .0)
+    let a = entry f .args in
+    entered-ready (a .edge-n .now) (a .id .now) (a .work .now) (f .enter-rows .ensures) (entry f .pre .1) (l .0) (l .1 .0) (l .1 .1 .0)
 
 returns : tie.Need-returns
 returns c =

@@ -7,7 +7,7 @@ use Prim.Native.Nat.{ℕ, _-_, _≤_, _<_}
 use native.Mathlib.Omega.{arith}
 use lib.ListN.{length}
 use Rattle.build.specs.Links.{Linked, Spelled}
-use Rattle.build.proofs.Out.{LaidTo, laid-start, laid-few, laid-turn, laid-end}
+use Rattle.build.proofs.Out.{chained-at, LaidTo, laid-start, laid-few, laid-turn, laid-end}
 use Rattle.build.proofs.lay.lay_all.Statement.{statement}
 use Rattle.build.proofs.lay.lay_all.Tie as tie
 
@@ -64,14 +64,13 @@ lay-node-requires c κs =
     let there : h .loop .k < length (p .names) = omega (arith, t .loop-test .taken, p .count) in
     let few = laid-few laid there (p .links) in
     record {
-      names = p .names;
-      links = p .links;
-      bytes = laid .bytes;
-      there = there;
-      small = omega (arith, p .count, p .small);
-      room-at = omega (arith, p .count, p .room-at, k .starts);
-      room-byte = omega (arith, few, p .count, p .room-byte, k .bytes);
-      room-to = omega (arith, few, p .count, p .room-to, k .targets);
+      children = record {
+        chained = chained-at (p .links) (laid .bytes) there;
+        small = omega (arith, p .count, p .small);
+        room-byte = omega (arith, few, p .count, p .room-byte, k .bytes);
+        room-to = omega (arith, few, p .count, p .room-to, k .targets);
+      };
+      there = omega (arith, there, p .count, p .room-at, k .starts);
       few = omega (arith, few, p .count, p .small);
     }
 
@@ -92,7 +91,7 @@ loop-again c =
       λ ns l sp e.
           let laid = h .loop .inv .2 ns l sp e in
           let there : h .loop .k < length ns = omega (arith, t .loop-test .taken) in
-          laid-turn laid there (f .lay-node .ensures .laid ns l (laid .bytes) there),
+          laid-turn laid there (f .lay-node .ensures .laid (chained-at l (laid .bytes) there)),
     )
 
 returns : tie.Need-returns Inv-loop μ-loop

@@ -3,12 +3,10 @@
 use borrow.Author.Needs.{needs}
 use mathlib.Core.Path.{_≡_, refl, _∙_}
 use mathlib.Core.List.{List}
-use mathlib.Core.Option.{some}
 use Prim.Native.Nat.{ℕ, _+_, _-_, _*_, _<_}
 use native.Mathlib.Omega.{arith}
 use lib.ListN.{length, getD, length-set}
-use Rattle.build.specs.Names.{place}
-use Rattle.build.specs.Links.{Linked, Spelled}
+use Rattle.build.specs.Held.{Chained}
 use Rattle.build.proofs.Places.{place-below}
 use Rattle.build.proofs.Children.{Writing, writing-start, writing-below, writing-small, writing-room, writing-few, writing-turn, writing-end}
 use Rattle.build.proofs.lay.lay_children.Statement.{statement}
@@ -17,8 +15,7 @@ use Rattle.build.proofs.lay.lay_children.Tie as tie
 abbrev Inv-loop : tie.InvT-loop
 Inv-loop edge-n byte₀ to₀ work node from at₀ k₀ byte to at k =
     (length byte ≡ length byte₀) × (length to ≡ length to₀)
-    × ((ns : List (List ℕ)) (s : List ℕ) → Linked ns work → Spelled ns node edge-n → place ns s ≡ some node
-    → Writing ns s byte₀ to₀ from byte to at k)
+    × ((c : Chained edge-n work node node) → Writing (c .names) (c .string) byte₀ to₀ from byte to at k)
 
 abbrev μ-loop : tie.MeasureT-loop
 μ-loop edge-n byte₀ to₀ work node from at₀ k₀ byte to at k = from + 256 - at
@@ -47,24 +44,25 @@ bounds :
     Bounds (a .edge-n .now) (h .loop .byte) (h .loop .to) (a .work .now) (a .from) (h .loop .at) (h .loop .k))
 bounds t =
     let h = t .before in
-    let p = entry h .pre in
-    let w = h .loop .inv .2 (p .names) (p .string) (p .links) (p .bytes) (p .here) in
+    let r = entry h .pre in
+    let p = r .chained in
+    let w = h .loop .inv .2 p in
     let z = t .loop-test .taken in
     let below = writing-below (p .links) (p .bytes) (p .here) w z in
     let room = writing-room (p .links) (p .bytes) (p .here) w z in
     record {
       node = omega (arith, below, p .bytes .room);
       link = omega (arith, below, p .links .room);
-      number = omega (arith, below, p .small);
+      number = omega (arith, below, r .small);
       a-byte = writing-small (p .links) (p .bytes) (p .here) w z;
-      in-byte = omega (arith, room, p .room-byte, h .loop .inv .0);
-      in-to = omega (arith, room, p .room-to, h .loop .inv .1);
+      in-byte = omega (arith, room, r .room-byte, h .loop .inv .0);
+      in-to = omega (arith, room, r .room-to, h .loop .inv .1);
       few = writing-few (p .links) (p .bytes) (p .here) w z;
     }
 
 -- the node's own link stands inside
 inside : (s : tie.Start Inv-loop μ-loop) → 2 * s .args .node < length (s .args .work .now)
-inside s = let p = s .pre in omega (arith, p .links .room, place-below (p .names) (p .string) (s .args .node) (p .here))
+inside s = let p = s .pre .chained in omega (arith, p .links .room, place-below (p .names) (p .string) (s .args .node) (p .here))
 
 cast-k : tie.Need-cast-k Inv-loop μ-loop
 cast-k c = let s = c .before in omega (arith, c .shared-slice-known .given (2 * s .args .node))
@@ -72,7 +70,7 @@ cast-k c = let s = c .before in omega (arith, c .shared-slice-known .given (2 * 
 loop-holds : tie.Need-loop-holds Inv-loop μ-loop
 loop-holds c =
     let a = c .before .args in
-    (refl, refl, λ ns s l sp e. writing-start l (a .node) e)
+    (refl, refl, λ p. writing-start (p .links) (a .node) (p .here))
 
 mul-to : tie.Need-mul-to Inv-loop μ-loop
 mul-to c = let h = c .before .before in omega (arith, bounds (c .before), h .loop .inv .1, entry h .good)
@@ -96,14 +94,14 @@ loop-again c =
     let a = entry h .args in (
       length-set (h .loop .byte) (h .loop .at) (getD (a .edge-n .now) (h .loop .k) 0) ∙ h .loop .inv .0,
       length-set (h .loop .to) (h .loop .at) (h .loop .k) ∙ h .loop .inv .1,
-      λ ns s l sp e. writing-turn l sp e (h .loop .inv .2 ns s l sp e) (t .loop-test .taken),
+      λ p. writing-turn (p .links) (p .bytes) (p .here) (h .loop .inv .2 p) (t .loop-test .taken),
     )
 
 returns : tie.Need-returns Inv-loop μ-loop
 returns c =
     let h = c .before in
     record {
-      laid = λ ns s l sp e. writing-end l sp e (h .loop .inv .2 ns s l sp e) (c .loop-test .left);
+      laid = λ p. writing-end (p .links) (p .bytes) (p .here) (h .loop .inv .2 p) (c .loop-test .left);
     }
 
 pub lay-children-spec : {M : Type 1} → statement M

@@ -38,7 +38,7 @@ lay-all-requires c κs =
     let t = to-zero c in
     let b = byte-zero t in
     let e = starts-zero b in
-    ready-again (entry e .pre .ready) (e .zero32 .ensures) (b .zero8 .ensures) (t .zero322 .ensures)
+    ready-again (entry e .pre .0) (e .zero32 .ensures) (b .zero8 .ensures) (t .zero322 .ensures)
 
 returns : tie.Need-returns
 returns c =
@@ -49,7 +49,7 @@ returns c =
     let e = starts-zero b in
     record {
       laid = λ ns l sp n.
-          out-done (l .grown) n (entry e .pre) (e .zero32 .ensures) (b .zero8 .ensures) (t .zero322 .ensures)
+          out-done (l .grown) n (entry e .pre .0) (entry e .pre .1) (e .zero32 .ensures) (b .zero8 .ensures) (t .zero322 .ensures)
           (f .lay-all .ensures .laid ns l sp n) (w .zero323 .ensures);
     }
 

@@ -10,7 +10,7 @@ use borrow.Author.Needs.{needs}
 use lib.ListN.{length, getD}
 use Rattle.build.specs.Names.{place}
 use Rattle.build.specs.Links.{Slot}
-use Rattle.build.specs.Held.{Held}
+use Rattle.build.specs.Held.{Chained, Held}
 use Rattle.build.proofs.Linking.{slot-below}
 use Rattle.build.proofs.Seeking.{seek-below}
 use Rattle.build.proofs.Holding.{child-there, child-none, child-other, byte-there, byte-full, byte-made}
@@ -37,8 +37,13 @@ works c = entry c .args .work .now
 abbrev next : tie.After-seek → ℕ
 next c = getD (works c) (c .seek .result) 0
 
+abbrev chained :
+    {ns : List (List ℕ)} {rule : List ℕ → Option ℕ} (s : List ℕ) {edgeN id work : List ℕ} {node : ℕ} → Held ns rule edgeN id work → place ns s ≡ some node
+    → Chained edgeN work 0 node
+chained {ns = ns} s h e = record { names = ns; string = s; links = h .links; bytes = h .bytes; here = e }
+
 slot : (c : tie.After-seek) → Slot (entry c .pre .names) (entry c .pre .string) (entry c .args .b) (c .seek .result)
-slot c = let p = entry c .pre in c .seek .ensures .slot (p .names) (p .string) (p .held .links) (p .held .bytes) (p .here)
+slot c = let p = entry c .pre in c .seek .ensures .slot (chained (p .string) (p .held) (p .here))
 
 inside : (c : tie.After-seek) → (c .seek .result < 2 * entry c .args .from .n) × (2 * entry c .args .from .n ≤ length (works c))
 inside c =
@@ -61,7 +66,7 @@ absent :
     → place ns (s ++ (entry c .args .b ∷ [])) ≡ none)
 absent q ns rule s h e =
     let c = q .before .before in
-    let slot = c .seek .ensures .slot ns s (h .links) (h .bytes) e in
+    let slot = c .seek .ensures .slot (chained s h e) in
     ⊎-elim
     (λ w. child-other (h .links) (h .bytes) e slot (w .0 .taken) (w .2 .left))
     (λ w. child-none (h .links) (h .bytes) e slot (omega arith) (w .left))
@@ -107,7 +112,7 @@ returns c =
     record {
       entered = λ ns rule s h n e.
           byte-there h s (a .b) n (entry q .pre .fits)
-          (child-there (h .links) (h .bytes) e (q .seek .ensures .slot ns s (h .links) (h .bytes) e) (t .if1 .taken)
+          (child-there (h .links) (h .bytes) e (q .seek .ensures .slot (chained s h e)) (t .if1 .taken)
           (c .if2 .taken));
     }
 
@@ -125,14 +130,15 @@ link-requires : tie.Need-link-requires
 link-requires c κs =
     let t = before-link c in
     let q = sought t in
-    let p = entry q .pre in
-    record {
-      before = inside q .0;
-      nodes = omega (arith, p .fits, t .if3 .left, p .roomy .nodes);
-      ids = omega (arith, p .fits, t .if3 .left, p .roomy .ids);
-      links = omega (arith, p .fits, t .if3 .left, p .roomy .links);
-      small = omega (arith, p .fits, t .if3 .left, p .roomy .small);
-    }
+    let p = entry q .pre in (
+      inside q .0,
+      record {
+        nodes = omega (arith, p .fits, t .if3 .left, p .roomy .nodes);
+        ids = omega (arith, p .fits, t .if3 .left, p .roomy .ids);
+        links = omega (arith, p .fits, t .if3 .left, p .roomy .links);
+        small = omega (arith, p .fits, t .if3 .left, p .roomy .small);
+      },
+    )
 
 returns-3 : tie.Need-returns-3
 returns-3 c =
@@ -145,8 +151,8 @@ returns-3 c =
     record {
       entered = λ ns rule s h n e.
           byte-made h s (a .b) n (p .fits) e (absent (t .before) ns rule s h e)
-          (q .seek .ensures .slot ns s (h .links) (h .bytes) e) (omega arith) (omega (arith, p .fits, t .if3 .left))
-          (p .roomy) (made .byte) (made .bare) (made .links);
+          (q .seek .ensures .slot (chained s h e)) (omega arith) (omega (arith, p .fits, t .if3 .left))
+          (p .roomy) (made .0) (made .1) (made .2);
     }
 
 pub child-spec : {M : Type 1} → statement M

@@ -5,6 +5,9 @@ use lib.ListN.{length-set}
 use Rattle.build.proofs.links.link.Statement.{statement}
 use Rattle.build.proofs.links.link.Tie as tie
 
+slice-write-work-2 : tie.Need-slice-write-work-2
+slice-write-work-2 c = simp length-set (omega arith)
+
 slice-write-work-3 : tie.Need-slice-write-work-3
 slice-write-work-3 c = simp length-set (omega arith)
 
@@ -20,7 +23,7 @@ link-spec =
     (λ c. search needs)
     (λ c. search needs)
     (λ c. search needs)
-    (λ c. search needs)
+    slice-write-work-2
     (λ c. search needs)
     (λ c. search needs)
     slice-write-work-3

@@ -2,13 +2,12 @@
 -- `low` up to the byte sought. What is left of the bytes after the last child falls. Assumes nothing.
 use mathlib.Core.Path.{_≡_}
 use mathlib.Core.List.{List}
-use mathlib.Core.Option.{some}
 use Prim.Native.Nat.{ℕ, suc, _+_, _*_, _≤_, _<_}
 use native.Mathlib.Omega.{arith}
 use borrow.Author.Needs.{needs}
 use lib.ListN.{length, getD}
-use Rattle.build.specs.Names.{place}
-use Rattle.build.specs.Links.{Slot, Linked, Spelled}
+use Rattle.build.specs.Links.{Slot}
+use Rattle.build.specs.Held.{Chained}
 use Rattle.build.proofs.Places.{place-below}
 use Rattle.build.proofs.Seeking.{left, seek-start, seek-below, seek-on, seek-stop, seek-end, seek-falls}
 use Rattle.build.proofs.links.seek.Statement.{statement}
@@ -16,8 +15,7 @@ use Rattle.build.proofs.links.seek.Tie as tie
 
 -- the walk has come to `at`
 abbrev Come : List ℕ → List ℕ → ℕ → ℕ → ℕ → Type 0
-Come edgeN work node b at =
-    (ns : List (List ℕ)) (s : List ℕ) → Linked ns work → Spelled ns 0 edgeN → place ns s ≡ some node → (low : ℕ) × (low ≤ b) × Slot ns s low at
+Come edgeN work node b at = (c : Chained edgeN work 0 node) → (low : ℕ) × (low ≤ b) × Slot (c .names) (c .string) low at
 
 abbrev Inv-loop : tie.InvT-loop
 Inv-loop edge-n work node b byte at₀ at = (at < length work) × Come edge-n work node b at
@@ -40,7 +38,7 @@ abbrev child : Head → ℕ
 child h = getD (works h) (h .loop .at) 0
 
 come : (h : Head) → (low : ℕ) × (low ≤ h .before .args .b) × Slot (h .before .pre .names) (h .before .pre .string) low (h .loop .at)
-come h = let p = h .before .pre in h .loop .inv .1 (p .names) (p .string) (p .links) (p .bytes) (p .here)
+come h = h .loop .inv .1 (h .before .pre)
 
 below : (h : Head) → (child h ≡ 0 → ⊥) → (child h < length (edges h)) × (2 * child h + 1 < length (works h))
 below h z =
@@ -56,7 +54,7 @@ loop-holds : tie.Need-loop-holds Inv-loop μ-loop
 loop-holds c =
     let p = c .pre in (
       omega (arith, p .links .room, place-below (p .names) (p .string) (c .args .node) (p .here)),
-      λ ns s l sp h. (0, omega arith, seek-start l sp h),
+      λ p. (0, omega arith, seek-start (p .links) (p .bytes) (p .here)),
     )
 
 cast-k : tie.Need-cast-k Inv-loop μ-loop
@@ -66,9 +64,9 @@ returns : tie.Need-returns Inv-loop μ-loop
 returns c =
     let h = c .before .before in
     record {
-      slot = λ ns s l sp e.
-          let w = h .loop .inv .1 ns s l sp e in
-          seek-end l sp e (w .2) (h .before .args .b) (w .1) (omega arith) (c .if1 .taken);
+      slot = λ p.
+          let w = h .loop .inv .1 p in
+          seek-end (p .links) (p .bytes) (p .here) (w .2) (h .before .args .b) (w .1) (omega arith) (c .if1 .taken);
     }
 
 mul-if2 : tie.Need-mul-if2 Inv-loop μ-loop
@@ -82,9 +80,9 @@ returns-2 c =
     let t = c .before .before in
     let h = t .before .before in
     record {
-      slot = λ ns s l sp e.
-          let w = h .loop .inv .1 ns s l sp e in
-          seek-stop l sp e (w .2) (t .if1 .left) (h .before .args .b) (w .1) (c .if2 .taken);
+      slot = λ p.
+          let w = h .loop .inv .1 p in
+          seek-stop (p .links) (p .bytes) (p .here) (w .2) (t .if1 .left) (h .before .args .b) (w .1) (c .if2 .taken);
     }
 
 mul-at-2 : tie.Need-mul-at-2 Inv-loop μ-loop
@@ -105,11 +103,11 @@ loop-again c =
     let t = c .before .before in
     let h = t .before .before in (
       below h (t .if1 .left) .1,
-      λ ns s l sp e.
-          let w = h .loop .inv .1 ns s l sp e in (
+      λ p.
+          let w = h .loop .inv .1 p in (
             suc (getD (edges h) (child h) 0),
             c .if2 .left,
-            seek-on l sp e (w .2) (t .if1 .left),
+            seek-on (p .links) (p .bytes) (p .here) (w .2) (t .if1 .left),
           ),
     )
 

@@ -2,9 +2,7 @@
 use mathlib.Core.Path.{refl}
 use native.Mathlib.Omega.{arith}
 use borrow.Author.Needs.{needs}
-use Rattle.build.specs.Held.{Ready}
-use Rattle.build.proofs.Filled.{ready-zeroed}
-use Rattle.build.proofs.Rowing.{planted}
+use Rattle.build.proofs.Rowing.{root-done}
 use Rattle.build.proofs.steps.start.Statement.{statement}
 use Rattle.build.proofs.steps.start.Tie as tie
 
@@ -28,30 +26,18 @@ root-stands c = let k = c .before .before in k .before .before
 abbrev unless-none : tie.After-plant → tie.Else1
 unless-none c = let k = c .before .before in k .before
 
--- the columns are zero
-ready : (c : tie.After-zero32) → let z = counts c in Ready (z .zero16 .last .0) (c .zero32 .last .0) (entry z .args .work .now) (entry z .args .room)
-ready c =
-    let z = counts c in
-    let s = entry z in
-    let a = s .args in
-    ready-zeroed (a .room) (a .edge-n .now) (a .id .now) (a .work .now) (z .zero16 .last .0) (c .zero32 .last .0) (s .pre) (z .zero16 .ensures)
-    (c .zero32 .ensures)
-
 returns : tie.Need-returns
-returns c = record { one = refl; planted = λ h. absurd (omega (arith, c .if1 .taken)) }
+returns c =
+    let none = c .if1 .taken in
+    (refl, record { full = λ z. omega (arith, none); count = λ z. absurd (omega (arith, none)); held = λ z. absurd (omega (arith, none)) })
 
 returns-2 : tie.Need-returns-2
 returns-2 c =
     let f = root-stands c in
     let e = unless-none f in
     let z = known (e .before) in
-    let a = entry (counts z) .args in
-    record {
-      one = refl;
-      planted = λ h.
-          planted (counts z .zero16 .last .0) (z .zero32 .last .0) (a .work .now) (a .room) (ready z) h (f .plant .last .0) (f .plant .last .1 .0)
-          (f .plant .ensures .0) (f .plant .ensures .1);
-    }
+    let s = entry (counts z) in
+    (refl, root-done (s .pre) (omega (arith, e .if1 .left)) (counts z .zero16 .ensures) (z .zero32 .ensures) (f .plant .ensures .0) (f .plant .ensures .1))
 
 pub start-spec : {M : Type 1} → statement M
 start-spec =

@@ -15,7 +15,7 @@ use Rattle.build.specs.Memory.{Memory, memory}
 use Rattle.build.proofs.Judging.{judged}
 use Rattle.build.specs.Checked.{roomOf}
 use Rattle.build.specs.Promise.{built}
-use Rattle.build.proofs.Rooms.{scored-room-for}
+use Rattle.build.proofs.Rooms.{scored-room}
 use Rattle.scored.specs.Build.{told}
 use Rattle.scored.proofs.Builds.{nodes-placed, Placed, lists-full, lists-built}
 use Rattle.scored.proofs.checked.build_rows.Statement.{statement}
@@ -75,7 +75,7 @@ build-requires c κs =
     let r = c .before .before .before .before .before .before in
     let a = entry r .args in (
       judged Unigram (a .tab .now) (rows-lent (entry r)) (entry r .pre),
-      scored-room-for (lent (entry r)) (map units (a .node-score .now))
+      scored-room (lent (entry r)) (map units (a .node-score .now))
           (r .room .ensures ∙ ap (min (roomOf (lent (entry r)))) (sym (length-map (a .node-score .now) units))),
     )
 
