@@ -22,7 +22,7 @@ use Rattle.build.specs.Parts.{edgesOf, starts, lay, trieOf}
 use Rattle.build.specs.Rules.{tokensOf}
 use Rattle.build.specs.Given.{rulesFrom, noRule}
 use Rattle.build.specs.Held.{ZeroFrom, Identified, RowDone}
-use Rattle.build.specs.Laying.{bytesOf, targetsOf, allEdges, countsOf, AllReady, AllDone, OutDone}
+use Rattle.build.specs.Laying.{bytesOf, targetsOf, allEdges, countsOf, AllReady, AllDone}
 use Rattle.build.specs.Memory.{Memory, memory, cleared, holding}
 use Rattle.build.specs.Promise.{trieIn}
 use Rattle.build.specs.Checked.{roomOf, nodesOf, BuiltOf, Finishable, Finished}
@@ -31,6 +31,7 @@ use Rattle.build.proofs.Laid.{getD-map-of, length-starts}
 use Rattle.build.proofs.Counted.{count-names}
 use Rattle.build.proofs.Zeros.{getD-zeros, zero-from, length-zeroed}
 use Rattle.build.proofs.Rooms.{room-for}
+use Rattle.build.proofs.Out.{Written}
 use Rattle.build.proofs.Ruled.{trie-given}
 
 -- ---- zeros
@@ -76,10 +77,11 @@ ready-again {edgeAt = edgeAt} {byte = byte} {to = to} {edgeAt′ = edgeAt′} {b
       room-at = omega (arith, length-zeroed edgeAt edgeAt′ p, r .room-at);
       room-byte = omega (arith, length-zeroed byte byte′ q, r .room-byte);
       room-to = omega (arith, length-zeroed to to′ s, r .room-to);
+      past = r .past;
     }
 
 module _ {ns : List²} (g : Grown ns) {edgeAt edgeN byte to work : List ℕ} {n : ℕ} (count : n ≡ length ns)
-    (r : AllReady edgeAt edgeN byte to work n) (past : ZeroFrom n edgeN) where
+    (r : AllReady edgeAt edgeN byte to work n) where
   length-counts : length (countsOf ns ns) ≡ length ns
   length-counts = length-map (map (edgesOf ns) ns) length ∙ length-map ns (edgesOf ns)
 
@@ -94,8 +96,8 @@ module _ {ns : List²} (g : Grown ns) {edgeAt edgeN byte to work : List ℕ} {n 
 
   pub out-done :
       {edgeAt₁ byte₁ to₁ edgeAt′ edgeN′ byte′ to′ work′ : List ℕ} → edgeAt₁ ≡ zeroed 0 edgeAt → byte₁ ≡ zeroed 0 byte
-      → to₁ ≡ zeroed 0 to → AllDone ns edgeAt₁ edgeN byte₁ to₁ edgeAt′ edgeN′ byte′ to′ → work′ ≡ zeroed 0 work
-      → OutDone ns edgeAt edgeN byte to work edgeAt′ edgeN′ byte′ to′ work′
+      → to₁ ≡ zeroed 0 to → Written ns edgeAt₁ edgeN byte₁ to₁ edgeAt′ edgeN′ byte′ to′ → work′ ≡ zeroed 0 work
+      → AllDone ns edgeAt edgeN byte to work edgeAt′ edgeN′ byte′ to′ work′
   out-done {edgeAt₁ = edgeAt₁} {byte₁ = byte₁} {to₁ = to₁} p q s d w =
       record {
         begun =
@@ -106,7 +108,7 @@ module _ {ns : List²} (g : Grown ns) {edgeAt edgeN byte to work : List ℕ} {n 
         counted =
             d .counted
             ∙ filled-sets (countsOf ns ns) edgeN edgeN refl (omega (arith, length-counts, r .bytes .room, r .count))
-            (λ k h. past k (omega (arith, length-counts)));
+            (λ k h. r .past k (omega (arith, length-counts)));
         written =
             d .written
             ∙ filled-sets (bytesOf (allEdges ns ns)) byte₁ byte (length-zeroed byte byte₁ q)
@@ -159,23 +161,22 @@ module _ (ns : List²) (g : Grown ns) (rule : List ℕ → Option ℕ) (id befor
 
 module _ {edgeAt edgeN id byte to work : List ℕ} {room n : ℕ} where
   pub finish-ready :
-      Finishable room (memory edgeAt edgeN id byte to work) n → n ≤ room → AllReady edgeAt edgeN byte to work n × ZeroFrom n edgeN
+      Finishable room (memory edgeAt edgeN id byte to work) n → n ≤ room → AllReady edgeAt edgeN byte to work n
   finish-ready f fits =
       let held = f .done .held fits in
       let count = f .done .count fits in
-      let every = room-for (memory edgeAt edgeN id byte to work) room (f .roomy) in (
-        record {
-          names = f .nodes;
-          links = held .links;
-          bytes = held .bytes;
-          count = count;
-          small = omega (arith, every .roomy .small);
-          room-at = omega (arith, every .starts);
-          room-byte = omega (arith, every .bytes);
-          room-to = omega (arith, every .targets);
-        },
-        λ k p. held .past k (omega (arith, count)),
-      )
+      let every = room-for (memory edgeAt edgeN id byte to work) room (f .roomy) in
+      record {
+        names = f .nodes;
+        links = held .links;
+        bytes = held .bytes;
+        count = count;
+        small = omega (arith, every .roomy .small);
+        room-at = omega (arith, every .starts);
+        room-byte = omega (arith, every .bytes);
+        room-to = omega (arith, every .targets);
+        past = λ k p. held .past k (omega (arith, count));
+      }
 
   module _ {kind : Kind} {tab : List ℕ} {rows : List Row}
       (done : RowDone (names (tokensOf tab rows)) (rulesFrom kind tab noRule 0 rows) room edgeN id work n) where
@@ -193,7 +194,7 @@ module _ {edgeAt edgeN id byte to work : List ℕ} {room n : ℕ} where
 
     pub built-done :
         (fits : n ≤ room) {edgeAt′ edgeN′ byte′ to′ work′ : List ℕ}
-        → OutDone (names (tokensOf tab rows)) edgeAt edgeN byte to work edgeAt′ edgeN′ byte′ to′ work′
+        → AllDone (names (tokensOf tab rows)) edgeAt edgeN byte to work edgeAt′ edgeN′ byte′ to′ work′
         → BuiltOf kind tab rows room (memory edgeAt edgeN id byte to work) (memory edgeAt′ edgeN′ id byte′ to′ work′) (Nodes n)
     unfolding holding lay trieOf
     built-done fits {edgeAt′ = edgeAt′} {edgeN′ = edgeN′} {byte′ = byte′} {to′ = to′} {work′ = work′} d =

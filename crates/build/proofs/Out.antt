@@ -9,7 +9,7 @@ use lib.Seq.{sets, drop-cons, drop-length, getD-set-other}
 use Rattle.build.specs.Parts.{Edge, edgesOf, starts}
 use Rattle.build.specs.Links.{Linked, Spelled}
 use Rattle.build.specs.Held.{Chained}
-use Rattle.build.specs.Laying.{bytesOf, targetsOf, allEdges, countsOf, NodeDone, AllDone}
+use Rattle.build.specs.Laying.{bytesOf, targetsOf, allEdges, countsOf, NodeDone}
 use Rattle.build.proofs.Grown.{List², grown-distinct}
 use Rattle.build.proofs.Laid.{starts-cons, flatten-cons}
 use Rattle.build.proofs.Counted.{total, total-one, count-edges}
@@ -37,6 +37,13 @@ pub record LaidTo (ns : List²) (edgeAt₀ edgeN₀ byte₀ to₀ edgeAt edgeN b
   pub led : sets to₀ 0 (targetsOf (allEdges ns ns)) ≡ sets to at (targetsOf (allEdges ns (drop k ns)))
   pub sum : at + total ns (drop k ns) ≡ total ns ns
   pub bytes : Spelled ns k edgeN
+
+-- and all of them
+pub record Written (ns : List²) (edgeAt edgeN byte to edgeAt′ edgeN′ byte′ to′ : List ℕ) : Type 0 where
+  pub begun : edgeAt′ ≡ sets edgeAt 0 (starts 0 (countsOf ns ns))
+  pub counted : edgeN′ ≡ sets edgeN 0 (countsOf ns ns)
+  pub written : byte′ ≡ sets byte 0 (bytesOf (allEdges ns ns))
+  pub led : to′ ≡ sets to 0 (targetsOf (allEdges ns ns))
 
 pub laid-start :
     {ns : List²} {edgeAt edgeN byte to : List ℕ} → Spelled ns 0 edgeN → LaidTo ns edgeAt edgeN byte to edgeAt edgeN byte to 0 0
@@ -103,7 +110,7 @@ module _ {ns : List²} {edgeAt₀ edgeN₀ byte₀ to₀ edgeAt edgeN byte to : 
           };
         }
 
-  pub laid-end : k ≡ length ns → AllDone ns edgeAt₀ edgeN₀ byte₀ to₀ edgeAt edgeN byte to
+  pub laid-end : k ≡ length ns → Written ns edgeAt₀ edgeN₀ byte₀ to₀ edgeAt edgeN byte to
   unfolding starts flatten
   laid-end e =
       let none-left : drop k ns ≡ [] = ap (λ (i : ℕ). drop i ns) e ∙ drop-length ns in

@@ -8,7 +8,7 @@ use lib.Seq.{sets}
 use Rattle.refusal.specs.Places.{zeroed, filled}
 use Rattle.build.specs.Parts.{Edge, edgesOf, starts}
 use Rattle.build.specs.Links.{Linked, Spelled}
-use Rattle.build.specs.Held.{Chained}
+use Rattle.build.specs.Held.{ZeroFrom, Chained}
 
 abbrev pub bytesOf : List Edge → List ℕ
 bytesOf es = map (λ e. e .byte) es
@@ -59,7 +59,7 @@ pub record NodeLaid (edgeAt edgeN byte to work edgeAt′ edgeN′ byte′ to′ 
 
 -- ---- all nodes
 
--- n nodes are linked, and there is room for them and their edges
+-- n nodes were entered, and there is room for them and their edges
 pub record AllReady (edgeAt edgeN byte to work : List ℕ) (n : ℕ) : Type 0 where
   pub names : List (List ℕ)
   pub links : Linked names work
@@ -69,26 +69,15 @@ pub record AllReady (edgeAt edgeN byte to work : List ℕ) (n : ℕ) : Type 0 wh
   pub room-at : n ≤ length edgeAt
   pub room-byte : n ≤ length byte + 1
   pub room-to : n ≤ length to + 1
+  pub past : ZeroFrom n edgeN
 
-pub record AllDone (ns : List (List ℕ)) (edgeAt edgeN byte to edgeAt′ edgeN′ byte′ to′ : List ℕ) : Type 0 where
-  pub begun : edgeAt′ ≡ sets edgeAt 0 (starts 0 (countsOf ns ns))
-  pub counted : edgeN′ ≡ sets edgeN 0 (countsOf ns ns)
-  pub written : byte′ ≡ sets byte 0 (bytesOf (allEdges ns ns))
-  pub led : to′ ≡ sets to 0 (targetsOf (allEdges ns ns))
-
-pub record AllLaid (edgeAt edgeN byte to work edgeAt′ edgeN′ byte′ to′ : List ℕ) (n : ℕ) : Type 0 where
-  pub laid :
-      (ns : List (List ℕ)) → Linked ns work → Spelled ns 0 edgeN → n ≡ length ns → AllDone ns edgeAt edgeN byte to edgeAt′ edgeN′ byte′ to′
-
--- ---- the parts
-
-pub record OutDone (ns : List (List ℕ)) (edgeAt edgeN byte to work edgeAt′ edgeN′ byte′ to′ work′ : List ℕ) : Type 0 where
+pub record AllDone (ns : List (List ℕ)) (edgeAt edgeN byte to work edgeAt′ edgeN′ byte′ to′ work′ : List ℕ) : Type 0 where
   pub begun : edgeAt′ ≡ filled 0 (starts 0 (countsOf ns ns)) edgeAt
   pub counted : edgeN′ ≡ filled 0 (countsOf ns ns) edgeN
   pub written : byte′ ≡ filled 0 (bytesOf (allEdges ns ns)) byte
   pub led : to′ ≡ filled 0 (targetsOf (allEdges ns ns)) to
   pub unlinked : work′ ≡ zeroed 0 work
 
-pub record LaidOut (edgeAt edgeN byte to work edgeAt′ edgeN′ byte′ to′ work′ : List ℕ) (n : ℕ) : Type 0 where
+pub record AllLaid (edgeAt edgeN byte to work edgeAt′ edgeN′ byte′ to′ work′ : List ℕ) (n : ℕ) : Type 0 where
   pub laid :
-      (ns : List (List ℕ)) → Linked ns work → Spelled ns 0 edgeN → n ≡ length ns → OutDone ns edgeAt edgeN byte to work edgeAt′ edgeN′ byte′ to′ work′
+      (ns : List (List ℕ)) → Linked ns work → Spelled ns 0 edgeN → n ≡ length ns → AllDone ns edgeAt edgeN byte to work edgeAt′ edgeN′ byte′ to′ work′

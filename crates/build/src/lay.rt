@@ -2,8 +2,7 @@
 // are read from their `edge_n` places before those take their own counts.
 use crate::zero::zero8;
 use crate::zero::zero32;
-ghost use Rattle.build.specs.Laying.{ChildrenReady, ChildrenLaid, NodeReady, NodeLaid, AllReady, AllLaid, LaidOut};
-ghost use Rattle.build.specs.Held.{ZeroFrom};
+ghost use Rattle.build.specs.Laying.{ChildrenReady, ChildrenLaid, NodeReady, NodeLaid, AllReady, AllLaid};
 ghost use Rattle.refusal.specs.Lent.{is, was};
 
 // The edges of `node`, from edge number `from` on: the edge number after them.
@@ -50,28 +49,6 @@ fn lay_node(
     end
 }
 
-// All n nodes.
-fn lay_all(
-    edge_at: &mut [u32],
-    edge_n: &mut [u16],
-    byte: &mut [u8],
-    to: &mut [u32],
-    work: &[u32],
-    n: usize,
-)
-    requires { ⌜ AllReady (now «edge_at») (now «edge_n») (now byte) (now to) (now work) n ⌝ }
-    ensures { λ _.
-        ⌜ AllLaid (was «edge_at») (was «edge_n») (was byte) (was to) (was work) (is «edge_at») (is «edge_n») (is byte)
-        (is to) n ⌝ }
-{
-    let mut at: usize = 0;
-    let mut k: usize = 0;
-    while k < n {
-        at = lay_node(edge_at, edge_n, byte, to, work, k, at);
-        k += 1;
-    }
-}
-
 // The n nodes that were entered, into columns that may hold anything, and the work places made zero.
 pub fn lay_out(
     edge_at: &mut [u32],
@@ -81,14 +58,19 @@ pub fn lay_out(
     work: &mut [u32],
     n: usize,
 )
-    requires { ⌜ AllReady (now «edge_at») (now «edge_n») (now byte) (now to) (now work) n × ZeroFrom n (now «edge_n») ⌝ }
+    requires { ⌜ AllReady (now «edge_at») (now «edge_n») (now byte) (now to) (now work) n ⌝ }
     ensures { λ _.
-        ⌜ LaidOut (was «edge_at») (was «edge_n») (was byte) (was to) (was work) (is «edge_at») (is «edge_n») (is byte)
+        ⌜ AllLaid (was «edge_at») (was «edge_n») (was byte) (was to) (was work) (is «edge_at») (is «edge_n») (is byte)
         (is to) (is work) n ⌝ }
 {
     zero32(edge_at);
     zero8(byte);
     zero32(to);
-    lay_all(edge_at, edge_n, byte, to, work, n);
+    let mut at: usize = 0;
+    let mut k: usize = 0;
+    while k < n {
+        at = lay_node(edge_at, edge_n, byte, to, work, k, at);
+        k += 1;
+    }
     zero32(work);
 }
