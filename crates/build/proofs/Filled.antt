@@ -21,8 +21,8 @@ use Rattle.build.specs.Grown.{Grown}
 use Rattle.build.specs.Parts.{edgesOf, starts, lay, trieOf}
 use Rattle.build.specs.Rules.{tokensOf}
 use Rattle.build.specs.Given.{rulesFrom, noRule}
-use Rattle.build.specs.Held.{ZeroFrom, Identified, RowDone}
-use Rattle.build.specs.Laying.{bytesOf, targetsOf, allEdges, countsOf, AllReady, AllDone}
+use Rattle.build.specs.Held.{ZeroFrom, Identified, Held, RowDone}
+use Rattle.build.specs.Laying.{bytesOf, targetsOf, AllReady}
 use Rattle.build.specs.Memory.{Memory, memory, cleared, holding}
 use Rattle.build.specs.Promise.{trieIn}
 use Rattle.build.specs.Checked.{roomOf, nodesOf, BuiltOf, Finishable, Finished}
@@ -31,7 +31,7 @@ use Rattle.build.proofs.Laid.{getD-map-of, length-starts}
 use Rattle.build.proofs.Counted.{count-names}
 use Rattle.build.proofs.Zeros.{getD-zeros, zero-from, length-zeroed}
 use Rattle.build.proofs.Rooms.{room-for}
-use Rattle.build.proofs.Out.{Written}
+use Rattle.build.proofs.Out.{allEdges, countsOf, Written}
 use Rattle.build.proofs.Ruled.{trie-given}
 
 -- ---- zeros
@@ -80,48 +80,6 @@ ready-again {edgeAt = edgeAt} {byte = byte} {to = to} {edgeAt′ = edgeAt′} {b
       past = r .past;
     }
 
-module _ {ns : List²} (g : Grown ns) {edgeAt edgeN byte to work : List ℕ} {n : ℕ} (count : n ≡ length ns)
-    (r : AllReady edgeAt edgeN byte to work n) where
-  length-counts : length (countsOf ns ns) ≡ length ns
-  length-counts = length-map (map (edgesOf ns) ns) length ∙ length-map ns (edgesOf ns)
-
-  length-begun : length (starts 0 (countsOf ns ns)) ≡ length ns
-  length-begun = length-starts (countsOf ns ns) 0 ∙ length-counts
-
-  few-bytes : length (bytesOf (allEdges ns ns)) ≡ length ns - 1
-  few-bytes = length-map (allEdges ns ns) (λ e. e .byte) ∙ count-names g
-
-  few-targets : length (targetsOf (allEdges ns ns)) ≡ length ns - 1
-  few-targets = length-map (allEdges ns ns) (λ e. e .to) ∙ count-names g
-
-  pub out-done :
-      {edgeAt₁ byte₁ to₁ edgeAt′ edgeN′ byte′ to′ work′ : List ℕ} → edgeAt₁ ≡ zeroed 0 edgeAt → byte₁ ≡ zeroed 0 byte
-      → to₁ ≡ zeroed 0 to → Written ns edgeAt₁ edgeN byte₁ to₁ edgeAt′ edgeN′ byte′ to′ → work′ ≡ zeroed 0 work
-      → AllDone ns edgeAt edgeN byte to work edgeAt′ edgeN′ byte′ to′ work′
-  out-done {edgeAt₁ = edgeAt₁} {byte₁ = byte₁} {to₁ = to₁} p q s d w =
-      record {
-        begun =
-            d .begun
-            ∙ filled-sets (starts 0 (countsOf ns ns)) edgeAt₁ edgeAt (length-zeroed edgeAt edgeAt₁ p)
-            (omega (arith, length-begun, length-zeroed edgeAt edgeAt₁ p, r .room-at))
-            (zero-from edgeAt edgeAt₁ (length (starts 0 (countsOf ns ns))) p);
-        counted =
-            d .counted
-            ∙ filled-sets (countsOf ns ns) edgeN edgeN refl (omega (arith, length-counts, r .bytes .room, r .count))
-            (λ k h. r .past k (omega (arith, length-counts)));
-        written =
-            d .written
-            ∙ filled-sets (bytesOf (allEdges ns ns)) byte₁ byte (length-zeroed byte byte₁ q)
-            (omega (arith, few-bytes, grown-some g, length-zeroed byte byte₁ q, r .room-byte))
-            (zero-from byte byte₁ (length (bytesOf (allEdges ns ns))) q);
-        led =
-            d .led
-            ∙ filled-sets (targetsOf (allEdges ns ns)) to₁ to (length-zeroed to to₁ s)
-            (omega (arith, few-targets, grown-some g, length-zeroed to to₁ s, r .room-to))
-            (zero-from to to₁ (length (targetsOf (allEdges ns ns))) s);
-        unlinked = w;
-      }
-
 -- ---- the id column
 
 module _ (ns : List²) (g : Grown ns) (rule : List ℕ → Option ℕ) (id before : List ℕ) (h : Identified ns rule id)
@@ -156,6 +114,52 @@ module _ (ns : List²) (g : Grown ns) (rule : List ℕ → Option ℕ) (id befor
           ∙ sym (getD-zeros (length before - length marks) (i - length marks))
           ∙ sym (getD-append-add marks (replicate (length before - length marks) 0) (i - length marks) 0)
           ∙ ap (λ (k : ℕ). getD (filled 0 marks before) k 0) z
+
+-- ---- the nodes laid out
+
+module _ {ns : List²} {rule : List ℕ → Option ℕ} {edgeAt edgeN id byte to work : List ℕ} {n : ℕ} (h : Held ns rule edgeN id work)
+    (count : n ≡ length ns) (r : AllReady edgeAt edgeN byte to work n) where
+  abbrev grown : Grown ns
+  grown = h .links .grown
+
+  length-counts : length (countsOf ns ns) ≡ length ns
+  length-counts = length-map (map (edgesOf ns) ns) length ∙ length-map ns (edgesOf ns)
+
+  length-begun : length (starts 0 (countsOf ns ns)) ≡ length ns
+  length-begun = length-starts (countsOf ns ns) 0 ∙ length-counts
+
+  few-bytes : length (bytesOf (allEdges ns ns)) ≡ length ns - 1
+  few-bytes = length-map (allEdges ns ns) (λ e. e .byte) ∙ count-names grown
+
+  few-targets : length (targetsOf (allEdges ns ns)) ≡ length ns - 1
+  few-targets = length-map (allEdges ns ns) (λ e. e .to) ∙ count-names grown
+
+  pub all-laid :
+      {edgeAt₁ byte₁ to₁ edgeAt′ edgeN′ byte′ to′ work′ : List ℕ} → edgeAt₁ ≡ zeroed 0 edgeAt → byte₁ ≡ zeroed 0 byte
+      → to₁ ≡ zeroed 0 to → Written ns edgeAt₁ edgeN byte₁ to₁ edgeAt′ edgeN′ byte′ to′ → work′ ≡ zeroed 0 work
+      → memory edgeAt′ edgeN′ id byte′ to′ work′ ≡ holding (lay rule ns) [] (memory edgeAt edgeN id byte to work)
+  unfolding holding lay
+  all-laid {edgeAt₁ = edgeAt₁} {byte₁ = byte₁} {to₁ = to₁} p q s d w =
+      let begun =
+      d .begun
+      ∙ filled-sets (starts 0 (countsOf ns ns)) edgeAt₁ edgeAt (length-zeroed edgeAt edgeAt₁ p)
+      (omega (arith, length-begun, length-zeroed edgeAt edgeAt₁ p, r .room-at))
+      (zero-from edgeAt edgeAt₁ (length (starts 0 (countsOf ns ns))) p) in
+      let counted =
+      d .counted
+      ∙ filled-sets (countsOf ns ns) edgeN edgeN refl (omega (arith, length-counts, h .bytes .room))
+      (λ k l. h .past k (omega (arith, length-counts))) in
+      let written =
+      d .written
+      ∙ filled-sets (bytesOf (allEdges ns ns)) byte₁ byte (length-zeroed byte byte₁ q)
+      (omega (arith, few-bytes, grown-some grown, length-zeroed byte byte₁ q, r .room-byte))
+      (zero-from byte byte₁ (length (bytesOf (allEdges ns ns))) q) in
+      let led =
+      d .led
+      ∙ filled-sets (targetsOf (allEdges ns ns)) to₁ to (length-zeroed to to₁ s)
+      (omega (arith, few-targets, grown-some grown, length-zeroed to to₁ s, r .room-to))
+      (zero-from to to₁ (length (targetsOf (allEdges ns ns))) s) in
+      λ i. memory (begun i) (counted i) (ids-filled ns grown rule id id (h .marks) refl i) (written i) (led i) (w i)
 
 -- ---- the build
 
@@ -193,24 +197,18 @@ module _ {edgeAt edgeN id byte to work : List ℕ} {room n : ℕ} where
         }
 
     pub built-done :
-        (fits : n ≤ room) {edgeAt′ edgeN′ byte′ to′ work′ : List ℕ}
-        → AllDone (names (tokensOf tab rows)) edgeAt edgeN byte to work edgeAt′ edgeN′ byte′ to′ work′
-        → BuiltOf kind tab rows room (memory edgeAt edgeN id byte to work) (memory edgeAt′ edgeN′ id byte′ to′ work′) (Nodes n)
-    unfolding holding lay trieOf
-    built-done fits {edgeAt′ = edgeAt′} {edgeN′ = edgeN′} {byte′ = byte′} {to′ = to′} {work′ = work′} d =
+        (fits : n ≤ room) {after : Memory}
+        → after ≡ holding (lay (rulesFrom kind tab noRule 0 rows) (names (tokensOf tab rows))) [] (memory edgeAt edgeN id byte to work)
+        → BuiltOf kind tab rows room (memory edgeAt edgeN id byte to work) after (Nodes n)
+    unfolding trieOf
+    built-done fits e =
         let ns = names (tokensOf tab rows) in
         let before = memory edgeAt edgeN id byte to work in
-        let rule = rulesFrom kind tab noRule 0 rows in
-        let held = done .held fits in
         let room-left : ltb room (length ns) ≡ false = le-ltb room (length ns) (omega (arith, done .count fits)) in
-        let holds : memory edgeAt′ edgeN′ id byte′ to′ work′ ≡ holding (trieOf rule (tokensOf tab rows)) [] before =
-        λ i.
-        memory (d .begun i) (d .counted i) (ids-filled ns (held .links .grown) rule id id (held .marks) refl i) (d .written i)
-        (d .led i) (d .unlinked i) in
         record {
           answered = ap Nodes (done .count fits) ∙ sym (ap (λ (t : Bool). cond t NoRoom (Nodes (length ns))) room-left);
           left =
-              holds ∙ ap (λ t. holding t [] before) (trie-given kind tab rows)
+              e ∙ ap (λ t. holding t [] before) (trie-given kind tab rows)
               ∙ sym (ap (λ (t : Bool). cond t (cleared before) (holding (trieIn kind tab rows) [] before)) room-left);
         }
 

@@ -9,7 +9,7 @@ use lib.Seq.{sets, drop-cons, drop-length, getD-set-other}
 use Rattle.build.specs.Parts.{Edge, edgesOf, starts}
 use Rattle.build.specs.Links.{Linked, Spelled}
 use Rattle.build.specs.Held.{Chained}
-use Rattle.build.specs.Laying.{bytesOf, targetsOf, allEdges, countsOf, NodeDone}
+use Rattle.build.specs.Laying.{bytesOf, targetsOf, NodeDone}
 use Rattle.build.proofs.Grown.{List², grown-distinct}
 use Rattle.build.proofs.Laid.{starts-cons, flatten-cons}
 use Rattle.build.proofs.Counted.{total, total-one, count-edges}
@@ -23,6 +23,14 @@ sets-append (v ∷ vs) ws l i =
 map-join : (f : Edge → ℕ) (l m : List Edge) → map f (l ++ m) ≡ map f l ++ map f m
 map-join f [] m = refl
 map-join f (x ∷ l) m = ap {B = List ℕ} (λ r. f x ∷ r) (map-join f l m)
+
+-- the edges of the nodes ms
+abbrev pub allEdges : List² → List² → List Edge
+allEdges ns ms = flatten (map (edgesOf ns) ms)
+
+-- how many edges each of the nodes ms has
+abbrev pub countsOf : List² → List² → List ℕ
+countsOf ns ms = map length (map (edgesOf ns) ms)
 
 -- ---- the first k nodes are laid out
 

@@ -1,28 +1,21 @@
 -- What laying out the nodes asks and promises. As in entering, a step speaks of the names that the columns hold. Definitions only; assumes
 -- nothing.
 use mathlib.Core.Path.{_≡_}
-use mathlib.Core.List.{List, map, flatten}
+use mathlib.Core.List.{List, [], map}
+use mathlib.Core.Option.{Option}
 use Prim.Native.Nat.{ℕ, _+_, _≤_, _<_}
 use lib.ListN.{length, set}
 use lib.Seq.{sets}
-use Rattle.refusal.specs.Places.{zeroed, filled}
-use Rattle.build.specs.Parts.{Edge, edgesOf, starts}
+use Rattle.build.specs.Parts.{Edge, edgesOf, lay}
 use Rattle.build.specs.Links.{Linked, Spelled}
-use Rattle.build.specs.Held.{ZeroFrom, Chained}
+use Rattle.build.specs.Held.{ZeroFrom, Held, Chained}
+use Rattle.build.specs.Memory.{memory, holding}
 
 abbrev pub bytesOf : List Edge → List ℕ
 bytesOf es = map (λ e. e .byte) es
 
 abbrev pub targetsOf : List Edge → List ℕ
 targetsOf es = map (λ e. e .to) es
-
--- the edges of the nodes ms
-abbrev pub allEdges : List (List ℕ) → List (List ℕ) → List Edge
-allEdges ns ms = flatten (map (edgesOf ns) ms)
-
--- how many edges each of the nodes ms has
-abbrev pub countsOf : List (List ℕ) → List (List ℕ) → List ℕ
-countsOf ns ms = map length (map (edgesOf ns) ms)
 
 -- ---- the edges of one node
 
@@ -71,13 +64,8 @@ pub record AllReady (edgeAt edgeN byte to work : List ℕ) (n : ℕ) : Type 0 wh
   pub room-to : n ≤ length to + 1
   pub past : ZeroFrom n edgeN
 
-pub record AllDone (ns : List (List ℕ)) (edgeAt edgeN byte to work edgeAt′ edgeN′ byte′ to′ work′ : List ℕ) : Type 0 where
-  pub begun : edgeAt′ ≡ filled 0 (starts 0 (countsOf ns ns)) edgeAt
-  pub counted : edgeN′ ≡ filled 0 (countsOf ns ns) edgeN
-  pub written : byte′ ≡ filled 0 (bytesOf (allEdges ns ns)) byte
-  pub led : to′ ≡ filled 0 (targetsOf (allEdges ns ns)) to
-  pub unlinked : work′ ≡ zeroed 0 work
-
+-- whichever nodes and ids the columns held, their parts stand in them now
 pub record AllLaid (edgeAt edgeN byte to work edgeAt′ edgeN′ byte′ to′ work′ : List ℕ) (n : ℕ) : Type 0 where
   pub laid :
-      (ns : List (List ℕ)) → Linked ns work → Spelled ns 0 edgeN → n ≡ length ns → AllDone ns edgeAt edgeN byte to work edgeAt′ edgeN′ byte′ to′ work′
+      (ns : List (List ℕ)) (rule : List ℕ → Option ℕ) (id : List ℕ) → Held ns rule edgeN id work → n ≡ length ns
+      → memory edgeAt′ edgeN′ id byte′ to′ work′ ≡ holding (lay rule ns) [] (memory edgeAt edgeN id byte to work)

@@ -9,7 +9,7 @@ use lib.ListN.{length}
 use Rattle.build.specs.Links.{Linked, Spelled}
 use Rattle.build.specs.Laying.{AllReady}
 use Rattle.build.proofs.Out.{chained-at, LaidTo, laid-start, laid-few, laid-turn, laid-end}
-use Rattle.build.proofs.Filled.{ready-again, out-done}
+use Rattle.build.proofs.Filled.{ready-again, all-laid}
 use Rattle.build.proofs.lay.lay_out.Statement.{statement}
 use Rattle.build.proofs.lay.lay_out.Tie as tie
 
@@ -132,9 +132,9 @@ returns c =
     let b = byte-zero t in
     let s = starts-zero b in
     record {
-      laid = λ ns l sp n.
-          out-done (l .grown) n (start s .pre) (s .zero32 .ensures) (b .zero8 .ensures) (t .zero322 .ensures)
-          (laid-end (h .loop .inv .2 ns l sp n) (omega (arith, e .loop-test .left, h .loop .inv .0))) (w .zero323 .ensures);
+      laid = λ ns rule id held n.
+          all-laid held n (start s .pre) (s .zero32 .ensures) (b .zero8 .ensures) (t .zero322 .ensures)
+          (laid-end (h .loop .inv .2 ns (held .links) (held .bytes) n) (omega (arith, e .loop-test .left, h .loop .inv .0))) (w .zero323 .ensures);
     }
 
 pub lay-out-spec : {M : Type 1} → statement M

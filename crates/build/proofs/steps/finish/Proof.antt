@@ -2,6 +2,7 @@
 use borrow.Author.Needs.{needs}
 use Rattle.build.specs.Names.{names}
 use Rattle.build.specs.Rules.{tokensOf}
+use Rattle.build.specs.Given.{rulesFrom, noRule}
 use Rattle.build.proofs.Filled.{finish-ready, built-full, built-done}
 use Rattle.build.proofs.steps.finish.Statement.{statement}
 use Rattle.build.proofs.steps.finish.Tie as tie
@@ -55,11 +56,13 @@ lay-out-requires c κs = let b = fitting c in finish-ready (entry (b .before) .p
 returns-2 : tie.Need-returns-2
 returns-2 c =
     let o = laid c in
-    let fits = fitting (o .before) .if1 .left in
+    let b = fitting (o .before) in
+    let fits = b .if1 .left in
+    let id = entry (b .before) .args .id .now in
     record {
       built = λ kind tab rows done.
-          let h = done .held fits in
-          built-done done fits (o .lay-out .ensures .laid (names (tokensOf tab rows)) (h .links) (h .bytes) (done .count fits));
+          built-done done fits
+          (o .lay-out .ensures .laid (names (tokensOf tab rows)) (rulesFrom kind tab noRule 0 rows) id (done .held fits) (done .count fits));
     }
 
 pub finish-spec : {M : Type 1} → statement M
