@@ -77,7 +77,6 @@ ready-again {edgeAt = edgeAt} {byte = byte} {to = to} {edgeAt′ = edgeAt′} {b
       room-at = omega (arith, length-zeroed edgeAt edgeAt′ p, r .room-at);
       room-byte = omega (arith, length-zeroed byte byte′ q, r .room-byte);
       room-to = omega (arith, length-zeroed to to′ s, r .room-to);
-      past = r .past;
     }
 
 -- ---- the id column
@@ -179,7 +178,6 @@ module _ {edgeAt edgeN id byte to work : List ℕ} {room n : ℕ} where
         room-at = omega (arith, every .starts);
         room-byte = omega (arith, every .bytes);
         room-to = omega (arith, every .targets);
-        past = λ k p. held .past k (omega (arith, count));
       }
 
   module _ {kind : Kind} {tab : List ℕ} {rows : List Row}

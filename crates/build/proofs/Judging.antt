@@ -25,7 +25,7 @@ use Rattle.build.specs.Names.{names}
 use Rattle.build.specs.Rules.{tokensOf, firstRow, idOfWorth, unigramTrie}
 use Rattle.build.specs.Parts.{trieOf}
 use Rattle.build.specs.Given.{given}
-use Rattle.build.specs.Held.{Judged}
+use Rattle.build.specs.Held.{LevelRows}
 use Rattle.build.specs.Memory.{Memory, cleared, holding}
 use Rattle.build.specs.Promise.{trieIn}
 use Rattle.build.specs.Checked.{nodesOf, builtAnswer, BuiltOf}
@@ -43,7 +43,7 @@ module _ (kind : Kind) (tab : List ℕ) (c : Columns) (fine : columnsFault kind 
   few-rows = omega (arith, rows-length c, rows-few kind tab c fine)
 
   -- what the core asks
-  pub judged : Judged kind tab (c .off) (c .len) (c .id)
+  pub judged : LevelRows kind tab (c .off) (c .len) (c .id)
   judged =
       let flat = columns-level kind tab c fine in
       record {

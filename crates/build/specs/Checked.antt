@@ -21,8 +21,9 @@ use Rattle.build.specs.Promise.{trieIn}
 -- places; a node's number fits a u32
 abbrev pub roomOf : Memory → ℕ
 roomOf m =
-    min (min (min (length (m .parts .edgeAt)) (length (m .parts .edgeN))) (min (length (m .parts .id)) (length (m .parts .byte) + 1)))
-    (min (min (length (m .parts .to) + 1) (length (m .work) / 2)) 4_294_967_295)
+    let t = m .parts in
+    min (min (min (length (t .edgeAt)) (length (t .edgeN))) (min (length (t .id)) (length (t .byte) + 1)))
+    (min (min (length (t .to) + 1) (length (m .work) / 2)) 4_294_967_295)
 
 -- N: "1 plus the number of distinct non-empty prefixes of tokens"
 abbrev pub nodesOf : List ℕ → List Row → ℕ
@@ -50,5 +51,6 @@ pub record Finishable (room : ℕ) (m : Memory) (n : ℕ) : Type 0 where
 pub record Finished (room : ℕ) (before after : Memory) (n : ℕ) (answer : Built) : Type 0 where
   pub built :
       (kind : Kind) (tab : List ℕ) (rows : List Row)
-      → RowDone (names (tokensOf tab rows)) (rulesFrom kind tab noRule 0 rows) room (before .parts .edgeN) (before .parts .id) (before .work) n
+      → RowDone (names (tokensOf tab rows)) (rulesFrom kind tab noRule 0 rows) room (before .parts .edgeN) (before .parts .id)
+      (before .work) n
       → BuiltOf kind tab rows room before after answer

@@ -34,7 +34,8 @@ marked kind (b ∷ t) v rule s = cond (same s (b ∷ t)) (kept kind (rule s) v) 
 -- the ids once these rows are entered, the first of which is row i
 unfoldable pub rulesFrom : Kind → List ℕ → (List ℕ → Option ℕ) → ℕ → List Row → List ℕ → Option ℕ
 rulesFrom kind tab rule i [] = rule
-rulesFrom kind tab rule i (r ∷ rs) = rulesFrom kind tab (marked kind (tokenOf tab r) (valueOf kind i (idOfWorth (r .worth))) rule) (suc i) rs
+rulesFrom kind tab rule i (r ∷ rs) =
+    rulesFrom kind tab (marked kind (tokenOf tab r) (valueOf kind i (idOfWorth (r .worth))) rule) (suc i) rs
 
 abbrev pub noRule : List ℕ → Option ℕ
 noRule s = none

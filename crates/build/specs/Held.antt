@@ -111,14 +111,8 @@ pub record RowEntered (edgeN id work edgeN′ id′ work′ : List ℕ) (kind : 
 -- ---- all rows
 
 -- The rows' columns are level and their tokens stand in the table. For Unigram the row's own id is not looked at.
-pub record Judged (kind : Kind) (tab off len ids : List ℕ) : Type 0 where
+pub record LevelRows (kind : Kind) (tab off len ids : List ℕ) : Type 0 where
   pub level : length len ≡ length off
   pub own : kind ≡ WordPiece → length ids ≡ length off
   pub few : length off ≤ maxRows
   pub inside : (i : ℕ) → i < length off → getD off i 0 + getD len i 0 ≤ length tab
-
--- row i may be entered
-pub record RowReady (kind : Kind) (tab off len ids edgeN id work : List ℕ) (room n i : ℕ) : Type 0 where
-  pub judged : Judged kind tab off len ids
-  pub there : i < length off
-  pub enterable : Enterable edgeN id work room 0 n

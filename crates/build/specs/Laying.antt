@@ -8,7 +8,7 @@ use lib.ListN.{length, set}
 use lib.Seq.{sets}
 use Rattle.build.specs.Parts.{Edge, edgesOf, lay}
 use Rattle.build.specs.Links.{Linked, Spelled}
-use Rattle.build.specs.Held.{ZeroFrom, Held, Chained}
+use Rattle.build.specs.Held.{Held, Chained}
 use Rattle.build.specs.Memory.{memory, holding}
 
 abbrev pub bytesOf : List Edge → List ℕ
@@ -48,7 +48,9 @@ pub record NodeDone (ns : List (List ℕ)) (s edgeAt edgeN byte to edgeAt′ edg
   pub children : ChildrenDone ns s byte to byte′ to′ at end
 
 pub record NodeLaid (edgeAt edgeN byte to work edgeAt′ edgeN′ byte′ to′ : List ℕ) (node at end : ℕ) : Type 0 where
-  pub laid : (c : Chained edgeN work node node) → NodeDone (c .names) (c .string) edgeAt edgeN byte to edgeAt′ edgeN′ byte′ to′ node at end
+  pub laid :
+      (c : Chained edgeN work node node)
+      → NodeDone (c .names) (c .string) edgeAt edgeN byte to edgeAt′ edgeN′ byte′ to′ node at end
 
 -- ---- all nodes
 
@@ -62,7 +64,6 @@ pub record AllReady (edgeAt edgeN byte to work : List ℕ) (n : ℕ) : Type 0 wh
   pub room-at : n ≤ length edgeAt
   pub room-byte : n ≤ length byte + 1
   pub room-to : n ≤ length to + 1
-  pub past : ZeroFrom n edgeN
 
 -- whichever nodes and ids the columns held, their parts stand in them now
 pub record AllLaid (edgeAt edgeN byte to work edgeAt′ edgeN′ byte′ to′ work′ : List ℕ) (n : ℕ) : Type 0 where

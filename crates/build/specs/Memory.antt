@@ -56,7 +56,8 @@ anyBelow n (l ∷ ls) = ltb l n || anyBelow n ls
 unfoldable pub noRoom : ℕ → Memory → Bool
 noRoom n m =
     let t = m .parts in
-    anyBelow n (length (t .edgeAt) ∷ length (t .edgeN) ∷ length (t .id) ∷ []) || anyBelow (n - 1) (length (t .byte) ∷ length (t .to) ∷ []) || ltb (length (m .work)) (2 * n)
+    anyBelow n (length (t .edgeAt) ∷ length (t .edgeN) ∷ length (t .id) ∷ [])
+    || anyBelow (n - 1) (length (t .byte) ∷ length (t .to) ∷ []) || ltb (length (m .work)) (2 * n)
 
 -- the same where a score column is lent
 unfoldable pub noScoredRoom : ℕ → Memory → Bool

@@ -6,7 +6,7 @@ use rows::Kind;
 ghost use mathlib.Core.Path.{_≡_};
 ghost use Prim.Native.Nat.{_≤_, min};
 ghost use Rattle.build.specs.Given.{given};
-ghost use Rattle.build.specs.Held.{Judged};
+ghost use Rattle.build.specs.Held.{LevelRows};
 ghost use Rattle.build.specs.Memory.{memoryIs, memoryNow, memoryWas};
 ghost use Rattle.build.specs.Checked.{roomOf, BuiltOf};
 ghost use Rattle.refusal.specs.Lent.{was};
@@ -52,7 +52,7 @@ pub fn build(
     work: &mut [u32],
     room: usize,
 ) -> Built
-    requires { ⌜ Judged kind (now tab) (now off) (now len) (now ids) × (room ≤ roomOf
+    requires { ⌜ LevelRows kind (now tab) (now off) (now len) (now ids) × (room ≤ roomOf
         (memoryNow «edge_at» «edge_n» id byte to work)) ⌝ }
     ensures { λ r.
         ⌜ BuiltOf kind (was tab) (given (was off) (was len) (was ids)) room

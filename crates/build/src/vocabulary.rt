@@ -11,7 +11,7 @@ ghost use Rattle.rows.specs.declared.Kind.the-variants.{WordPiece};
 ghost use Rattle.build.specs.Names.{names};
 ghost use Rattle.build.specs.Rules.{tokensOf};
 ghost use Rattle.build.specs.Given.{given, valueOf, rulesFrom, noRule};
-ghost use Rattle.build.specs.Held.{RowEntered, RowDone, Judged, RowReady, Roomy};
+ghost use Rattle.build.specs.Held.{RowEntered, RowDone, LevelRows, Enterable, Roomy};
 ghost use Rattle.refusal.specs.Lent.{is, was};
 
 // The id of row i.
@@ -39,7 +39,8 @@ fn enter_row(
     room: usize,
     n: usize,
 ) -> usize
-    requires { ⌜ RowReady kind (now tab) (now off) (now len) (now ids) (now «edge_n») (now id) (now work) room n i ⌝ }
+    requires { ⌜ LevelRows kind (now tab) (now off) (now len) (now ids) × (i < length (now off)) ×
+        Enterable (now «edge_n») (now id) (now work) room 0 n ⌝ }
     ensures { λ r.
         ⌜ RowEntered (was «edge_n») (was id) (was work) (is «edge_n») (is id) (is work) kind room n
         (spanOf (was tab) (getD (was off) i 0) (getD (was len) i 0)) (valueOf kind i (getD (was ids) i 0)) r ⌝ }
@@ -62,7 +63,7 @@ pub fn enter_rows(
     work: &mut [u32],
     room: usize,
 ) -> usize
-    requires { ⌜ Judged kind (now tab) (now off) (now len) (now ids) × Roomy room (now «edge_n») (now id) (now work) ⌝ }
+    requires { ⌜ LevelRows kind (now tab) (now off) (now len) (now ids) × Roomy room (now «edge_n») (now id) (now work) ⌝ }
     ensures { λ r.
         ⌜ RowDone (names (tokensOf (was tab) (given (was off) (was len) (was ids)))) (rulesFrom kind (was tab) noRule 0
         (given (was off) (was len) (was ids))) room (is «edge_n») (is id) (is work) r ⌝ }

@@ -37,13 +37,13 @@ use Rattle.coder.specs.Columns.{vocabularyOf}
 use Rattle.pack.specs.declared.PackAnswer.{PackAnswer}
 use Rattle.pack.specs.declared.PackAnswer.the-variants as answer-is
 use Rattle.pack.specs.Pack.{headerOf, laidOut, rowsOf, stringsOf, prefixOf}
-use Rattle.pack.specs.Build.{nodesOf, packFault, theKind, modelOf, PackBuilt}
+use Rattle.pack.specs.Build.{nodesOf, packFault, theKind, unigramModel, PackBuilt}
 use Rattle.pack.proofs.Headers.{kind-laid}
 use Rattle.pack.proofs.Determinacy as determined
 use Rattle.pack.proofs.BuiltPacks as packs
 use Rattle.output.specs.Lines.{printedRefusal}
 use Rattle.output.specs.Output.{maxPack, places, lentMemory, scorePlaces, codedLine, vocabularyIn, linesPrinted, outputOf, output}
-use Rattle.output.specs.Cut.{PrefixGiven, Cuttable, cutTo, Judged}
+use Rattle.output.specs.Cut.{PrefixGiven, Cuttable, cutTo, LentBuilt}
 
 -- ---- a pack that is too large
 
@@ -108,7 +108,7 @@ module _ (pack edgeAt edgeN id : List ℕ) (scores : List Float) (byte to : List
   after work = withScores (memory edgeAt edgeN id byte to work) (map units scores)
 
   -- the lent columns have room for so many nodes
-  cuttable : {answer : PackAnswer} {n : ℕ} → Judged pack answer edgeAt edgeN id scores byte to → (1 ≤ n) × (n ≤ 4_096) → Cuttable n edgeAt edgeN id scores byte to
+  cuttable : {answer : PackAnswer} {n : ℕ} → LentBuilt pack answer edgeAt edgeN id scores byte to → (1 ≤ n) × (n ≤ 4_096) → Cuttable n edgeAt edgeN id scores byte to
   cuttable j m =
       let p = j .places in
       record {
@@ -122,13 +122,13 @@ module _ (pack edgeAt edgeN id : List ℕ) (scores : List Float) (byte to : List
       }
 
   pub judged-refused :
-      {r : Reason} (input : List ℕ) → Judged pack (answer-is.Refused r) edgeAt edgeN id scores byte to
+      {r : Reason} (input : List ℕ) → LentBuilt pack (answer-is.Refused r) edgeAt edgeN id scores byte to
       → printedRefusal (ascii "pack ") (faultOf r) ≡ outputOf pack input
   judged-refused {r = r} input j = fault-some pack input (determined.refused-exactly pack lentMemory (answer-is.Refused r) (after (j .work)) (j .built) r .0 refl)
 
   -- ---- Unigram
 
-  module _ (n unknown : ℕ) (lowest : Float) (j : Judged pack (answer-is.Unigram n unknown lowest) edgeAt edgeN id scores byte to) where
+  module _ (n unknown : ℕ) (lowest : Float) (j : LentBuilt pack (answer-is.Unigram n unknown lowest) edgeAt edgeN id scores byte to) where
     abbrev left : Memory
     left = after (j .work)
 
@@ -150,7 +150,7 @@ module _ (pack edgeAt edgeN id : List ℕ) (scores : List Float) (byte to : List
     abbrev cut : Model
     cut = work.modelOf (take n edgeAt) (take n edgeN) (take n id) (take n scores) (take (n - 1) byte) (take (n - 1) to) unknown lowest
 
-    cut-is : cut ≡ modelOf pack
+    cut-is : cut ≡ unigramModel pack
     cut-is =
         ap
         (λ (xs : List Double). record {
@@ -171,7 +171,7 @@ module _ (pack edgeAt edgeN id : List ℕ) (scores : List Float) (byte to : List
 
   -- ---- WordPiece
 
-  module _ (n unknown most off len : ℕ) (j : Judged pack (answer-is.WordPiece n unknown most off len) edgeAt edgeN id scores byte to) where
+  module _ (n unknown most off len : ℕ) (j : LentBuilt pack (answer-is.WordPiece n unknown most off len) edgeAt edgeN id scores byte to) where
     abbrev left′ : Memory
     left′ = after (j .work)
 

@@ -36,7 +36,7 @@ cutTo coder n edgeAt edgeN id score byte to prefix =
     vocabularyOf coder (take n edgeAt) (take n edgeN) (take n id) (take n score) (take (n - 1) byte) (take (n - 1) to) prefix
 
 -- the pack was judged, and built where it is fine, in the columns that the program lends; what the work places hold afterwards is no matter
-pub record Judged (pack : List ℕ) (answer : PackAnswer) (edgeAt edgeN id : List ℕ) (scores : List Float) (byte to : List ℕ) : Type 0 where
+pub record LentBuilt (pack : List ℕ) (answer : PackAnswer) (edgeAt edgeN id : List ℕ) (scores : List Float) (byte to : List ℕ) : Type 0 where
   pub work : List ℕ
   pub built : PackBuilt pack lentMemory answer (withScores (memory edgeAt edgeN id byte to work) (map units scores))
   pub small : length pack ≤ 65_536

@@ -17,7 +17,7 @@ use Rattle.build.specs.Promise.{trieIn}
 use Rattle.unigram.specs.Segment.{Lengths, lengths}
 use Rattle.coder.specs.Vocabulary.{Vocabulary, unigramOf, wordpieceOf, faultIn, idsIn}
 use Rattle.pack.specs.Pack.{headerOf, rowsOf, stringsOf, prefixOf}
-use Rattle.pack.specs.Build.{packFault, theKind, modelOf}
+use Rattle.pack.specs.Build.{packFault, theKind, unigramModel}
 use Rattle.output.specs.Lines.{lines, printedIds, printedRefusal}
 
 -- "reads `vocab.pack` (at most 65,536 bytes)"
@@ -56,7 +56,7 @@ codedLine v line = printed (faultIn v line lentPlaces) (idsIn v line)
 
 -- the vocabulary of a pack of this kind that is not refused
 unfoldable pub vocabularyIn : Kind → List ℕ → Vocabulary
-vocabularyIn Unigram bytes = unigramOf (modelOf bytes)
+vocabularyIn Unigram bytes = unigramOf (unigramModel bytes)
 vocabularyIn WordPiece bytes =
     let h = headerOf bytes in
     wordpieceOf (trieIn WordPiece (stringsOf bytes) (rowsOf WordPiece bytes)) (h .unknown) (h .«max_chars») (prefixOf bytes)

@@ -12,7 +12,7 @@ ghost use lib.ListN.{length};
 ghost use Rattle.pack.specs.Pack.{headerOf};
 ghost use Rattle.output.specs.Output.{codedLine, linesPrinted, outputOf, output, maxOutput};
 ghost use Rattle.output.specs.Put.{Put};
-ghost use Rattle.output.specs.Cut.{PrefixGiven, Cuttable, cutTo, Judged};
+ghost use Rattle.output.specs.Cut.{PrefixGiven, Cuttable, cutTo, LentBuilt};
 ghost use Rattle.refusal.specs.Lent.{is, was};
 
 // The largest pack and the most input, in bytes.
@@ -85,7 +85,7 @@ fn print_built(
     input: &[u8],
     out: &mut [u8],
 ) -> usize
-    requires { ⌜ Judged (now pack) answer (now «edge_at») (now «edge_n») (now id) (now score) (now byte) (now to)
+    requires { ⌜ LentBuilt (now pack) answer (now «edge_at») (now «edge_n») (now id) (now score) (now byte) (now to)
         × (maxOutput ≤ length (now out)) ⌝ }
     ensures { λ r. ⌜ Put (was out) 0 (outputOf (was pack) (was input)) r (is out) ⌝ }
 {

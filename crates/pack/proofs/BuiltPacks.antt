@@ -40,7 +40,7 @@ use Rattle.wordpiece.proofs.BuiltTries as words
 use Rattle.pack.specs.declared.header.Header.{Header}
 use Rattle.pack.specs.declared.PackAnswer.the-variants as answer-is
 use Rattle.pack.specs.Pack.{headerOf, kindOf, rowsOf, stringsOf, prefixOf}
-use Rattle.pack.specs.Build.{nodesOf, contentFault, packJudged, packFault, Report, unigram, wordpiece, told, reportOf, theKind, modelOf, PackBuilt}
+use Rattle.pack.specs.Build.{nodesOf, contentFault, packJudged, packFault, Report, unigram, wordpiece, told, reportOf, theKind, unigramModel, PackBuilt}
 use Rattle.pack.specs.Reading.{PackFine}
 use Rattle.pack.proofs.Faults.{judged-wrong, judged-laid, rows-fine, prefix-inside, prefix-text}
 use Rattle.pack.proofs.Scoring.{scores-length, scores-at}
@@ -198,8 +198,8 @@ module _ (bytes : List ℕ) (m after : Memory) (n unknown : ℕ) (lowest : Float
   abbrev pub given : Model
   given = tries.modelIn n after (record { id = unknown; score = units lowest })
 
-  pub unigram-model : tries.modelIn n after (record { id = unknown; score = units lowest }) ≡ modelOf bytes
-  unfolding modelOf trieIn scoresIn
+  pub unigram-model : tries.modelIn n after (record { id = unknown; score = units lowest }) ≡ unigramModel bytes
+  unfolding unigramModel trieIn scoresIn
   unigram-model =
       λ i. record {
         trie = unigram-parts i;

@@ -75,8 +75,8 @@ abbrev pub packFault : List ℕ → Memory → Option Reason
 packFault bytes m = buildFault (packJudged bytes) (noScoredRoom (nodesOf (theKind bytes) bytes) m)
 
 -- the model of a Unigram pack
-unfoldable pub modelOf : List ℕ → Model
-modelOf bytes =
+unfoldable pub unigramModel : List ℕ → Model
+unigramModel bytes =
     record {
       trie = trieIn Unigram (stringsOf bytes) (rowsOf Unigram bytes);
       score = scoresIn Unigram (stringsOf bytes) (rowsOf Unigram bytes);

@@ -37,7 +37,7 @@ use Rattle.scored.specs.declared.BuildAnswer.{BuildAnswer}
 use Rattle.scored.specs.declared.BuildAnswer.the-variants as answer-is
 use Rattle.scored.specs.Build.{reportOf, told}
 use Rattle.sliced.specs.BuildRows.{RowPlaces, rowPlaces, zeroRows, shortOf, rowsJudged, shortFor, PlacesBuilt, RowsBuilt}
-use Rattle.sliced.specs.Copied.{putRow, firstPlaces, Ready}
+use Rattle.sliced.specs.Copied.{putRow, firstPlaces, RowsCopied}
 use Rattle.sliced.proofs.Slices.{putRows, putAll}
 
 -- ---- room for the rows
@@ -314,7 +314,7 @@ module _ (tab : List ℕ) (rs : List Row) (off len off₁ len₁ : List ℕ) (sc
     room-before e false p q = p
     room-before e true p q = sym (ap (shortOf n′) (by-short e p)) ∙ q
 
-    pub ready : Ready o (length rs) tab off₁ len₁ scores₁
+    pub ready : RowsCopied o (length rs) tab off₁ len₁ scores₁
     ready =
         record {
           other = λ r e. judged-number tab rs r (sym judged ∙ e);

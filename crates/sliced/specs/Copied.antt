@@ -42,6 +42,6 @@ abbrev pub firstPlaces : ℕ → List ℕ → List ℕ → List Float → Column
 firstPlaces n off len score = columns (take n off) (take n len) (replicate n true) (take n score) (take n off)
 
 -- what was found is a fault of the rows, which is never 7; and rows that were found fine stand in the first places, where there is room for them
-pub record Ready (found : Option Reason) (n : ℕ) (tab off len : List ℕ) (score : List Float) : Type 0 where
+pub record RowsCopied (found : Option Reason) (n : ℕ) (tab off len : List ℕ) (score : List Float) : Type 0 where
   pub other : (r : Reason) → found ≡ some r → eqb (numberOf r) 7 ≡ false
   pub fine : found ≡ none → shortOf n (rowPlaces off len score) ≡ false → columnsFault kind.Unigram tab (firstPlaces n off len score) ≡ none

@@ -28,7 +28,7 @@ ghost use Rattle.build.specs.Rules.{scoreOf};
 ghost use Rattle.build.specs.Memory.{anyBelow, cleared, zeroScores, memoryIs, memoryWas, scoredMemoryIs, scoredMemoryWas};
 ghost use Rattle.scored.specs.Build as promise;
 ghost use Rattle.sliced.specs.BuildRows.{rowPlaces, zeroRows, shortOf, PlacesBuilt, placesIs, placesWas};
-ghost use Rattle.sliced.specs.Copied.{foundAfter, putRow, putFine, foundBy, placesBy, firstPlaces, Ready};
+ghost use Rattle.sliced.specs.Copied.{foundAfter, putRow, putFine, foundBy, placesBy, firstPlaces, RowsCopied};
 ghost use Rattle.refusal.specs.Lent.{was};
 
 // Too many rows or too large a table, before any row is looked at.
@@ -225,7 +225,7 @@ pub(crate) fn build_copied(
     to: &mut [u32],
     work: &mut [u32],
 ) -> BuildAnswer
-    requires { ⌜ Ready (reasonIn found) n (now tab) (now off) (now len) (now score) ⌝ }
+    requires { ⌜ RowsCopied (reasonIn found) n (now tab) (now off) (now len) (now score) ⌝ }
     ensures { λ r.
         ⌜ PlacesBuilt (reasonIn found) n (was tab) (rowsOf (firstPlaces n (was off) (was len) (was score)))
         (placesWas off len score) (scoredMemoryWas «edge_at» «edge_n» «node_id» «node_score» byte to work) r (placesIs off len score)

@@ -56,7 +56,7 @@ unfolding bind wordpiece.pieceTo wordpiece.longestTo wordpiece.piecesFrom wordpi
 wordpiece-opened = tt
 
 unfoldable pub pack-opened : Unit {0}
-unfolding pack.word pack.headerOf pack.laidOut pack.kindLaidOut pack.kindOf pack.worthAt pack.rowAt pack.rowsFrom pack.rowsOf pack.stringsOf pack.prefixOf build.contentFault build.packJudged build.theKind build.modelOf lines.linesAfter lines.lines lines.digits lines.decimal lines.spaced lines.printedIds lines.printedRefusal coder.soundIn coder.faultIn coder.idsIn output.lentMemory output.printed output.codedLine output.vocabularyIn output.linesPrinted output.outputOf output.output
+unfolding pack.word pack.headerOf pack.laidOut pack.kindLaidOut pack.kindOf pack.worthAt pack.rowAt pack.rowsFrom pack.rowsOf pack.stringsOf pack.prefixOf build.contentFault build.packJudged build.theKind build.unigramModel lines.linesAfter lines.lines lines.digits lines.decimal lines.spaced lines.printedIds lines.printedRefusal coder.soundIn coder.faultIn coder.idsIn output.lentMemory output.printed output.codedLine output.vocabularyIn output.linesPrinted output.outputOf output.output
 pack-opened = tt
 
 unfoldable pub example-opened : Unit {0}

@@ -5,7 +5,7 @@ use Rattle.text.specs.Ascii.{ascii}
 use Rattle.build.specs.Grown.{Bytes}
 use Rattle.pack.specs.declared.PackAnswer.{PackAnswer}
 use Rattle.output.specs.Lines.{printedRefusal}
-use Rattle.output.specs.Cut.{Judged}
+use Rattle.output.specs.Cut.{LentBuilt}
 use Rattle.output.proofs.Putting.{put-as}
 use Rattle.output.proofs.Packs.{judged-refused, unigram-cuttable, judged-unigram, strings-inside, wordpiece-cuttable, judged-wordpiece}
 use borrow.Author.Needs.{needs}
@@ -27,10 +27,10 @@ good c i h = omega (arith, c .shared-slice-known .given i)
 -- the pack was judged, and this is the answer
 judged :
     (c : tie.After-slice-known) (answer : PackAnswer) → entry c .args .answer ≡ answer
-    → let a = entry c .args in Judged (a .pack .now) answer (a .edge-at .now) (a .edge-n .now) (a .id .now) (a .score .now) (a .byte .now) (a .to .now)
+    → let a = entry c .args in LentBuilt (a .pack .now) answer (a .edge-at .now) (a .edge-n .now) (a .id .now) (a .score .now) (a .byte .now) (a .to .now)
 judged c answer e =
     let a = entry c .args in
-    subst (λ (x : PackAnswer). Judged (a .pack .now) x (a .edge-at .now) (a .edge-n .now) (a .id .now) (a .score .now) (a .byte .now) (a .to .now)) e
+    subst (λ (x : PackAnswer). LentBuilt (a .pack .now) x (a .edge-at .now) (a .edge-n .now) (a .id .now) (a .score .now) (a .byte .now) (a .to .now)) e
     (entry c .pre .0)
 
 print-lines-requires : tie.Need-print-lines-requires

@@ -78,7 +78,7 @@ use Rattle.scored.specs.declared.BuildAnswer.{BuildAnswer}
 use Rattle.scored.proofs.BuildAnswer as B
 use Rattle.scored.proofs.BuildAnswer.Laws as B′
 use Rattle.sliced.specs.BuildRows.{RowPlaces, rowPlaces, rowsJudged, PlacesBuilt, RowsBuilt}
-use Rattle.sliced.specs.Copied.{foundBy, placesBy, firstPlaces, Ready}
+use Rattle.sliced.specs.Copied.{foundBy, placesBy, firstPlaces, RowsCopied}
 use Rattle.sliced.proofs.RowCells.{row-vals, mach}
 use Rattle.sliced.proofs.Slices.{noRow, sizeFault, State, both, putAll, Turning, turning-start, turning-turn}
 use Rattle.sliced.proofs.Slices.{turning-end}
@@ -354,9 +354,9 @@ module _ {M : Type 1} (𝓤 : URA M) (H : Heap 𝓤) (A : Atoms 𝓤) (mem : Mem
           let e = turning-end tab rows start refl (s .t) over (s .turning) in
           (e .0, e .1 ∙ ap (λ (k : ℕ). putAll k found 0 rs lent) (sym long-rs))
 
-      all-ready : Ready found n tab (s .ls .0) (s .ls .1 .0) (s .ls .1 .1 .0)
+      all-ready : RowsCopied found n tab (s .ls .0) (s .ls .1 .0) (s .ls .1 .1 .0)
       all-ready =
-          subst (λ (k : ℕ). Ready found k tab (s .ls .0) (s .ls .1 .0) (s .ls .1 .1 .0)) long-rs
+          subst (λ (k : ℕ). RowsCopied found k tab (s .ls .0) (s .ls .1 .0) (s .ls .1 .1 .0)) long-rs
           (ready tab rs (passed cols .0) (passed cols .1 .0) (s .ls .0) (s .ls .1 .0) (passed cols .1 .1 .0)
           (s .ls .1 .1 .0) found (all-turned .0) (all-turned .1))
 

@@ -32,13 +32,13 @@ called c = edges-back (id-back c) .before .before
 value-requires : tie.Need-value-requires
 value-requires c κs =
     let p = start c .pre in
-    (omega (arith, p .there, p .judged .few), λ e. omega (arith, p .there, p .judged .own e))
+    (omega (arith, p .1, p .0 .few), λ e. omega (arith, p .1, p .0 .own e))
 
 span-requires : tie.Need-span-requires
 span-requires c κs =
     let v = c .before .before in
     let s = start (v .before) in
-    s .pre .judged .inside (s .args .i) (s .pre .there)
+    s .pre .0 .inside (s .args .i) (s .pre .1)
 
 returns : tie.Need-returns
 returns c =

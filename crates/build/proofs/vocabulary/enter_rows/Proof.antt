@@ -69,7 +69,7 @@ enter-row-requires c κs =
     let b = fitting c in
     let t = b .before in
     let p = entry (t .before) .pre in
-    record { judged = p .0; there = t .loop-test .taken; enterable = rowed-enterable (t .before .loop .inv .1) (b .if1 .left) (roomy (t .before)) }
+    (p .0, t .loop-test .taken, rowed-enterable (t .before .loop .inv .1) (b .if1 .left) (roomy (t .before)))
 
 loop-again : tie.Need-loop-again Inv-loop μ-loop
 loop-again c =
