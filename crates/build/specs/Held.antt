@@ -12,7 +12,7 @@ use Rattle.rows.specs.declared.Kind.{Kind}
 use Rattle.rows.specs.declared.Kind.the-variants.{Unigram, WordPiece}
 use Rattle.build.specs.Names.{place, prefixes, add, enter}
 use Rattle.build.specs.Given.{marked}
-use Rattle.build.specs.Links.{Slot, Linked, Spelled, linkedWork}
+use Rattle.build.specs.Links.{Slot, Linked, Spelled}
 
 -- every place from n on is zero
 abbrev pub ZeroFrom : ℕ → List ℕ → Type 0

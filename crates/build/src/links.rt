@@ -1,6 +1,6 @@
 // The children of a node, linked by rising byte. Work place 2k has the first child of node k and place 2k + 1 its next sibling, 0 for none:
-use refusal::NO_ID;
 // the root is nobody's child. While tokens are entered, a node's own byte stands in its `edge_n` place.
+use refusal::NO_ID;
 ghost use mathlib.Core.Path.{_≡_};
 ghost use Prim.Native.Nat.{_+_, _*_, _<_};
 ghost use lib.ListN.{set};

@@ -37,7 +37,6 @@ use Rattle.unigram.specs.Segment.{Lengths, segmentFault, soundModel}
 use Rattle.unigram.proofs.BuiltTries as tries
 use Rattle.wordpiece.specs.Encode.{encodeFault}
 use Rattle.wordpiece.proofs.BuiltTries as words
-use Rattle.pack.specs.declared.header.Header.{Header}
 use Rattle.pack.specs.declared.PackAnswer.the-variants as answer-is
 use Rattle.pack.specs.Pack.{headerOf, kindOf, rowsOf, stringsOf, prefixOf}
 use Rattle.pack.specs.Build.{nodesOf, contentFault, packJudged, packFault, Report, unigram, wordpiece, told, reportOf, theKind, unigramModel, PackBuilt}

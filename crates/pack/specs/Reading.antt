@@ -4,12 +4,9 @@ use mathlib.Core.Bool.{true, false}
 use mathlib.Core.List.{List}
 use mathlib.Core.Option.{Option, none, some}
 use Prim.Native.Nat.{ℕ, _+_, _*_, _^_, _≤_, _<_}
-use lib.Dec.{eqb}
 use lib.ListN.{length, take}
 use Rattle.doubles.specs.Double.{Double, isFinite, ofPattern}
-use Rattle.refusal.specs.declared.Reason.{Reason}
 use Rattle.refusal.specs.Sizes.{maxRows}
-use Rattle.refusal.specs.Refusal.{numberOf}
 use Rattle.rows.specs.declared.Kind.{Kind}
 use Rattle.rows.specs.declared.Kind.the-variants.{Unigram, WordPiece}
 use Rattle.rows.specs.Rows.{Row, Worth, score, id, worthFault, rowFault}

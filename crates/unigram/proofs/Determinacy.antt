@@ -1,7 +1,7 @@
 -- The promise of `segment` fixes what it answers and what it leaves: each field is an equation with a value of the inputs. The
 -- score column is promised by its units, and the format has one value for each, so the columns themselves are fixed. Assumes
 -- nothing.
-use mathlib.Core.Path.{_≡_, sym, ap, _∙_}
+use mathlib.Core.Path.{_≡_, ap}
 use mathlib.Core.Logic.{_↔_}
 use Prim.Native.Nat.{ℕ}
 use mathlib.Core.List.{List}

@@ -20,7 +20,7 @@ use Rattle.trie.specs.Trie.{step, walk, idAt}
 use Rattle.trie.proofs.Every.{both, fails}
 use Rattle.trie.proofs.Walking.{walk-snoc, walk-append-none, walk-nil}
 use Rattle.cutting.specs.Cuttings.{Piece, Slot, nth}
-use Rattle.cutting.specs.Records.{candidate, best}
+use Rattle.cutting.specs.Records.{candidate}
 use Rattle.unigram.specs.Pieces.{Model, pieceAt, known, pieceOf, rule}
 use Rattle.cutting.specs.Slots.{Slots, slotAt, PutAt, taken, afterOffer}
 use Rattle.cutting.specs.Law.{Holds}

@@ -19,9 +19,8 @@ use Rattle.refusal.specs.Refusal.{refuse}
 use Rattle.refusal.proofs.Tests.{found, not-found, found-first, none-first, passed, both-passed, Not, refused-so, first-so, nothing-so}
 use Rattle.refusal.proofs.Codings.{coded-refused, coded-ids}
 use Rattle.refusal.proofs.Lists.{zero-one, true-false, below-or}
-use Rattle.text.specs.Text.{characters, part}
+use Rattle.text.specs.Text.{characters}
 use Rattle.text.proofs.Boundaries.{characters-le}
-use Rattle.trie.specs.Trie.{idOf}
 use Rattle.trie.specs.Lookup.{lookupFault}
 use Rattle.trie.proofs.Lookups.{lookup-fine, sound-lookup}
 use Rattle.build.specs.Memory.{anyBelow}

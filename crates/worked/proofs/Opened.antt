@@ -60,7 +60,7 @@ unfolding pack.word pack.headerOf pack.laidOut pack.kindLaidOut pack.kindOf pack
 pack-opened = tt
 
 unfoldable pub example-opened : Unit {0}
-unfolding example.tableOf example.rowsAt example.isNone example.scoreIs example.allOf example.modelOf example.unigramHolds example.wordpieceHolds example.kindHolds example.holds
+unfolding example.tableOf example.rowsAt example.isNone example.scoreIs example.allOf example.exampleModel example.unigramHolds example.wordpieceHolds example.kindHolds example.holds
 example-opened = tt
 
 unfoldable pub opened : Unit {0}

@@ -64,8 +64,8 @@ allOf test (x ∷ xs) = test x && allOf test xs
 abbrev pub places : ℕ
 places = 32
 
-unfoldable pub modelOf : Example → unigram.Model
-modelOf x =
+unfoldable pub exampleModel : Example → unigram.Model
+exampleModel x =
     let tab = tableOf (x .entries) in
     let rows = rowsAt 0 (x .entries) in
     record {
@@ -88,7 +88,7 @@ wordpieceHolds x g =
     isNone (encodeFault (sound t) (x .prefix) (g .text) places) && names.same (wordpiece.idsOf (idOf t) (x .unknown) (g .maxChars) (x .prefix) (g .text)) (g .ids)
 
 unfoldable pub kindHolds : Kind → Example → Bool
-kindHolds Unigram x = let m = modelOf x in scoreIs (x .unknownScore) (m .unknown .score) && allOf (unigramHolds m) (x .given)
+kindHolds Unigram x = let m = exampleModel x in scoreIs (x .unknownScore) (m .unknown .score) && allOf (unigramHolds m) (x .given)
 kindHolds WordPiece x = allOf (wordpieceHolds x) (x .given)
 
 -- an example holds: its rows are accepted, and every text gives what it should

@@ -1,8 +1,7 @@
 -- `wordpiece::from_rows` meets its contract: what `judge` finds is refused. Rows without a fault are what the core asks for, the room is the
 -- least that the columns have, and what the core answers is answered. Assumes nothing.
-use mathlib.Core.Path.{_≡_, sym, ap, _∙_, subst}
+use mathlib.Core.Path.{_≡_, sym, ap, _∙_}
 use mathlib.Core.Option.{none}
-use Prim.Native.Nat.{ℕ}
 use native.Mathlib.Omega.{arith}
 use borrow.Author.Needs.{needs}
 use Rattle.rows.specs.declared.Kind.the-variants.{WordPiece}

@@ -1,13 +1,9 @@
 -- `build::lay::lay_node` meets its contract. Assumes nothing.
 use mathlib.Core.Path.{_≡_, refl, ap}
-use mathlib.Core.List.{List, []}
-use Prim.Native.Nat.{ℕ, _-_, _≤_, _<_}
+use Prim.Native.Nat.{_-_, _≤_, _<_}
 use native.Mathlib.Omega.{arith}
-use lib.ListN.{length, getD, set}
+use lib.ListN.{length, set}
 use Rattle.build.specs.Parts.{edgesOf}
-use Rattle.build.specs.Links.{Linked, Spelled}
-use Rattle.build.specs.Laying.{ChildrenDone}
-use Rattle.build.proofs.Grown.{grown-distinct}
 use Rattle.build.proofs.Edges.{edges-few}
 use Rattle.build.proofs.Places.{place-below}
 use borrow.Author.Needs.{needs}

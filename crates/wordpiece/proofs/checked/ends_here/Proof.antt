@@ -10,7 +10,7 @@ use lib.Dec.{eqb}
 use lib.ListN.{getD}
 use Rattle.refusal.specs.Sizes.{noId}
 use Rattle.text.specs.Text.{boundary}
-use Rattle.trie.specs.Trie.{Trie, partsOf, idAt}
+use Rattle.trie.specs.Trie.{partsOf}
 use Rattle.trie.specs.Walks.{idIn}
 use Rattle.trie.proofs.Every.{both, fails}
 use Rattle.wordpiece.proofs.Longest.{id-told}
