@@ -1,6 +1,6 @@
--- What a build leaves, for a reader: the lent columns, cut to the counts, are the trie of the rows, since N nodes have N places of each node column
--- and N - 1 edges, and the rest of each column is behind them. That trie is sound, and for Unigram its scores and its unknown score are
--- finite. Assumes nothing.
+-- What a build leaves, for a reader: the lent columns, cut to the counts, are the trie of the rows, since N nodes have N places
+-- of each node column and N - 1 edges, and the rest of each column is behind them. That trie is sound, and for Unigram its
+-- scores and its unknown score are finite. Assumes nothing.
 use mathlib.Core.Path.{_≡_, refl, sym, ap, _∙_, subst}
 use mathlib.Core.Bool.{Bool, true, false}
 use mathlib.Core.List.{List, []}

@@ -1,4 +1,5 @@
--- The edges of one node, written child by child: what is written and what is still to be written are all its edges. Assumes nothing.
+-- The edges of one node, written child by child: what is written and what is still to be written are all its edges. Assumes
+-- nothing.
 use mathlib.Core.Path.{_≡_, refl, sym, ap, _∙_, subst}
 use mathlib.Core.List.{List, [], _∷_, _++_}
 use mathlib.Core.Option.{some}

@@ -1,5 +1,5 @@
--- N nodes have N - 1 edges: each name but the root adds one edge, to the node that it extends, and has none itself when it comes.
--- Assumes nothing.
+-- N nodes have N - 1 edges: each name but the root adds one edge, to the node that it extends, and has none itself when it
+-- comes. Assumes nothing.
 use mathlib.Core.Path.{_≡_, refl, sym, ap, _∙_}
 use mathlib.Core.List.{List, [], _∷_, _++_, map, flatten}
 use mathlib.Core.Logic.{⊎-elim}

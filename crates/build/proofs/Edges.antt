@@ -1,5 +1,5 @@
--- The edges of a node: its children by rising byte, found by their byte, each leading to a node. All by induction on how many bytes are
--- still looked at, from any byte on. Assumes nothing.
+-- The edges of a node: its children by rising byte, found by their byte, each leading to a node. All by induction on how many
+-- bytes are still looked at, from any byte on. Assumes nothing.
 use mathlib.Core.Path.{_≡_, refl, sym, ap, _∙_, subst}
 use mathlib.Core.Bool.{cond}
 use mathlib.Core.List.{List, [], _∷_, _++_}

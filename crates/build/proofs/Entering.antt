@@ -1,5 +1,5 @@
--- A token entered byte by byte. After i bytes the columns hold the nodes with the token's first i prefixes entered, and what is still to be
--- entered is the rest. Assumes nothing.
+-- A token entered byte by byte. After i bytes the columns hold the nodes with the token's first i prefixes entered, and what is
+-- still to be entered is the rest. Assumes nothing.
 use mathlib.Core.Path.{_≡_, refl, sym, ap, _∙_, subst}
 use mathlib.Core.List.{List, [], _∷_, _++_}
 use mathlib.Core.Option.{Option, some}

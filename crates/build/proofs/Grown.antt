@@ -1,5 +1,5 @@
--- Names are distinct, the root is the first, and what a name extends stands before it: by induction on how the list grew. The names of
--- tokens grow so, a prefix at a time. Assumes nothing.
+-- Names are distinct, the root is the first, and what a name extends stands before it: by induction on how the list grew. The
+-- names of tokens grow so, a prefix at a time. Assumes nothing.
 use mathlib.Core.Path.{_≡_, refl, sym, ap, _∙_, subst}
 use mathlib.Core.List.{List, [], _∷_, _++_, append-nil}
 use mathlib.Core.Logic.{_⊎_, inl, inr, ⊎-elim}

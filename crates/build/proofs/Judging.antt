@@ -1,5 +1,5 @@
--- Rows that were judged: what the core asks of them follows where no fault was found, and the rows that it is given are those of the
--- columns. Assumes nothing.
+-- Rows that were judged: what the core asks of them follows where no fault was found, and the rows that it is given are those
+-- of the columns. Assumes nothing.
 use mathlib.Core.Path.{_≡_, refl, sym, ap, _∙_}
 use mathlib.Core.Bool.{Bool, false, cond}
 use mathlib.Core.List.{List, [], _∷_, map}
@@ -102,7 +102,8 @@ given-rows :
 unfolding rowsOf
 given-rows c h = rows-from c (length (c .off)) 0 (λ k p. h k (omega arith))
 
--- the trie and the count of nodes are those of the columns' rows: for Unigram the tokens decide, and WordPiece has the rows themselves
+-- the trie and the count of nodes are those of the columns' rows: for Unigram the tokens decide, and WordPiece has the rows
+-- themselves
 same-build :
     (kind : Kind) (tab : List ℕ) (c : Columns) → columnsFault kind tab c ≡ none
     → (trieIn kind tab (given (c .off) (c .len) (c .id)) ≡ trieIn kind tab (rowsOf c))

@@ -1,5 +1,5 @@
--- The parts as they are laid out: where a node's edges stand among all, so that a step from a node leads to the child's place, and a walk
--- over a string ends at the string's place. Assumes nothing.
+-- The parts as they are laid out: where a node's edges stand among all, so that a step from a node leads to the child's place,
+-- and a walk over a string ends at the string's place. Assumes nothing.
 use mathlib.Core.Path.{_≡_, refl, sym, ap, _∙_}
 use mathlib.Core.Bool.{cond}
 use mathlib.Core.List.{List, [], _∷_, _++_, map, flatten, append-assoc, append-nil}

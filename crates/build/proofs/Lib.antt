@@ -1,4 +1,5 @@
--- The laws of tries and their builds. A layer above cites the first three groups; the last serves the functions that enter rows.
+-- The laws of tries and their builds. A layer above cites the first three groups; the last serves the functions that enter
+-- rows.
 
 -- strings, their places, and names
 pub mod Strings

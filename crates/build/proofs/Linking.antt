@@ -1,5 +1,5 @@
--- One node more between a link and what it led to: all links are right again. Only the node's parent and the sibling before it see a
--- change, and they lead to the new node; the new node leads to what stood there. Assumes nothing.
+-- One node more between a link and what it led to: all links are right again. Only the node's parent and the sibling before it
+-- see a change, and they lead to the new node; the new node leads to what stood there. Assumes nothing.
 use mathlib.Core.Path.{_≡_, sym, ap, _∙_, subst}
 use mathlib.Core.List.{List, [], _∷_, _++_}
 use mathlib.Core.Logic.{_⊎_, inl, inr, ⊎-elim}

@@ -1,5 +1,5 @@
--- The names of tokens: they grew from the root; a name is empty or begins a token, and all that begin a token are names; one token more
--- enters its own prefixes; there are at most one more than the tokens have bytes. Assumes nothing.
+-- The names of tokens: they grew from the root; a name is empty or begins a token, and all that begin a token are names; one
+-- token more enters its own prefixes; there are at most one more than the tokens have bytes. Assumes nothing.
 use mathlib.Core.Path.{_≡_, refl, sym, ap, _∙_, subst}
 use mathlib.Core.List.{List, [], _∷_, _++_, append-nil, flatMap}
 use mathlib.Core.Logic.{_⊎_, inl, inr, ⊎-elim}

@@ -1,5 +1,5 @@
--- Where a string stands in a list of strings. A place found stays where the list grows at its end, and one string more is found exactly at
--- the end. Assumes nothing.
+-- Where a string stands in a list of strings. A place found stays where the list grows at its end, and one string more is found
+-- exactly at the end. Assumes nothing.
 use mathlib.Core.Path.{_≡_, refl, sym, ap, _∙_}
 use mathlib.Core.Bool.{Bool, true, false}
 use mathlib.Core.List.{List, [], _∷_, _++_}

@@ -1,6 +1,6 @@
--- What every build promises, in each case. What was found before the room comes first, and its number is never 7, so nothing is written; then the
--- room decides; and what the core says of its rows is said of the memory, the score column beside it. Then what the promise says: which
--- fault exactly when, and one outcome. Assumes nothing.
+-- What every build promises, in each case. What was found before the room comes first, and its number is never 7, so nothing is
+-- written; then the room decides; and what the core says of its rows is said of the memory, the score column beside it. Then
+-- what the promise says: which fault exactly when, and one outcome. Assumes nothing.
 use mathlib.Core.Path.{_≡_, refl, sym, ap, _∙_}
 use mathlib.Core.Bool.{Bool, true, false, cond}
 use mathlib.Core.List.{List, []}

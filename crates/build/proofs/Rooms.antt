@@ -1,5 +1,5 @@
--- How many nodes fit: the room of the lent columns is enough for n nodes exactly where 7 does not refuse them, and judged rows never need
--- more than a u32 counts. Assumes nothing.
+-- How many nodes fit: the room of the lent columns is enough for n nodes exactly where 7 does not refuse them, and judged rows
+-- never need more than a u32 counts. Assumes nothing.
 use mathlib.Core.Path.{_≡_, refl, sym, ap, _∙_}
 use mathlib.Core.Bool.{Bool, true, false, _||_}
 use mathlib.Core.List.{List, [], _∷_}

@@ -1,5 +1,5 @@
--- Rows entered one by one, wherever they are read from. After i rows the columns hold the nodes and ids of those, and what is still to be
--- entered is the rest. Assumes nothing.
+-- Rows entered one by one, wherever they are read from. After i rows the columns hold the nodes and ids of those, and what is
+-- still to be entered is the rest. Assumes nothing.
 use mathlib.Core.Path.{_≡_, refl, sym, ap, _∙_}
 use mathlib.Core.List.{List, [], _∷_, _++_, map}
 use mathlib.Core.Logic.{inl, ⊎-elim}

@@ -1,5 +1,5 @@
--- Seeking a byte among a node's children: the bytes of the children that are passed rise, so the walk ends, and where it ends stands the
--- link to the first child by the byte or a later one. Assumes nothing.
+-- Seeking a byte among a node's children: the bytes of the children that are passed rise, so the walk ends, and where it ends
+-- stands the link to the first child by the byte or a later one. Assumes nothing.
 use mathlib.Core.Path.{_≡_, refl, ap}
 use mathlib.Core.Bool.{cond}
 use mathlib.Core.List.{List, [], _∷_, _++_}

@@ -1,5 +1,5 @@
--- A built trie is sound: its columns are level, each node's edges stand inside, at most 256 and by rising byte, and each leads to a node.
--- Assumes nothing.
+-- A built trie is sound: its columns are level, each node's edges stand inside, at most 256 and by rising byte, and each leads
+-- to a node. Assumes nothing.
 use mathlib.Core.Path.{_≡_, refl, sym, ap, _∙_, subst}
 use mathlib.Core.Bool.{Bool, true, false, _&&_}
 use mathlib.Core.List.{List, [], _∷_, _++_, map, flatten}

@@ -1,4 +1,5 @@
--- Places made zero from the front: those below i are zero, the others as they were. One law for columns of every width. Assumes nothing.
+-- Places made zero from the front: those below i are zero, the others as they were. One law for columns of every width. Assumes
+-- nothing.
 use mathlib.Core.Path.{_≡_, refl, ap, _∙_}
 use mathlib.Core.List.{List, _++_, append-nil}
 use Prim.Native.Nat.{ℕ, zero, suc, _+_, _≤_, _<_}

@@ -1,4 +1,5 @@
--- What the core of both builds asks of a caller that has judged the rows, and what it promises. Definitions only; assumes nothing.
+-- What the core of both builds asks of a caller that has judged the rows, and what it promises. Definitions only; assumes
+-- nothing.
 use mathlib.Core.Path.{_≡_}
 use mathlib.Core.Bool.{cond}
 use mathlib.Core.List.{List, []}
@@ -17,8 +18,8 @@ use Rattle.build.specs.Held.{RowDone}
 use Rattle.build.specs.Memory.{Memory, cleared, holding}
 use Rattle.build.specs.Promise.{trieIn}
 
--- how many nodes the lent columns have room for: a place of each node column, of the edge columns for each but the root, and two work
--- places; a node's number fits a u32
+-- how many nodes the lent columns have room for: a place of each node column, of the edge columns for each but the root, and
+-- two work places; a node's number fits a u32
 abbrev pub roomOf : Memory → ℕ
 roomOf m =
     let t = m .parts in

@@ -1,4 +1,5 @@
--- The rows as the core is given them, and which ids their tokens have once some rows are entered. Definitions only; assumes nothing.
+-- The rows as the core is given them, and which ids their tokens have once some rows are entered. Definitions only; assumes
+-- nothing.
 use mathlib.Core.Bool.{cond}
 use mathlib.Core.List.{List, [], _∷_}
 use mathlib.Core.Option.{Option, none, some}

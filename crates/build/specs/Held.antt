@@ -1,5 +1,5 @@
--- What the lent columns hold while tokens are entered, and what each step of entering promises. A step speaks of the names and ids that
--- the columns hold: it asks that there are some, and says of any what they become. Definitions only; assumes nothing.
+-- What the lent columns hold while tokens are entered, and what each step of entering promises. A step speaks of the names and
+-- ids that the columns hold: it asks that there are some, and says of any what they become. Definitions only; assumes nothing.
 use mathlib.Core.Path.{_≡_}
 use mathlib.Core.Bool.{cond}
 use mathlib.Core.List.{List, [], _∷_, _++_}

@@ -1,5 +1,5 @@
--- What laying out the nodes asks and promises. As in entering, a step speaks of the names that the columns hold. Definitions only; assumes
--- nothing.
+-- What laying out the nodes asks and promises. As in entering, a step speaks of the names that the columns hold. Definitions
+-- only; assumes nothing.
 use mathlib.Core.Path.{_≡_}
 use mathlib.Core.List.{List, [], map}
 use mathlib.Core.Option.{Option}

@@ -1,5 +1,5 @@
--- How the children of the nodes are linked while tokens are entered: work place 2k has the first child of node k, place 2k + 1 its next
--- sibling, 0 for none. Stated of the names ns that the nodes stand for. Definitions only; assumes nothing.
+-- How the children of the nodes are linked while tokens are entered: work place 2k has the first child of node k, place 2k + 1
+-- its next sibling, 0 for none. Stated of the names ns that the nodes stand for. Definitions only; assumes nothing.
 use mathlib.Core.Path.{_≡_}
 use mathlib.Core.List.{List, [], _∷_, _++_}
 use mathlib.Core.Logic.{_⊎_}

@@ -15,8 +15,8 @@ use Rattle.refusal.specs.Refusal.{numberOf}
 use Rattle.refusal.specs.Places.{zeroed, filled}
 use Rattle.trie.specs.Trie.{Trie, partsOf}
 
--- The lent node columns, edge columns and work places. Each may be longer than is needed, and of a length of its own. Where no score
--- column is lent, it is empty here.
+-- The lent node columns, edge columns and work places. Each may be longer than is needed, and of a length of its own. Where no
+-- score column is lent, it is empty here.
 pub record Memory : Type 0 where
   pub parts : Trie
   pub score : List Double
@@ -83,8 +83,8 @@ unfoldable pub holding : Trie → List Double → Memory → Memory
 holding t scores m =
     record { parts = columnwise (filled 0) t (m .parts); score = filled plusZero scores (m .score); work = zeroed 0 (m .work) }
 
--- What a buffer holds after a build: on success; after a refusal, where "refusal 7 leaves every lent node, edge and work place zero" and
--- "every other refusal writes nothing".
+-- What a buffer holds after a build: on success; after a refusal, where "refusal 7 leaves every lent node, edge and work place
+-- zero" and "every other refusal writes nothing".
 unfoldable pub leaves : {A : Type 0} → Option Reason → A → A → A → A
 leaves none done zeros before = done
 leaves (some r) done zeros before = cond (eqb (numberOf r) 7) zeros before

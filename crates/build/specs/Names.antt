@@ -1,4 +1,5 @@
--- The nodes of a trie. A node is a prefix of a token, and its number is that prefix's place among them all. Definitions only; assumes nothing.
+-- The nodes of a trie. A node is a prefix of a token, and its number is that prefix's place among them all. Definitions only;
+-- assumes nothing.
 use Prim.Native.Nat.{ℕ, suc}
 use mathlib.Core.Bool.{Bool, true, false, _&&_, cond}
 use mathlib.Core.List.{List, [], _∷_, _++_, flatMap}
@@ -34,7 +35,8 @@ unfoldable pub enter : List (List ℕ) → List (List ℕ) → List (List ℕ)
 enter ns [] = ns
 enter ns (s ∷ ss) = enter (add ns s) ss
 
--- "Node 0 is the root. Tokens are entered in row order": node k is the string at k. The root is the empty one, and then come the non-empty
--- prefixes of the tokens, each where it first occurs. "N is 1 plus the number of distinct non-empty prefixes of tokens": the length of this list.
+-- "Node 0 is the root. Tokens are entered in row order": node k is the string at k. The root is the empty one, and then come
+-- the non-empty prefixes of the tokens, each where it first occurs. "N is 1 plus the number of distinct non-empty prefixes of
+-- tokens": the length of this list.
 unfoldable pub names : List (List ℕ) → List (List ℕ)
 names tokens = enter ([] ∷ []) (flatMap (prefixes []) tokens)

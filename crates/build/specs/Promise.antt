@@ -1,5 +1,5 @@
--- What every build promises. A call says what it builds, the kind and the rows; what was found before the room is looked at; whether a lent
--- column is too short; and what it reports of the trie. Definitions only; assumes nothing.
+-- What every build promises. A call says what it builds, the kind and the rows; what was found before the room is looked at;
+-- whether a lent column is too short; and what it reports of the trie. Definitions only; assumes nothing.
 use mathlib.Core.Path.{_≡_}
 use mathlib.Core.Bool.{Bool}
 use mathlib.Core.List.{List, []}

@@ -36,8 +36,8 @@ pub fn room(
     least(nodes, least(edges, 4_294_967_295))
 }
 
-// The trie of the rows in the lent columns, where `room` nodes fit: for Unigram the first row of a token gives the id, its index, for
-// WordPiece the last, its own. Where the trie needs more nodes, every lent place is zero afterwards.
+// The trie of the rows in the lent columns, where `room` nodes fit: for Unigram the first row of a token gives the id, its
+// index, for WordPiece the last, its own. Where the trie needs more nodes, every lent place is zero afterwards.
 pub fn build(
     kind: Kind,
     tab: &[u8],

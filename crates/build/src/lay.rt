@@ -1,5 +1,5 @@
-// The linked nodes laid out as parts: "Edges stand node after node, by rising byte." A node's children have larger numbers, so their bytes
-// are read from their `edge_n` places before those take their own counts.
+// The linked nodes laid out as parts: "Edges stand node after node, by rising byte." A node's children have larger numbers, so
+// their bytes are read from their `edge_n` places before those take their own counts.
 use crate::zero::zero8;
 use crate::zero::zero32;
 ghost use Rattle.build.specs.Laying.{ChildrenReady, ChildrenLaid, NodeReady, NodeLaid, AllReady, AllLaid};

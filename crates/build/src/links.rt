@@ -1,5 +1,5 @@
-// The children of a node, linked by rising byte. Work place 2k has the first child of node k and place 2k + 1 its next sibling, 0 for none:
-// the root is nobody's child. While tokens are entered, a node's own byte stands in its `edge_n` place.
+// The children of a node, linked by rising byte. Work place 2k has the first child of node k and place 2k + 1 its next sibling,
+// 0 for none: the root is nobody's child. While tokens are entered, a node's own byte stands in its `edge_n` place.
 use refusal::NO_ID;
 ghost use mathlib.Core.Path.{_≡_};
 ghost use Prim.Native.Nat.{_+_, _*_, _<_};
@@ -9,8 +9,8 @@ ghost use Rattle.build.specs.Links.{linkedWork};
 ghost use Rattle.build.specs.Held.{Roomy, Chained, Sought, Enterable, ByteEntered};
 ghost use Rattle.refusal.specs.Lent.{is, was};
 
-// The work place whose link leads to the first child of `node` by b or a later byte: the node's own, or that of the child before.
-// Bytes rise along the links, so the walk ends.
+// The work place whose link leads to the first child of `node` by b or a later byte: the node's own, or that of the child
+// before. Bytes rise along the links, so the walk ends.
 pub fn seek(edge_n: &[u16], work: &[u32], node: usize, b: u8) -> usize
     requires { ⌜ Chained (now «edge_n») (now work) 0 node ⌝ }
     ensures { λ r. ⌜ Sought (was «edge_n») (was work) node b r ⌝ }
@@ -49,8 +49,8 @@ pub struct Reached {
     pub n: usize,
 }
 
-// The child by the byte b of the node reached: the one that is there, or else the next node, which is made. Its number is `room` where
-// it is not there and no room is left.
+// The child by the byte b of the node reached: the one that is there, or else the next node, which is made. Its number is
+// `room` where it is not there and no room is left.
 pub fn child(
     edge_n: &mut [u16],
     id: &mut [u32],

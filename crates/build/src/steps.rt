@@ -1,5 +1,5 @@
-// The first and the last step of a build, for callers that have judged their rows, wherever those stand. Between the two each row's token is
-// entered, by `tokens::enter_token`.
+// The first and the last step of a build, for callers that have judged their rows, wherever those stand. Between the two each
+// row's token is entered, by `tokens::enter_token`.
 use crate::Built;
 use crate::lay::lay_out;
 use crate::zero::clear;
@@ -26,7 +26,8 @@ fn plant(id: &mut [u32], work: &mut [u32])
     work[0] = 0;
 }
 
-// The root, alone, in columns that may hold anything: how many nodes there are, 1. That is more than `room` where there is none for it.
+// The root, alone, in columns that may hold anything: how many nodes there are, 1. That is more than `room` where there is none
+// for it.
 pub fn start(edge_n: &mut [u16], id: &mut [u32], work: &mut [u32], room: usize) -> usize
     requires { ⌜ Roomy room (now «edge_n») (now id) (now work) ⌝ }
     ensures { λ r. ⌜ (r ≡ 1) × RowDone ([] ∷ []) noRule room (is «edge_n») (is id) (is work) r ⌝ }

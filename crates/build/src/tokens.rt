@@ -48,7 +48,8 @@ fn mark(id: &mut [u32], node: usize, kind: Kind, v: u32)
     id[node] = v;
 }
 
-// A token that is given the id v: how many nodes there are then, more than `room` where no room is left. An empty token does nothing.
+// A token that is given the id v: how many nodes there are then, more than `room` where no room is left. An empty token does
+// nothing.
 pub fn enter_token(
     token: &[u8],
     kind: Kind,

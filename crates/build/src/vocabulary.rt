@@ -1,4 +1,5 @@
-// The rows entered in order. Unigram keeps a token's first row and gives it the row's index, WordPiece its last and the id that the row has.
+// The rows entered in order. Unigram keeps a token's first row and gives it the row's index, WordPiece its last and the id that
+// the row has.
 use crate::steps::start;
 use crate::tokens::enter_token;
 use rows::Kind;
@@ -50,8 +51,8 @@ fn enter_row(
     enter_token(token, kind, v, edge_n, id, work, room, n)
 }
 
-// All rows, from the root on, in columns that may hold anything: how many nodes there are, more than `room` where no room is left. The
-// root needs room too.
+// All rows, from the root on, in columns that may hold anything: how many nodes there are, more than `room` where no room is
+// left. The root needs room too.
 pub fn enter_rows(
     kind: Kind,
     tab: &[u8],

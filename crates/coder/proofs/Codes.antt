@@ -1,5 +1,5 @@
--- The coding of a text in a vocabulary of either kind: it is the coding of that kind; there are no more ids than characters, and
--- they stand in the first id places; and the promise fixes all. Assumes nothing.
+-- The coding of a text in a vocabulary of either kind: it is the coding of that kind; there are no more ids than characters,
+-- and they stand in the first id places; and the promise fixes all. Assumes nothing.
 use mathlib.Core.Path.{_≡_, refl, ap, _∙_}
 use mathlib.Core.Bool.{Bool, true, false, cond}
 use mathlib.Core.List.{List, [], _∷_}

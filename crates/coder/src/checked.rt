@@ -7,8 +7,8 @@ ghost use Rattle.coder.specs.Vocabulary.{soundIn, CodedIn};
 ghost use Rattle.coder.specs.Columns.{vocabulary, vocabularyNow};
 ghost use Rattle.refusal.specs.Lent.{was};
 
-// The ids of a text by `unigram::segment`, or of a word by `wordpiece::encode`. `sound` is what was found of the parts. WordPiece
-// writes ids alone, and looks at no other place of the scratch.
+// The ids of a text by `unigram::segment`, or of a word by `wordpiece::encode`. `sound` is what was found of the parts.
+// WordPiece writes ids alone, and looks at no other place of the scratch.
 pub fn code(
     coder: Coder,
     sound: bool,

@@ -1,5 +1,5 @@
-// A slot by value, read from and written to the three lent columns. "empty (start and id 4,294,967,295, score 0)": a slot is empty
-// where its start is the mark.
+// A slot by value, read from and written to the three lent columns. "empty (start and id 4,294,967,295, score 0)": a slot is
+// empty where its start is the mark.
 use refusal::NO_ID;
 ghost use mathlib.Core.Path.{_≡_};
 ghost use Rattle.cutting.specs.Cuttings.{Slot};

@@ -1,5 +1,6 @@
--- Each promise of this crate fixes its answer. A sum, a lower double and a score are promised by their units, and the format has one value for
--- each double; a number has one pattern. What the format holds is asked of the answers: every `f64` is so. Assumes nothing.
+-- Each promise of this crate fixes its answer. A sum, a lower double and a score are promised by their units, and the format
+-- has one value for each double; a number has one pattern. What the format holds is asked of the answers: every `f64` is so.
+-- Assumes nothing.
 use mathlib.Core.Path.{_≡_, refl, sym, ap, ap₂, _∙_, subst}
 use Prim.Native.Nat.{_^_, _<_}
 use mathlib.Core.Bool.{Bool, true, _&&_}

@@ -1,5 +1,6 @@
--- A program's `f64` as a double. The logic has its value as m * 2 ^ e and an operation's result as a fraction, rounded. In units of 2 ^ -1074 the
--- fraction num / den is the whole number N where num * 2 ^ 1074 is N * den, and then the logic's rounding of it is ours of N. Assumes nothing.
+-- A program's `f64` as a double. The logic has its value as m * 2 ^ e and an operation's result as a fraction, rounded. In
+-- units of 2 ^ -1074 the fraction num / den is the whole number N where num * 2 ^ 1074 is N * den, and then the logic's
+-- rounding of it is ours of N. Assumes nothing.
 use mathlib.Core.Path.{_≡_, refl, sym, ap, ap₂, _∙_, subst}
 use Prim.Native.Nat.{ℕ, zero, suc, _+_, _-_, _*_, _/_, _%_, _^_, _≤_, _<_}
 use native.Mathlib.Nat.{le-of-eq, le-of-suc-le-suc, lt-of-lt-of-le, lt-of-le-of-lt, lt-of-not-le, lt-irrefl, zero-mul, one-mul, mul-one, mul-comm, mul-assoc, mul-right-comm, mul-pos, add-mul, mul-sub, mul-div-cancel, mul-lt-mul-of-pos-right, lt-of-mul-lt-mul-right, eq-of-mul-eq-mul-right}

@@ -1,5 +1,6 @@
--- The largest double, and what stays below an infinity. The number half a gap above it is the first that rounds to 2 ^ 1024, so a double below
--- 2 ^ 1024 is at most the largest; and the largest with 10 more rounds to itself. Both are computed once; the rest is that rounding keeps the order. Assumes nothing.
+-- The largest double, and what stays below an infinity. The number half a gap above it is the first that rounds to 2 ^ 1024, so
+-- a double below 2 ^ 1024 is at most the largest; and the largest with 10 more rounds to itself. Both are computed once; the
+-- rest is that rounding keeps the order. Assumes nothing.
 use mathlib.Core.Path.{_≡_, refl, sym}
 use Prim.Native.Nat.{ℕ, suc, _+_, _-_, _*_, _^_, _≤_, _<_}
 use native.Mathlib.Nat.{le-trans, le-of-eq, lt-of-lt-of-le, lt-of-le-of-lt, lt-irrefl, add-le-add, le-refl}

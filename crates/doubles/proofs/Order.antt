@@ -1,5 +1,6 @@
--- The order of doubles. Under a bound B on the magnitudes, a number has a height: B less its magnitude where it is negative, B more where it is not,
--- and 0 or twice B for the infinities. Comparing doubles is comparing heights, and so every law of the order is one of numbers. Assumes nothing.
+-- The order of doubles. Under a bound B on the magnitudes, a number has a height: B less its magnitude where it is negative, B
+-- more where it is not, and 0 or twice B for the infinities. Comparing doubles is comparing heights, and so every law of the
+-- order is one of numbers. Assumes nothing.
 use mathlib.Core.Path.{_≡_, refl, sym, ap, ap₂, _∙_, subst}
 use mathlib.Core.Logic.{_⊎_, inl, inr}
 use Prim.Native.Nat.{ℕ, suc, _+_, _-_, _≤_, _<_}

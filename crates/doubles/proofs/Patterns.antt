@@ -1,5 +1,6 @@
--- Bit patterns. The logic reads a pattern's fields as a number of units with an odd significand; in units that is the number that the fields
--- stand for. Whether a pattern is a NaN's, an infinity's or a finite double's is read off its fields. Assumes nothing.
+-- Bit patterns. The logic reads a pattern's fields as a number of units with an odd significand; in units that is the number
+-- that the fields stand for. Whether a pattern is a NaN's, an infinity's or a finite double's is read off its fields. Assumes
+-- nothing.
 use mathlib.Core.Path.{_≡_, refl, sym, ap, ap₂, _∙_, subst}
 use Prim.Native.Nat.{ℕ, zero, suc, _+_, _*_, _/_, _%_, _^_, _<_}
 use native.Mathlib.Nat.{mul-one}

@@ -1,5 +1,6 @@
--- Rounding to 53 binary digits. A number n drops `drop n` digits, so its rounding is a number of at most 2 ^ 53 times the gap. Of two numbers that
--- drop as many digits, the order is that of the numbers kept. Where one drops fewer, a power of two lies between the two results. Assumes nothing.
+-- Rounding to 53 binary digits. A number n drops `drop n` digits, so its rounding is a number of at most 2 ^ 53 times the gap.
+-- Of two numbers that drop as many digits, the order is that of the numbers kept. Where one drops fewer, a power of two lies
+-- between the two results. Assumes nothing.
 use mathlib.Core.Path.{_≡_, refl, sym, ap, _∙_, subst}
 use mathlib.Core.Logic.{_⊎_, inl, inr}
 use Prim.Native.Nat.{ℕ, zero, suc, _+_, _-_, _*_, _/_, _%_, _^_, _≤_, _<_, zero-le, compare, Ordering, Ordering·lt, Ordering·eq, Ordering·gt}
@@ -115,7 +116,8 @@ short-kept q j h =
 
 -- ---- how far rounding goes
 
--- the rounding K of a number whose floor is Q, with r left over: the floor where r is at most half the gap u, and the next multiple where r is at least half
+-- the rounding K of a number whose floor is Q, with r left over: the floor where r is at most half the gap u, and the next
+-- multiple where r is at least half
 abbrev Chosen : ℕ → ℕ → ℕ → ℕ → Type 0
 Chosen K Q r u = ((K ≡ Q) × (r * 2 ≤ u)) ⊎ ((K ≡ Q + u) × (u ≤ r * 2))
 

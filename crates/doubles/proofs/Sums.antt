@@ -1,5 +1,5 @@
--- Sums of doubles. The sum of two finite doubles is the rounding of a whole number with a sign, `Rounds`; rounding keeps the order, and so does
--- the sum. What comes out is a double, since rounding twice is rounding once. Assumes nothing.
+-- Sums of doubles. The sum of two finite doubles is the rounding of a whole number with a sign, `Rounds`; rounding keeps the
+-- order, and so does the sum. What comes out is a double, since rounding twice is rounding once. Assumes nothing.
 use mathlib.Core.Path.{_≡_, refl, sym, ap, _∙_, subst}
 use Prim.Native.Nat.{ℕ, zero, suc, _+_, _-_, _*_, _^_, _≤_, _<_, zero-le, suc-le-suc}
 use native.Mathlib.Nat.{le-refl, add-le-add}

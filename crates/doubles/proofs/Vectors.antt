@@ -1,5 +1,6 @@
--- Vectors of IEEE 754 double precision: two doubles, their sum and whether the first is less, as an IEEE machine gives them. The definitions compute
--- every one of them, in one statement over the table. Doubles are written by their bit patterns. Assumes nothing.
+-- Vectors of IEEE 754 double precision: two doubles, their sum and whether the first is less, as an IEEE machine gives them.
+-- The definitions compute every one of them, in one statement over the table. Doubles are written by their bit patterns.
+-- Assumes nothing.
 use mathlib.Core.Path.{_≡_, refl}
 use mathlib.Core.List.{List, [], _∷_, map}
 use mathlib.Core.Bool.{Bool, true, false}

@@ -1,6 +1,7 @@
--- IEEE 754 double precision over whole numbers. "In the definitions a finite double is a whole number of units of 2^-1074, with the infinities
--- and the sign of zero beside it; sum, rounding and comparison are defined over these whole numbers." 2 ^ -1074 is the smallest positive double,
--- so every finite double is such a number. Nothing here is a fraction. Definitions only; assumes nothing.
+-- IEEE 754 double precision over whole numbers. "In the definitions a finite double is a whole number of units of 2^-1074, with
+-- the infinities and the sign of zero beside it; sum, rounding and comparison are defined over these whole numbers." 2 ^ -1074
+-- is the smallest positive double, so every finite double is such a number. Nothing here is a fraction. Definitions only;
+-- assumes nothing.
 use Prim.Native.Nat.{ℕ, zero, suc, _+_, _-_, _*_, _/_, _%_, _^_, compare, Ordering, Ordering·lt, Ordering·eq, Ordering·gt}
 use mathlib.Core.Bool.{Bool, true, false, not, _&&_, _||_, Bool·beq, cond}
 use lib.Dec.{leb, ltb, eqb}

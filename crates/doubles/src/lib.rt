@@ -60,7 +60,8 @@ pub enum Pattern {
     NotANumber,
 }
 
-// The double of a bit pattern. Every u64 has an answer: NaN and infinity patterns are named, and only a finite double comes as an f64.
+// The double of a bit pattern. Every u64 has an answer: NaN and infinity patterns are named, and only a finite double comes as
+// an f64.
 pub fn from_bits(n: u64) -> Pattern
     ensures { λ r. ⌜ Reads r (ofPattern n) ⌝ }
 {

@@ -1,6 +1,6 @@
--- Each exported promise fixes its answer and what every lent column holds afterwards: each field is an equation with a value of the inputs, and of
--- scores, which are promised as doubles, the format has one value each. That the format holds the scores is so of every `f64` column.
--- Assumes nothing.
+-- Each exported promise fixes its answer and what every lent column holds afterwards: each field is an equation with a value of
+-- the inputs, and of scores, which are promised as doubles, the format has one value each. That the format holds the scores is
+-- so of every `f64` column. Assumes nothing.
 use mathlib.Core.Path.{_≡_, sym, ap, _∙_}
 use Prim.Native.Nat.{ℕ}
 use mathlib.Core.List.{List, [], map}
@@ -27,8 +27,8 @@ use Rattle.wordpiece.proofs.Determinacy as words
 use Rattle.pack.specs.Build as packs
 use Rattle.exports.specs.Flat.{As, codeNumber, fromRowsNumber, toldNumber, toldScore, packNumber, packScore, PrintedAs}
 
--- A call that is lent nothing to write: `sk_valid_up_to`, `sk_char_len`, `sk_is_boundary`, `sk_characters`, `sk_text`, `sk_text_len`, `sk_sound`,
--- `sk_sound_scored`, `sk_exact`, `sk_exact_unscored`, `sk_exact_checked`.
+-- A call that is lent nothing to write: `sk_valid_up_to`, `sk_char_len`, `sk_is_boundary`, `sk_characters`, `sk_text`,
+-- `sk_text_len`, `sk_sound`, `sk_sound_scored`, `sk_exact`, `sk_exact_unscored`, `sk_exact_checked`.
 pub answer-once : {A : Type 0} {a b c : A} → a ≡ c → b ≡ c → a ≡ b
 answer-once p q = p ∙ sym q
 

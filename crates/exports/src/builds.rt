@@ -1,5 +1,5 @@
-// Both builds. An answer's low 32 bits are the number of nodes where its high bits are 0. Otherwise the high bits are the refusal's number and
-// the low ones the row, or 4,294,967,295 where it names none.
+// Both builds. An answer's low 32 bits are the number of nodes where its high bits are 0. Otherwise the high bits are the
+// refusal's number and the low ones the row, or 4,294,967,295 where it names none.
 use refusal::Reason;
 ghost use mathlib.Core.Path.{_≡_};
 ghost use Rattle.doubles.specs.Units.{units, scoresIs, scoresWas};

@@ -1,5 +1,5 @@
-// The calls for other languages. A slice passes as a pointer and a length, an answer as numbers. A caller outside Rattle is checked by nothing:
-// it passes what the parameters' types say.
+// The calls for other languages. A slice passes as a pointer and a length, an answer as numbers. A caller outside Rattle is
+// checked by nothing: it passes what the parameters' types say.
 use refusal::CodeAnswer;
 use refusal::Fault;
 use refusal::Judged;

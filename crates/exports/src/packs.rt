@@ -34,8 +34,8 @@ fn pack_number(a: PackAnswer, unknown_score: &mut [f64]) -> u64
     }
 }
 
-// The trie of a pack, in the lent columns; a Unigram pack's unknown score is in the first place lent for it. Kind, unknown id, max_chars and the
-// prefix's span are the words 0, 5, 6, 7 and 8 of the header.
+// The trie of a pack, in the lent columns; a Unigram pack's unknown score is in the first place lent for it. Kind, unknown id,
+// max_chars and the prefix's span are the words 0, 5, 6, 7 and 8 of the header.
 #[no_mangle]
 pub extern "C" fn sk_pack_build(
     bytes: &[u8],

@@ -1,5 +1,5 @@
--- The digits of a number: its last digit after those of a tenth of it. How many digits are allowed does not matter once they are more than the
--- number. Assumes nothing.
+-- The digits of a number: its last digit after those of a tenth of it. How many digits are allowed does not matter once they
+-- are more than the number. Assumes nothing.
 use mathlib.Core.Path.{_≡_, refl, sym, ap, _∙_}
 use mathlib.Core.Bool.{Bool, cond}
 use mathlib.Core.List.{List, [], _∷_, _++_, append-assoc, append-nil}

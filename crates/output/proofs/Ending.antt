@@ -1,4 +1,5 @@
--- Lines, one after the other: the first is what stands before the first LF, and the rest are the lines of what stands behind it. Assumes nothing.
+-- Lines, one after the other: the first is what stands before the first LF, and the rest are the lines of what stands behind
+-- it. Assumes nothing.
 use mathlib.Core.Path.{_≡_, refl, sym, ap, _∙_}
 use mathlib.Core.Bool.{Bool, true, false, cond}
 use mathlib.Core.List.{List, [], _∷_, _++_, append-nil}

@@ -1,5 +1,6 @@
--- Lines printed one after the other. After some of them what is left to print is what the rest of the input prints, and the text so far is at most 11
--- bytes for each byte that was read, LF included; so a buffer of 11 times the input, and 11, is enough. Assumes nothing.
+-- Lines printed one after the other. After some of them what is left to print is what the rest of the input prints, and the
+-- text so far is at most 11 bytes for each byte that was read, LF included; so a buffer of 11 times the input, and 11, is
+-- enough. Assumes nothing.
 use mathlib.Core.Path.{_≡_, refl, sym, ap, _∙_}
 use mathlib.Core.List.{List, [], _∷_, _++_, flatMap, append-assoc, append-nil}
 use Prim.Native.Nat.{ℕ, suc, _+_, _-_, _*_, _≤_, _<_}

@@ -1,5 +1,5 @@
--- What is printed of a pack that was judged: the refusal of one that has a fault, and else the lines in the trie that its build left in the first places
--- of the lent columns, which is the pack's. Assumes nothing.
+-- What is printed of a pack that was judged: the refusal of one that has a fault, and else the lines in the trie that its build
+-- left in the first places of the lent columns, which is the pack's. Assumes nothing.
 use mathlib.Core.Path.{_≡_, refl, sym, ap, ap₂, _∙_, subst}
 use mathlib.Core.Bool.{Bool, true, false, _&&_}
 use mathlib.Core.List.{List, [], _∷_, map}

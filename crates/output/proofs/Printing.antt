@@ -1,5 +1,5 @@
--- What an answer of the coder says of the line to print: a refusal is the fault, and else the first places hold the ids, no more
--- than the line has bytes. Assumes nothing.
+-- What an answer of the coder says of the line to print: a refusal is the fault, and else the first places hold the ids, no
+-- more than the line has bytes. Assumes nothing.
 use mathlib.Core.Path.{_≡_, sym, ap, _∙_}
 use mathlib.Core.List.{List, []}
 use mathlib.Core.Option.{Option}

@@ -1,4 +1,5 @@
--- What is printed as a whole: too much input prints its refusal alone, and else the lines print one after the other. Assumes nothing.
+-- What is printed as a whole: too much input prints its refusal alone, and else the lines print one after the other. Assumes
+-- nothing.
 use mathlib.Core.Path.{_≡_, sym, ap}
 use mathlib.Core.Bool.{Bool, true, false}
 use mathlib.Core.List.{List, flatMap}

@@ -35,7 +35,8 @@ abbrev pub cutTo : Coder → ℕ → List ℕ → List ℕ → List ℕ → List
 cutTo coder n edgeAt edgeN id score byte to prefix =
     vocabularyOf coder (take n edgeAt) (take n edgeN) (take n id) (take n score) (take (n - 1) byte) (take (n - 1) to) prefix
 
--- the pack was judged, and built where it is fine, in the columns that the program lends; what the work places hold afterwards is no matter
+-- the pack was judged, and built where it is fine, in the columns that the program lends; what the work places hold afterwards
+-- is no matter
 pub record LentBuilt (pack : List ℕ) (answer : PackAnswer) (edgeAt edgeN id : List ℕ) (scores : List Float) (byte to : List ℕ) : Type 0 where
   pub work : List ℕ
   pub built : PackBuilt pack lentMemory answer (withScores (memory edgeAt edgeN id byte to work) (map units scores))

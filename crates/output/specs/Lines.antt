@@ -21,8 +21,8 @@ linesAfter begun (b ∷ s) =
     let goesOn = linesAfter (begun ++ (b ∷ [])) s in
     cond (eqb b lf) ends goesOn
 
--- "lines from standard input, each ended by LF, the last LF optional. A line is all bytes before its LF; an empty rest after the last LF is no
--- line."
+-- "lines from standard input, each ended by LF, the last LF optional. A line is all bytes before its LF; an empty rest after
+-- the last LF is no line."
 unfoldable pub lines : List ℕ → List (List ℕ)
 lines input = linesAfter [] input
 

@@ -1,4 +1,5 @@
--- What the program `ids` prints: a function of the bytes of `vocab.pack` and of standard input. Definitions only; assumes nothing.
+-- What the program `ids` prints: a function of the bytes of `vocab.pack` and of standard input. Definitions only; assumes
+-- nothing.
 use Prim.Native.Nat.{ℕ, _+_, _*_}
 use mathlib.Core.Bool.{true, false}
 use mathlib.Core.List.{List, [], flatMap}

@@ -17,8 +17,8 @@ ghost use Rattle.output.specs.Output.{lentPlaces, codedLine};
 ghost use Rattle.output.specs.Put.{Put};
 ghost use Rattle.refusal.specs.Lent.{is, was};
 
-// One line: its ids, or its refusal. Either takes at most 11 bytes for each byte of the line, and 11. `sound` is what was found of
-// the parts. The scratch may hold anything: what a line before it left there has no effect.
+// One line: its ids, or its refusal. Either takes at most 11 bytes for each byte of the line, and 11. `sound` is what was found
+// of the parts. The scratch may hold anything: what a line before it left there has no effect.
 pub(crate) fn put_line(
     coder: Coder,
     sound: bool,

@@ -1,6 +1,6 @@
--- What a reader may rely on after `build`: the lent columns, cut to the counts, are the pack's trie, with its scores for Unigram; these parts are
--- sound, so `segment` and `encode` never refuse them with 8. The cut is the trie since N nodes have N places of each node column and N - 1
--- edges, and the rest of each column is behind them. Assumes nothing.
+-- What a reader may rely on after `build`: the lent columns, cut to the counts, are the pack's trie, with its scores for
+-- Unigram; these parts are sound, so `segment` and `encode` never refuse them with 8. The cut is the trie since N nodes have N
+-- places of each node column and N - 1 edges, and the rest of each column is behind them. Assumes nothing.
 use mathlib.Core.Path.{_≡_, refl, sym, ap, _∙_, subst}
 use mathlib.Core.Bool.{true}
 use mathlib.Core.List.{List}

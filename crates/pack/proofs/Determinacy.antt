@@ -1,5 +1,6 @@
--- The promise of a build from a pack fixes what it answers and what it leaves: each field is an equation with a value of the inputs. Scores are
--- promised as doubles, of which the format has one value each. And it is refused with r exactly where r is the pack's fault. Assumes nothing.
+-- The promise of a build from a pack fixes what it answers and what it leaves: each field is an equation with a value of the
+-- inputs. Scores are promised as doubles, of which the format has one value each. And it is refused with r exactly where r is
+-- the pack's fault. Assumes nothing.
 use mathlib.Core.Path.{_≡_, ap}
 use mathlib.Core.Logic.{_↔_}
 use mathlib.Core.Bool.{Bool, true}
@@ -64,7 +65,8 @@ told-refused (answer-is.Unigram n u x) r e = absurd (zero-one cc)
 told-refused (answer-is.WordPiece n u c off len) r e = absurd (zero-one cc)
 told-refused (answer-is.Refused q) r e = let same : q ≡ r = cc in ap answer-is.Refused same
 
--- "exactly when", both ways: refused with r exactly where r is the fault, and what the pack gives is told exactly where there is none
+-- "exactly when", both ways: refused with r exactly where r is the fault, and what the pack gives is told exactly where there
+-- is none
 module _ (bytes : List ℕ) (m : Memory) (answer : PackAnswer) (after : Memory) (p : PackBuilt bytes m answer after) where
   pub refused-exactly : (r : Reason) → (answer ≡ answer-is.Refused r) ↔ (packFault bytes m ≡ some r)
   unfolding told

@@ -1,5 +1,5 @@
--- Which fault a pack has, by its tests in their order. All but the last come before the room, and none of them has the number 7.
--- Assumes nothing.
+-- Which fault a pack has, by its tests in their order. All but the last come before the room, and none of them has the number
+-- 7. Assumes nothing.
 use mathlib.Core.Path.{_≡_, refl, sym, ap, _∙_}
 use mathlib.Core.Bool.{true, false}
 use mathlib.Core.List.{List}

@@ -1,5 +1,5 @@
--- A pack in which nothing is wrong: its rows are fine, its strings are the rest of the file, and what its header gives is answered.
--- Assumes nothing.
+-- A pack in which nothing is wrong: its rows are fine, its strings are the rest of the file, and what its header gives is
+-- answered. Assumes nothing.
 use mathlib.Core.Path.{_≡_, refl, sym, ap, _∙_, subst}
 use mathlib.Core.List.{List}
 use Prim.Native.Nat.{ℕ, _-_, _≤_}

@@ -1,5 +1,5 @@
--- What `build` promises of a fine pack: the room, that of the score column too, decides; and what the core says of the rows is said of the pack.
--- Assumes nothing.
+-- What `build` promises of a fine pack: the room, that of the score column too, decides; and what the core says of the rows is
+-- said of the pack. Assumes nothing.
 use mathlib.Core.Path.{_≡_, refl, sym, ap, _∙_, subst}
 use mathlib.Core.List.{List, [], map}
 use mathlib.Core.Option.{Option, none, some}

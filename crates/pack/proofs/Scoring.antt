@@ -1,4 +1,5 @@
--- The scores of a Unigram pack's rows, by their place; the lowest, in a loop from row to row; and the unknown score. Assumes nothing.
+-- The scores of a Unigram pack's rows, by their place; the lowest, in a loop from row to row; and the unknown score. Assumes
+-- nothing.
 use mathlib.Core.Path.{_≡_, refl, ap, _∙_}
 use mathlib.Core.List.{List, map}
 use Prim.Native.Nat.{ℕ, suc, _+_, _-_, _≤_, _<_}

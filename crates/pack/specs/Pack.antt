@@ -17,8 +17,8 @@ use Rattle.pack.specs.declared.header.Header.{Header}
 unfoldable pub word : List ℕ → ℕ → ℕ
 word bytes at = getD bytes at 0 + 2 ^ 8 * getD bytes (at + 1) 0 + 2 ^ 16 * getD bytes (at + 2) 0 + 2 ^ 24 * getD bytes (at + 3) 0
 
--- "header, 36 bytes: kind (1 Unigram, 2 WordPiece), rows, rows offset, strings offset, strings length, unknown id, max_chars, prefix offset,
--- prefix length"
+-- "header, 36 bytes: kind (1 Unigram, 2 WordPiece), rows, rows offset, strings offset, strings length, unknown id, max_chars,
+-- prefix offset, prefix length"
 unfoldable pub headerOf : List ℕ → Header
 headerOf bytes =
     record {

@@ -1,4 +1,5 @@
--- What the code's header, layout and rows stand for, and what is known of a pack whose rows are read. Definitions only; assumes nothing.
+-- What the code's header, layout and rows stand for, and what is known of a pack whose rows are read. Definitions only; assumes
+-- nothing.
 use mathlib.Core.Path.{_≡_}
 use mathlib.Core.Bool.{true, false}
 use mathlib.Core.List.{List}
@@ -93,7 +94,8 @@ FoundIs bytes (Fine kind h) = PackFine bytes kind h
 
 -- ---- the score column
 
--- what the score column holds once the trie of n nodes stands, whose ids are these: for Unigram its nodes' scores, and zeros behind them
+-- what the score column holds once the trie of n nodes stands, whose ids are these: for Unigram its nodes' scores, and zeros
+-- behind them
 pub record ScoresLeft (bytes : List ℕ) (kind : Kind) (ids : List ℕ) (n : ℕ) (before after : List Double) : Type 0 where
   pub scored : kind ≡ Unigram → after ≡ filledScores (scoresOf (rowsOf Unigram bytes)) (take n ids) before
   pub bare : kind ≡ WordPiece → after ≡ zeroScores before

@@ -58,8 +58,8 @@ fn enter_row(
     enter_token(token, kind, v, edge_n, id, work, room, n)
 }
 
-// All rows, from the root on, in columns that may hold anything: how many nodes there are, more than `room` where no room is left. The
-// root needs room too.
+// All rows, from the root on, in columns that may hold anything: how many nodes there are, more than `room` where no room is
+// left. The root needs room too.
 fn enter_rows(
     kind: Kind,
     bytes: &[u8],
@@ -87,7 +87,8 @@ fn enter_rows(
     n
 }
 
-// The trie of the rows in the lent columns, where `room` nodes fit. Where it needs more nodes, every lent place is zero afterwards.
+// The trie of the rows in the lent columns, where `room` nodes fit. Where it needs more nodes, every lent place is zero
+// afterwards.
 pub fn build_rows(
     kind: Kind,
     bytes: &[u8],

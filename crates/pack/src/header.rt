@@ -62,7 +62,8 @@ pub(crate) fn read_header(bytes: &[u8]) -> Header
     }
 }
 
-// Whether the rows follow the header, the strings follow the rows, and the file ends with the strings. The sums are wider than the words.
+// Whether the rows follow the header, the strings follow the rows, and the file ends with the strings. The sums are wider than
+// the words.
 fn is_laid_out(bytes: &[u8], h: Header) -> bool
     requires { ⌜ 36 ≤ length (now bytes) ⌝ }
     ensures { λ r. ⌜ r ≡ laidOut (was bytes) (h) ⌝ }

@@ -31,9 +31,10 @@ pub enum PackAnswer {
     Refused(Reason),
 }
 
-// The trie of a pack's rows, in the lent columns. Refused are a wrong header or layout, sizes above their limits, the first bad row, a prefix
-// that is not text in the strings, and then too few lent places. A refusal of the pack writes nothing; a refusal of the places leaves every
-// lent place zero. After a build the work places and the places past the trie are zero, and so are all score places of a WordPiece trie.
+// The trie of a pack's rows, in the lent columns. Refused are a wrong header or layout, sizes above their limits, the first bad
+// row, a prefix that is not text in the strings, and then too few lent places. A refusal of the pack writes nothing; a refusal
+// of the places leaves every lent place zero. After a build the work places and the places past the trie are zero, and so are
+// all score places of a WordPiece trie.
 pub fn build(
     bytes: &[u8],
     edge_at: &mut [u32],

@@ -31,8 +31,8 @@ fn infinity() -> f64
     f64::from_bits(INFINITE)
 }
 
-// The score whose pattern stands at byte `at`. A NaN has many patterns and no f64, so whatever is not finite is read as an infinity: its
-// fault is the same.
+// The score whose pattern stands at byte `at`. A NaN has many patterns and no f64, so whatever is not finite is read as an
+// infinity: its fault is the same.
 pub fn score_at(bytes: &[u8], at: usize) -> f64
     requires { ⌜ at + 8 ≤ length (now bytes) ⌝ }
     ensures { λ r. ⌜ ScoreRead (units r) (doubleAt (was bytes) at) ⌝ }

@@ -1,5 +1,5 @@
--- What every coding of a text or word promises. A call says which fault it finds first, what the ids are, and what it writes where
--- there is no fault. Definitions only; assumes nothing.
+-- What every coding of a text or word promises. A call says which fault it finds first, what the ids are, and what it writes
+-- where there is no fault. Definitions only; assumes nothing.
 use mathlib.Core.Path.{_≡_}
 use mathlib.Core.List.{List}
 use mathlib.Core.Option.{Option, none, some}

@@ -1,5 +1,5 @@
--- Lent columns as a contract names them: a parameter that refers to something is, in an `ensures`, the reference as the call found it and as the
--- call left it. Definitions only; assumes nothing.
+-- Lent columns as a contract names them: a parameter that refers to something is, in an `ensures`, the reference as the call
+-- found it and as the call left it. Definitions only; assumes nothing.
 use mathlib.Core.List.{List}
 use denote.Ref.{RefT}
 use denote.Triple.Both.{Both}

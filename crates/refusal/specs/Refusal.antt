@@ -42,7 +42,8 @@ abbrev pub rowOf : Reason → Option ℕ
 rowOf (Call f) = none
 rowOf (Row f i) = some i
 
--- `refuse test f later`: f where the test finds it, else what is found later. Faults written one below the other are tested in that order.
+-- `refuse test f later`: f where the test finds it, else what is found later. Faults written one below the other are tested in
+-- that order.
 unfoldable pub refuse {ℓ} : {A : Type ℓ} → Bool → A → Option A → Option A
 refuse true f later = some f
 refuse false f later = later

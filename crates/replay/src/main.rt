@@ -1,6 +1,7 @@
-// Replays stored cases of what the program `ids` prints, and prints how many agree and how many differ. Standard input has, for each case, the
-// lengths of a pack, an input and an output as little-endian words, and then their bytes. The outputs are what the Rust and the paper give: they
-// are made by compare/src/packs.rs from a fixed seed, small packs of both kinds with lines over them, every fourth pack damaged.
+// Replays stored cases of what the program `ids` prints, and prints how many agree and how many differ. Standard input has, for
+// each case, the lengths of a pack, an input and an output as little-endian words, and then their bytes. The outputs are what
+// the Rust and the paper give: they are made by compare/src/packs.rs from a fixed seed, small packs of both kinds with lines
+// over them, every fourth pack damaged.
 use libc::STDIN_FILENO;
 use libc::STDOUT_FILENO;
 ghost use Rattle.io.specs.Counts.{Counts};

@@ -1,5 +1,5 @@
--- Each promise of this crate fixes its answer: an answer about a row is known by the fault that it names, and a score by its units, since the
--- format has one value for each double. Of a row list that is `judge-determined` in Judged. Assumes nothing.
+-- Each promise of this crate fixes its answer: an answer about a row is known by the fault that it names, and a score by its
+-- units, since the format has one value for each double. Of a row list that is `judge-determined` in Judged. Assumes nothing.
 use mathlib.Core.Path.{_≡_}
 use mathlib.Core.List.{List, map}
 use Prim.Native.Nat.{ℕ}

@@ -1,5 +1,6 @@
--- The first bad row is the lowest: a row without a fault hands on to the rows after it, a row with one decides. So what is found from row i on
--- is found from row i + 1 on where row i is fine, and that carries a loop over the columns. Assumes nothing.
+-- The first bad row is the lowest: a row without a fault hands on to the rows after it, a row with one decides. So what is
+-- found from row i on is found from row i + 1 on where row i is fine, and that carries a loop over the columns. Assumes
+-- nothing.
 use mathlib.Core.Path.{_≡_, refl, sym, ap, _∙_}
 use mathlib.Core.List.{List, [], _∷_}
 use mathlib.Core.Logic.{_↔_}

@@ -1,5 +1,5 @@
--- Which reason is given, and that the answer of `judge` follows from the inputs. A row is named exactly where it is the lowest with a fault, 1 is
--- given exactly where a size is wrong, and an answer is known by the reason that it names. Assumes nothing.
+-- Which reason is given, and that the answer of `judge` follows from the inputs. A row is named exactly where it is the lowest
+-- with a fault, 1 is given exactly where a size is wrong, and an answer is known by the reason that it names. Assumes nothing.
 use mathlib.Core.Path.{_≡_, refl, sym, ap, _∙_}
 use mathlib.Core.Bool.{Bool, true, false}
 use mathlib.Core.List.{List}

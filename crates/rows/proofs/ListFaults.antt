@@ -1,5 +1,5 @@
--- A row list as a whole: 1 for its sizes, then the first bad row. A list without a fault is within its sizes and each of its rows is fine, so its
--- tokens are short text inside the table and its worths are finite scores, or real ids. Assumes nothing.
+-- A row list as a whole: 1 for its sizes, then the first bad row. A list without a fault is within its sizes and each of its
+-- rows is fine, so its tokens are short text inside the table and its worths are finite scores, or real ids. Assumes nothing.
 use mathlib.Core.Path.{_≡_, refl, sym, ap, _∙_}
 use mathlib.Core.Bool.{Bool, true, false, not, _||_, cond}
 use mathlib.Core.List.{List}

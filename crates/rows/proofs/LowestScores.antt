@@ -1,5 +1,5 @@
--- The lowest score is one of the scores and at most each of them, so it is finite where they all are; 10 less is finite too, for a finite
--- double. Assumes nothing.
+-- The lowest score is one of the scores and at most each of them, so it is finite where they all are; 10 less is finite too,
+-- for a finite double. Assumes nothing.
 use mathlib.Core.Path.{_≡_, refl, sym, ap, subst}
 use mathlib.Core.List.{List, [], _∷_, map}
 use mathlib.Core.Logic.{⊎-elim}

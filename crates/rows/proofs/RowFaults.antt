@@ -1,5 +1,5 @@
--- One row: which test gives which fault, and what a row without a fault says. The first test that finds a fault decides, so a fault of a
--- later test is given only where each test before it found nothing. Assumes nothing.
+-- One row: which test gives which fault, and what a row without a fault says. The first test that finds a fault decides, so a
+-- fault of a later test is given only where each test before it found nothing. Assumes nothing.
 use mathlib.Core.Path.{_≡_, refl, _∙_}
 use mathlib.Core.Bool.{true, false}
 use mathlib.Core.List.{List}

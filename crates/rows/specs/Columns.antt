@@ -14,7 +14,8 @@ use Rattle.refusal.specs.Refusal.{refuse}
 use Rattle.rows.specs.declared.Kind.{Kind}
 use Rattle.rows.specs.Rows.{Row, score, id, firstBad}
 
--- A place in each column for each row. `scored` says which kind of worth the row has: its score counts where it is true, else its id.
+-- A place in each column for each row. `scored` says which kind of worth the row has: its score counts where it is true, else
+-- its id.
 pub record Columns : Type 0 where
   pub off : List ℕ
   pub len : List ℕ

@@ -43,7 +43,8 @@ rowIs r = record { off = r .off; len = r .len; worth = worthIs (r .worth) }
 abbrev pub tokenOf : List ℕ → Row → List ℕ
 tokenOf tab r = spanOf tab (r .off) (r .len)
 
--- 5: "a Unigram row's worth is no score, or a NaN or an infinity"; 6: "a WordPiece row's worth is no id, or the id 4,294,967,295"
+-- 5: "a Unigram row's worth is no score, or a NaN or an infinity"; 6: "a WordPiece row's worth is no id, or the id
+-- 4,294,967,295"
 unfoldable pub worthFault : Kind → Worth → Option Fault
 worthFault Unigram (score x) = refuse (not (isFinite x)) fault.Score none
 worthFault Unigram (id i) = some fault.Score

@@ -43,7 +43,8 @@ fn is_level(off: &[u32], len: &[u32], scored: &[bool], score: &[f64], id: &[u32]
     id.len() == n
 }
 
-// Whether every row is fine. Refused with 1 for too many rows, too large a table or lists of unequal length; then the first bad row decides.
+// Whether every row is fine. Refused with 1 for too many rows, too large a table or lists of unequal length; then the first bad
+// row decides.
 pub fn judge(
     kind: Kind,
     tab: &[u8],

@@ -1,5 +1,6 @@
--- What the build of Unigram rows in columns promises: the room, that of the score column too, decides; what the core says of its rows is said of the
--- columns' rows; and the score column, filled by the ids of the nodes, is that of the rows. Assumes nothing.
+-- What the build of Unigram rows in columns promises: the room, that of the score column too, decides; what the core says of
+-- its rows is said of the columns' rows; and the score column, filled by the ids of the nodes, is that of the rows. Assumes
+-- nothing.
 use mathlib.Core.Path.{_≡_, refl, sym, ap, _∙_}
 use mathlib.Core.Bool.{Bool}
 use mathlib.Core.List.{List, [], _∷_, map}

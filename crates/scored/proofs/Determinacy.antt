@@ -1,5 +1,5 @@
--- The promise of `build` fixes what it answers and what it leaves. Scores are promised as doubles, of which the format has one value each, so that the
--- answer and the score column themselves are fixed too.
+-- The promise of `build` fixes what it answers and what it leaves. Scores are promised as doubles, of which the format has one
+-- value each, so that the answer and the score column themselves are fixed too.
 use mathlib.Core.Path.{_≡_, ap, ap₂}
 use mathlib.Core.Bool.{Bool, true}
 use mathlib.Core.Logic.{_↔_}
@@ -49,7 +49,8 @@ told-known (answer-is.Built s) (answer-is.Refused r) h k e = cc
 told-known (answer-is.Refused r) (answer-is.Built t) h k e = cc
 told-known (answer-is.Refused q) (answer-is.Refused r) h k e = let same : q ≡ r = cc in ap answer-is.Refused same
 
--- `build` on the same rows and memory: one answer, and one content of every lent column. That the format holds the scores is so of every column.
+-- `build` on the same rows and memory: one answer, and one content of every lent column. That the format holds the scores is so
+-- of every column.
 module _ (tab : List ℕ) (c : Columns) (m m₁ m₂ : Memory) (a b : BuildAnswer) (x₁ x₂ : List Float)
     (p : Built tab c m a (withScores m₁ (map units x₁))) (q : Built tab c m b (withScores m₂ (map units x₂)))
     (h : T (heldIn a)) (k : T (heldIn b)) (h₁ : T (allHeld x₁)) (h₂ : T (allHeld x₂)) where
@@ -61,7 +62,8 @@ module _ (tab : List ℕ) (c : Columns) (m m₁ m₂ : Memory) (a b : BuildAnswe
         column-once x₁ x₂ h₁ h₂ (ap (λ (x : Memory). x .score) (t .1)),
       )
 
--- "exactly when", both ways: a build is refused with r exactly when r is its fault, and says N and the unknown score exactly when there is none
+-- "exactly when", both ways: a build is refused with r exactly when r is its fault, and says N and the unknown score exactly
+-- when there is none
 pub told-refused : (b : BuildAnswer) (r : Reason) → (b ≡ answer-is.Refused r) ↔ (told b ≡ refused r)
 unfolding told
 told-refused b r = (λ e. ap told e, says b)

@@ -1,5 +1,5 @@
--- A score column stored from the front: the places below k hold what a rule gives them, the others what they held. One law for the zeros and
--- for the nodes' scores. Assumes nothing.
+-- A score column stored from the front: the places below k hold what a rule gives them, the others what they held. One law for
+-- the zeros and for the nodes' scores. Assumes nothing.
 use mathlib.Core.Path.{_≡_, sym, ap, _∙_}
 use mathlib.Core.List.{List, _++_, map}
 use mathlib.Core.Logic.{⊎-elim}

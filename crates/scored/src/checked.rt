@@ -37,8 +37,8 @@ pub fn room(
     room
 }
 
-// The trie of rows with scores in which no fault was found, in the lent columns, the first row of a token giving the id and the score; or no room
-// for it.
+// The trie of rows with scores in which no fault was found, in the lent columns, the first row of a token giving the id and the
+// score; or no room for it.
 pub fn build_rows(
     tab: &[u8],
     off: &[u32],

@@ -23,9 +23,9 @@ pub enum BuildAnswer {
     Refused(Reason),
 }
 
-// The trie of the rows, in the lent columns. Refused are sizes above their limits or lists of unequal length, then the first bad row, and then
-// too few lent places. A refusal of the rows writes nothing; a refusal of the places leaves every lent place zero. After a build the work
-// places and the places past the trie are zero.
+// The trie of the rows, in the lent columns. Refused are sizes above their limits or lists of unequal length, then the first
+// bad row, and then too few lent places. A refusal of the rows writes nothing; a refusal of the places leaves every lent place
+// zero. After a build the work places and the places past the trie are zero.
 pub fn build(
     tab: &[u8],
     off: &[u32],

@@ -1,5 +1,6 @@
--- The promise of `build_rows`, from what its steps promise. Rows without a fault that were put in the columns are the rows of the first places, so
--- that what is built from these is what the rows ask for; where there is a fault or too little room, nothing was put. Assumes nothing.
+-- The promise of `build_rows`, from what its steps promise. Rows without a fault that were put in the columns are the rows of
+-- the first places, so that what is built from these is what the rows ask for; where there is a fault or too little room,
+-- nothing was put. Assumes nothing.
 use mathlib.Core.Path.{_≡_, refl, sym, ap, _∙_, subst}
 use mathlib.Core.Bool.{Bool, true, false, _||_, cond}
 use mathlib.Core.List.{List, [], _∷_, map}

@@ -20,8 +20,8 @@ use Rattle.scored.specs.Build.{reportOf, told}
 use Rattle.scored.proofs.Determinacy.{heldIn, told-known, told-refused}
 use Rattle.sliced.specs.BuildRows.{RowPlaces, rowPlaces, rowsJudged, shortFor, RowsBuilt}
 
--- The answer itself and the lent columns themselves: node scores x₁ and x₂, places for the rows' scores y₁ and y₂. That the format holds them is
--- so of every column.
+-- The answer itself and the lent columns themselves: node scores x₁ and x₂, places for the rows' scores y₁ and y₂. That the
+-- format holds them is so of every column.
 module _ (tab : List ℕ) (rows : List Row) (l : RowPlaces) (m m₁ m₂ : Memory) (a b : BuildAnswer) (o₁ o₂ n₁ n₂ : List ℕ) (x₁ x₂ y₁ y₂ : List Float)
     (p : RowsBuilt tab rows l m a (rowPlaces o₁ n₁ y₁) (withScores m₁ (map units x₁))) (q : RowsBuilt tab rows l m b (rowPlaces o₂ n₂ y₂) (withScores m₂ (map units x₂)))
     (h : T (heldIn a)) (k : T (heldIn b)) (h₁ : T (allHeld x₁)) (h₂ : T (allHeld x₂)) (k₁ : T (allHeld y₁)) (k₂ : T (allHeld y₂)) where

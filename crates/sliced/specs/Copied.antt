@@ -1,4 +1,5 @@
--- A slice of rows, judged and copied into lent columns: what each step of `build_rows` promises. Definitions only; assumes nothing.
+-- A slice of rows, judged and copied into lent columns: what each step of `build_rows` promises. Definitions only; assumes
+-- nothing.
 use mathlib.Core.Path.{_≡_}
 use Prim.Native.Nat.{ℕ, _-_}
 use mathlib.Core.Bool.{true, false, cond}
@@ -37,11 +38,13 @@ foundBy n t tab r found = cond (ltb t n) (foundAfter found tab r t) found
 unfoldable pub placesBy : ℕ → ℕ → Option Reason → Row → RowPlaces → RowPlaces
 placesBy n t found r c = cond (ltb t n) c (putFine n found (t - n) r c)
 
--- The first n places as the columns of a row list, each row with a score for its worth. A Unigram build looks at no id, so the offsets stand in.
+-- The first n places as the columns of a row list, each row with a score for its worth. A Unigram build looks at no id, so the
+-- offsets stand in.
 abbrev pub firstPlaces : ℕ → List ℕ → List ℕ → List Float → Columns
 firstPlaces n off len score = columns (take n off) (take n len) (replicate n true) (take n score) (take n off)
 
--- what was found is a fault of the rows, which is never 7; and rows that were found fine stand in the first places, where there is room for them
+-- what was found is a fault of the rows, which is never 7; and rows that were found fine stand in the first places, where there
+-- is room for them
 pub record RowsCopied (found : Option Reason) (n : ℕ) (tab off len : List ℕ) (score : List Float) : Type 0 where
   pub other : (r : Reason) → found ≡ some r → eqb (numberOf r) 7 ≡ false
   pub fine : found ≡ none → shortOf n (rowPlaces off len score) ≡ false → columnsFault kind.Unigram tab (firstPlaces n off len score) ≡ none

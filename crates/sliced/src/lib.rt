@@ -10,8 +10,9 @@ ghost use Rattle.build.specs.Memory.{scoredMemoryIs, scoredMemoryWas};
 ghost use Rattle.sliced.specs.BuildRows.{RowsBuilt, placesIs, placesWas};
 ghost use Rattle.refusal.specs.Lent.{was};
 
-// As `scored::build`, over a slice of rows, with columns lent that have a place for each row. Too few places in these are refused as other lent
-// places are. They end as work places do: zero after a build and after too few lent places, and as they were after any other refusal.
+// As `scored::build`, over a slice of rows, with columns lent that have a place for each row. Too few places in these are
+// refused as other lent places are. They end as work places do: zero after a build and after too few lent places, and as they
+// were after any other refusal.
 pub fn build_rows(
     tab: &[u8],
     rows: &[Row],

@@ -208,8 +208,8 @@ fn refuse_short(
     BuildAnswer::Refused(Reason::Call(Fault::Room))
 }
 
-// The build of n rows that were found fine and copied, where the columns have room for them; or else what was found, or too little room.
-// Afterwards the columns are zero, but where a fault was found they are as they were.
+// The build of n rows that were found fine and copied, where the columns have room for them; or else what was found, or too
+// little room. Afterwards the columns are zero, but where a fault was found they are as they were.
 pub(crate) fn build_copied(
     found: RowsAnswer,
     n: usize,
@@ -228,8 +228,8 @@ pub(crate) fn build_copied(
     requires { ⌜ RowsCopied (reasonIn found) n (now tab) (now off) (now len) (now score) ⌝ }
     ensures { λ r.
         ⌜ PlacesBuilt (reasonIn found) n (was tab) (rowsOf (firstPlaces n (was off) (was len) (was score)))
-        (placesWas off len score) (scoredMemoryWas «edge_at» «edge_n» «node_id» «node_score» byte to work) r (placesIs off len score)
-        (scoredMemoryIs «edge_at» «edge_n» «node_id» «node_score» byte to work) ⌝ }
+        (placesWas off len score) (scoredMemoryWas «edge_at» «edge_n» «node_id» «node_score» byte to work) r
+        (placesIs off len score) (scoredMemoryIs «edge_at» «edge_n» «node_id» «node_score» byte to work) ⌝ }
 {
     if let RowsAnswer::Refused(r) = found {
         return BuildAnswer::Refused(r);

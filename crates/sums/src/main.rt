@@ -1,7 +1,8 @@
-// Replays stored sums and comparisons of doubles, and prints how many agree and how many differ. Standard input has a line for each: the bit patterns
-// of a, of b and of a + b, in 16 hexadecimal digits each, and 1 where a < b, else 0. They are answers of Rust's own f64, made by compare/src/sums.rs
-// from a fixed seed: edges in all pairs, then random doubles, near and far exponents, ties and their neighbours, near cancellations, subnormals,
-// sums around the largest double, and numbers such as a vocabulary's scores.
+// Replays stored sums and comparisons of doubles, and prints how many agree and how many differ. Standard input has a line for
+// each: the bit patterns of a, of b and of a + b, in 16 hexadecimal digits each, and 1 where a < b, else 0. They are answers of
+// Rust's own f64, made by compare/src/sums.rs from a fixed seed: edges in all pairs, then random doubles, near and far
+// exponents, ties and their neighbours, near cancellations, subnormals, sums around the largest double, and numbers such as a
+// vocabulary's scores.
 ghost use Prim.Native.Nat.{_≤_};
 use doubles::Bits;
 use doubles::Pattern;

@@ -1,5 +1,5 @@
--- Boundaries and characters of a well-formed text, end to end. A text cut at a boundary is two texts (`cut`), so what holds of the first
--- character of a text holds of the one at any boundary. Assumes nothing.
+-- Boundaries and characters of a well-formed text, end to end. A text cut at a boundary is two texts (`cut`), so what holds of
+-- the first character of a text holds of the one at any boundary. Assumes nothing.
 use mathlib.Core.Path.{_≡_, refl, sym, ap, _∙_}
 use mathlib.Core.Bool.{Bool, true, false, cond}
 use mathlib.Core.List.{List, [], _∷_, _++_}

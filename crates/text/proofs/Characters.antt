@@ -1,5 +1,6 @@
--- The character at the front of a byte list, written out. `Front s k` has a case for each length, so that what is said of a character is
--- seen byte by byte: it stays where bytes follow it, its first byte is no tail, its others are tails. Assumes nothing.
+-- The character at the front of a byte list, written out. `Front s k` has a case for each length, so that what is said of a
+-- character is seen byte by byte: it stays where bytes follow it, its first byte is no tail, its others are tails. Assumes
+-- nothing.
 use mathlib.Core.Path.{_≡_, refl}
 use mathlib.Core.Bool.{Bool, true, false, _&&_, cond}
 use mathlib.Core.List.{List, [], _∷_, _++_}

@@ -1,5 +1,5 @@
--- The entries of the lead table. Both ends of a range fit a byte, so an entry's digits are its parts; the lengths change where `char_len`
--- tests; and one test over the whole table gives each entry. Assumes nothing.
+-- The entries of the lead table. Both ends of a range fit a byte, so an entry's digits are its parts; the lengths change where
+-- `char_len` tests; and one test over the whole table gives each entry. Assumes nothing.
 use mathlib.Core.Path.{_≡_, refl}
 use mathlib.Core.Bool.{Bool, true, false, cond}
 use mathlib.Core.List.{List}

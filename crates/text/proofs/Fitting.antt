@@ -1,5 +1,5 @@
--- A block of characters of up to three bytes: from what is known of each byte and the next two, its characters are passed one by one, and
--- the last of them ends at the block's end or up to two bytes further. Assumes nothing.
+-- A block of characters of up to three bytes: from what is known of each byte and the next two, its characters are passed one
+-- by one, and the last of them ends at the block's end or up to two bytes further. Assumes nothing.
 use mathlib.Core.Path.{_≡_, refl}
 use mathlib.Core.Bool.{Bool, true, false}
 use mathlib.Core.List.{List}

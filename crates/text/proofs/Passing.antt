@@ -1,6 +1,6 @@
--- The turns of `valid_up_to`: whole characters are passed one by one; a run of ASCII is passed at once, each of its bytes a character; and so
--- is a block of ASCII and characters of two bytes, from what is known of each byte and the next. `Passed` composes, so that each function only
--- says what it passes itself. Assumes nothing.
+-- The turns of `valid_up_to`: whole characters are passed one by one; a run of ASCII is passed at once, each of its bytes a
+-- character; and so is a block of ASCII and characters of two bytes, from what is known of each byte and the next. `Passed`
+-- composes, so that each function only says what it passes itself. Assumes nothing.
 use mathlib.Core.Path.{_≡_, refl, _∙_}
 use mathlib.Core.Bool.{Bool, true, false}
 use mathlib.Core.List.{List}

@@ -1,5 +1,5 @@
--- Characters that tests of their bytes tell: the lead byte gives the length, the second byte is in the lead byte's range, and the later ones
--- are tails. Assumes nothing.
+-- Characters that tests of their bytes tell: the lead byte gives the length, the second byte is in the lead byte's range, and
+-- the later ones are tails. Assumes nothing.
 use mathlib.Core.Path.{_≡_, refl, ap, _∙_}
 use mathlib.Core.Bool.{Bool, true, false, cond}
 use mathlib.Core.List.{List}

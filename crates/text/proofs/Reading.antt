@@ -1,5 +1,5 @@
--- What a reader of the bytes at a position learns: the list from i on begins with the byte at i, so a definition by clauses on the list
--- takes a step where the code reads a byte. Assumes nothing.
+-- What a reader of the bytes at a position learns: the list from i on begins with the byte at i, so a definition by clauses on
+-- the list takes a step where the code reads a byte. Assumes nothing.
 use mathlib.Core.Path.{_≡_, refl, sym, ap, _∙_}
 use mathlib.Core.Bool.{Bool, true, false, not, _&&_, cond, and-true}
 use mathlib.Core.List.{List, [], _∷_}

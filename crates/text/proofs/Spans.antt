@@ -1,5 +1,5 @@
--- The span check: which test gives which fault, and that its two calls are determined. The first test that finds a fault decides; an
--- answer is the fault's and a part is the answer's, so both follow from the inputs. Assumes nothing.
+-- The span check: which test gives which fault, and that its two calls are determined. The first test that finds a fault
+-- decides; an answer is the fault's and a part is the answer's, so both follow from the inputs. Assumes nothing.
 use mathlib.Core.Path.{_≡_, sym, ap, _∙_}
 use mathlib.Core.Bool.{true, false, not}
 use mathlib.Core.List.{List, []}

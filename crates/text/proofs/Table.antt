@@ -1,5 +1,5 @@
--- A table's rule, proved at once for all of its entries: the rule is a test of a place and its entry, antt computes it down the whole table,
--- and `entry-is` reads off what it says of one place. Assumes nothing.
+-- A table's rule, proved at once for all of its entries: the rule is a test of a place and its entry, antt computes it down the
+-- whole table, and `entry-is` reads off what it says of one place. Assumes nothing.
 use mathlib.Core.Path.{_≡_, subst}
 use mathlib.Core.Bool.{Bool, true, false, _&&_}
 use mathlib.Core.List.{List, [], _∷_}

@@ -1,5 +1,6 @@
--- A well-formed text is characters, end to end: `Chars s`. It holds exactly where `wellFormed` does. Characters in front pass through
--- `validUpTo` (`valid-over`), from which come concatenation, the longest prefix, and the turns of the loop that finds it. Assumes nothing.
+-- A well-formed text is characters, end to end: `Chars s`. It holds exactly where `wellFormed` does. Characters in front pass
+-- through `validUpTo` (`valid-over`), from which come concatenation, the longest prefix, and the turns of the loop that finds
+-- it. Assumes nothing.
 use mathlib.Core.Path.{_≡_, refl, sym, ap, _∙_}
 use mathlib.Core.Bool.{true}
 use mathlib.Core.List.{List, [], _++_}

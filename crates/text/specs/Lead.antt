@@ -1,4 +1,5 @@
--- One number for an entry of the table by lead byte: its length and the range of its second byte. Definitions only; assumes nothing.
+-- One number for an entry of the table by lead byte: its length and the range of its second byte. Definitions only; assumes
+-- nothing.
 use mathlib.Core.Path.{_≡_}
 use mathlib.Core.List.{List}
 use Prim.Native.Nat.{ℕ, _+_, _*_, _<_}

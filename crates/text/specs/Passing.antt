@@ -9,8 +9,8 @@ use Rattle.text.specs.Text.{validUpTo}
 abbrev pub Ascii : List ℕ → ℕ → ℕ → Type 0
 Ascii s i j = (k : ℕ) → i ≤ k → k < j → getD s k 0 < 0x80
 
--- In a text of ASCII and characters of two bytes b may stand before c: C2-DF stands before 80-BF, whose upper two bits are 10, and nothing
--- else does.
+-- In a text of ASCII and characters of two bytes b may stand before c: C2-DF stands before 80-BF, whose upper two bits are 10,
+-- and nothing else does.
 pub record Follows (b c : ℕ) : Type 0 where
   pub low : b < 0xC0 → c / 64 ≡ 2 → ⊥
   pub lead : 0xC0 ≤ b → (0xC2 ≤ b) × (b < 0xE0) × (c / 64 ≡ 2)
@@ -19,8 +19,8 @@ pub record Follows (b c : ℕ) : Type 0 where
 abbrev pub Paired : List ℕ → ℕ → ℕ → Type 0
 Paired s i j = (k : ℕ) → i ≤ k → k < j → Follows (getD s k 0) (getD s (k + 1) 0)
 
--- In a text of characters of up to three bytes a may stand before b and c: c is a tail exactly where b begins a character of more than one
--- byte, or a one of three.
+-- In a text of characters of up to three bytes a may stand before b and c: c is a tail exactly where b begins a character of
+-- more than one byte, or a one of three.
 pub record Fits (a b c : ℕ) : Type 0 where
   pub below : a < 0xF0
   pub lead : 0xC0 ≤ a → 0xC2 ≤ a

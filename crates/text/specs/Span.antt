@@ -34,8 +34,9 @@ spanFault tab off len = refuse (above maxTable (length tab)) Size (partFault tab
 pub record TextAnswered (tab : List ℕ) (off len : ℕ) (answer : Judged) : Type 0 where
   pub answered : faultIn answer ≡ spanFault tab off len
 
--- What is promised of the part given back of a span with this fault: its bytes, the block of memory that it stands in, and where.
--- "An accepted span gives back that part of the lent string table itself. A refused one gives back the empty part at the table's start"
+-- What is promised of the part given back of a span with this fault: its bytes, the block of memory that it stands in, and
+-- where. "An accepted span gives back that part of the lent string table itself. A refused one gives back the empty part at the
+-- table's start"
 pub record PartGiven (fault : Option Fault) (table : RefT (List ℕ)) (off len : ℕ) (part : RefT (List ℕ)) : Type 0 where
   pub gave : part .now ≡ unlessFault fault (spanOf (table .now) off len) []
   pub block : part .ptr .0 ≡ table .ptr .0

@@ -23,7 +23,8 @@ lengthOf b =
     (cond (within 0xE0 0xEF b) 3
     (cond (within 0xF0 0xF4 b) 4 0)))
 
--- The range of the second byte: "E0 second A0-BF; ED second 80-9F; F0 second 90-BF; F4 second 80-8F. Where no range is given the second byte is 80-BF"
+-- The range of the second byte: "E0 second A0-BF; ED second 80-9F; F0 second 90-BF; F4 second 80-8F. Where no range is given
+-- the second byte is 80-BF"
 unfoldable pub secondLow : ℕ → ℕ
 secondLow b = cond (eqb b 0xE0) 0xA0 (cond (eqb b 0xF0) 0x90 0x80)
 
@@ -56,7 +57,8 @@ unfolding lengthOf rest
 character [] = 0
 character (b ∷ s) = cond (rest b (lengthOf b) s) (lengthOf b) 0
 
--- How many bytes the characters at the front take, end to end. The first argument bounds how many characters; the length is enough.
+-- How many bytes the characters at the front take, end to end. The first argument bounds how many characters; the length is
+-- enough.
 unfoldable pub validIn : ℕ → List ℕ → ℕ
 unfolding character
 validIn zero s = 0

@@ -3,8 +3,8 @@ ghost use mathlib.Core.Path.{_≡_};
 ghost use Rattle.text.specs.Text.{lengthOf};
 ghost use Rattle.text.specs.Lead.{entryOf, IsLead};
 
-// By lead byte, 0xN_LL_HH: a character of N bytes whose second byte is LL to HH. N is 0 where the byte begins none.
-// 00-7F length 1; C2-DF 2; E0 3, second A0-BF; E1-EC, EE, EF 3; ED 3, second 80-9F; F0 4, second 90-BF; F1-F3 4; F4 4, second 80-8F.
+// By lead byte, 0xN_LL_HH: a character of N bytes whose second byte is LL to HH. N is 0 where the byte begins none. 00-7F
+// length 1; C2-DF 2; E0 3, second A0-BF; E1-EC, EE, EF 3; ED 3, second 80-9F; F0 4, second 90-BF; F1-F3 4; F4 4, second 80-8F.
 pub(crate) const LEAD: [u32; 256] = [
     // 00-0F: length 1
     0x1_80_BF,
@@ -288,8 +288,8 @@ pub(crate) fn entry(table: &[u32; 256], b: u8) -> u32
     table[b as usize]
 }
 
-// How many bytes the character has that this byte begins; 0 where it begins none. By tests and not by the table: a call that reads one
-// entry of a constant table first lays out all of it.
+// How many bytes the character has that this byte begins; 0 where it begins none. By tests and not by the table: a call that
+// reads one entry of a constant table first lays out all of it.
 pub fn char_len(b: u8) -> usize
     ensures { λ r. ⌜ r ≡ lengthOf b ⌝ }
 {

@@ -28,8 +28,8 @@ fn nothing<'a>(tab: &'a [u8]) -> &'a [u8]
     &tab[start..start]
 }
 
-// Whether a span is text: the size of the table is tested, then the span's end, then its bytes. An empty part may be an accepted
-// span, so this stands beside `text`.
+// Whether a span is text: the size of the table is tested, then the span's end, then its bytes. An empty part may be an
+// accepted span, so this stands beside `text`.
 pub fn text_answer(tab: &[u8], off: u32, len: u32) -> Judged
     ensures { λ r. ⌜ TextAnswered (was tab) off len r ⌝ }
 {

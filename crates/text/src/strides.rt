@@ -1,5 +1,5 @@
-// Text passed over in long strides. What tests of the bytes alone tell to be characters is passed, by blocks or by runs; where they can't tell, the
-// stride ends, and what stands there is for the lead table to decide.
+// Text passed over in long strides. What tests of the bytes alone tell to be characters is passed, by blocks or by runs; where
+// they can't tell, the stride ends, and what stands there is for the lead table to decide.
 ghost use mathlib.Core.Path.{_≡_};
 ghost use mathlib.Core.Bool.{true};
 ghost use Prim.Native.Nat.{_+_, _≤_, _<_};
@@ -98,8 +98,8 @@ fn follows(b: u8, c: u8) -> u8
     0
 }
 
-// How many bytes outside ASCII are looked at together. It compiles to sixteen at a time, and to no branch for each character, which would
-// often be guessed wrong.
+// How many bytes outside ASCII are looked at together. It compiles to sixteen at a time, and to no branch for each character,
+// which would often be guessed wrong.
 const BLOCK: usize = 32;
 
 // Each of the BLOCK bytes at i may stand before the next.
@@ -116,7 +116,8 @@ fn is_paired(s: &[u8], i: usize) -> bool
     count as usize == BLOCK
 }
 
-// The end of the block of such text at i, one further where the block's last byte begins a character; i itself where there is no such block.
+// The end of the block of such text at i, one further where the block's last byte begins a character; i itself where there is
+// no such block.
 fn past_pair_block(s: &[u8], i: usize) -> usize
     requires { ⌜ i + 32 < length (now s) ⌝ }
     ensures { λ r. ⌜ Passed (was s) i r ⌝ }
@@ -150,7 +151,8 @@ fn past_pairs(s: &[u8], i: usize) -> usize
     at
 }
 
-// The same for a text of characters of up to three bytes: 1 where a may stand before b and c, else 0. C0 and C1 are those with a / 2 = 60.
+// The same for a text of characters of up to three bytes: 1 where a may stand before b and c, else 0. C0 and C1 are those with
+// a / 2 = 60.
 fn fits(a: u8, b: u8, c: u8) -> u8
     ensures { λ r. ⌜ (r ≤ 1) × (r ≡ 1 → Fits a b c) ⌝ }
 {
@@ -209,7 +211,8 @@ fn begins(a: u8, b: u8) -> bool
     b / 64 == 2
 }
 
-// The end of the block of such text at i, up to two further where the block's last character goes on; i itself where there is no such block.
+// The end of the block of such text at i, up to two further where the block's last character goes on; i itself where there is
+// no such block.
 fn past_fit_block(s: &[u8], i: usize) -> usize
     requires { ⌜ i + 33 < length (now s) ⌝ }
     ensures { λ r. ⌜ Passed (was s) i r ⌝ }
@@ -261,8 +264,9 @@ fn is_two(s: &[u8], i: usize) -> bool
     is_tail(s[i + 1])
 }
 
-// The three bytes at i are a character: E0-EF and two tails. Its value over 2048 is not 0, which has shorter forms (E0 before 80-9F), and not
-// 27, the surrogates from 27 * 2048 = D800 on (ED before A0-BF). One number for both, since a branch on ED is often guessed wrong.
+// The three bytes at i are a character: E0-EF and two tails. Its value over 2048 is not 0, which has shorter forms (E0 before
+// 80-9F), and not 27, the surrogates from 27 * 2048 = D800 on (ED before A0-BF). One number for both, since a branch on ED is
+// often guessed wrong.
 fn is_three(s: &[u8], i: usize) -> bool
     requires { ⌜ i + 3 ≤ length (now s) ⌝ }
     ensures { λ r. ⌜ (r ≡ true → character (drop i (was s)) ≡ 3) ⌝ }
@@ -332,7 +336,8 @@ fn past_same(s: &[u8], i: usize, n: usize) -> usize
     at
 }
 
-// The end of the run at i: of ASCII; from a longer character on, of blocks of characters up to its length, and then of those as long as it.
+// The end of the run at i: of ASCII; from a longer character on, of blocks of characters up to its length, and then of those as
+// long as it.
 fn past_run(s: &[u8], i: usize) -> usize
     requires { ⌜ i < length (now s) ⌝ }
     ensures { λ r. ⌜ Passed (was s) i r ⌝ }

@@ -113,8 +113,8 @@ fn valid_after(s: &[u8], i: usize) -> usize
     valid_from(s, at)
 }
 
-// The length of the longest prefix made of whole well-formed characters. What most texts need, blocks of ASCII, stands by itself: so short, it is
-// compiled into its callers.
+// The length of the longest prefix made of whole well-formed characters. What most texts need, blocks of ASCII, stands by
+// itself: so short, it is compiled into its callers.
 pub fn valid_up_to(s: &[u8]) -> usize
     ensures { λ r. ⌜ r ≡ validUpTo (was s) ⌝ }
 {

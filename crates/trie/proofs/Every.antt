@@ -1,4 +1,5 @@
--- A test of every number below a count. A loop that has passed i of them knows `every i test`; one number that fails decides all. Assumes nothing.
+-- A test of every number below a count. A loop that has passed i of them knows `every i test`; one number that fails decides
+-- all. Assumes nothing.
 use mathlib.Core.Path.{_≡_, refl}
 use mathlib.Core.Bool.{Bool, true, false, not, _&&_}
 use mathlib.Core.Logic.{⊎-elim}

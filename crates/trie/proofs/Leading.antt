@@ -1,5 +1,5 @@
--- A table of where each byte leads, filled from the last edge to the first. A place that is written last holds the edge nearest to the front, which is
--- the one that a search finds. Assumes nothing.
+-- A table of where each byte leads, filled from the last edge to the first. A place that is written last holds the edge nearest
+-- to the front, which is the one that a search finds. Assumes nothing.
 use mathlib.Core.Path.{_≡_, refl, sym, ap, _∙_}
 use mathlib.Core.Bool.{Bool, true, false, cond}
 use mathlib.Core.List.{List}

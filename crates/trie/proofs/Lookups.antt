@@ -1,5 +1,5 @@
--- The look-up: which test gives which fault, and what each answer says, both ways. The first test that finds a fault decides; with none the
--- answer is the string's id or that it has none. Assumes nothing.
+-- The look-up: which test gives which fault, and what each answer says, both ways. The first test that finds a fault decides;
+-- with none the answer is the string's id or that it has none. Assumes nothing.
 use mathlib.Core.Path.{_≡_, refl, sym, ap, _∙_}
 use mathlib.Core.Bool.{Bool, true, false, not}
 use mathlib.Core.List.{List}

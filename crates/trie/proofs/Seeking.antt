@@ -1,6 +1,6 @@
--- Looking a byte up among edges whose bytes rise strictly. Places that do not hold the byte may be left out in front (`seek-skip`) or behind
--- (`seek-cut`); where bytes rise, one byte in between says which side that is. So a step that looks at three edges and keeps one of the four
--- parts between them is the scan. Assumes nothing.
+-- Looking a byte up among edges whose bytes rise strictly. Places that do not hold the byte may be left out in front
+-- (`seek-skip`) or behind (`seek-cut`); where bytes rise, one byte in between says which side that is. So a step that looks at
+-- three edges and keeps one of the four parts between them is the scan. Assumes nothing.
 use mathlib.Core.Path.{_≡_, refl, sym, ap, _∙_}
 use mathlib.Core.Bool.{Bool, true, false, cond}
 use mathlib.Core.List.{List}
@@ -143,8 +143,8 @@ module _ (bytes tos : List ℕ) (b : ℕ) where
               (λ h. omega (arith, later-above (low + m) k (omega arith) h (omega arith)))
               (eq-or-lt-of-le u)
 
-    -- The turn of a search that has the `left` edges from `low` on before it, and looks at three of them, `part` apart: it goes on by `part` for
-    -- each whose byte is at most b, and leaves out three parts in all.
+    -- The turn of a search that has the `left` edges from `low` on before it, and looks at three of them, `part` apart: it goes
+    -- on by `part` for each whose byte is at most b, and leaves out three parts in all.
     module _ (low part left : ℕ) (from : at ≤ low) (some : 3 * part < left) (parted : 4 * part ≤ left) (to : low + left ≤ at + n) where
       abbrev one : ℕ
       one = getD bytes (low + part) 0

@@ -1,5 +1,5 @@
--- The facts that the test `sound` stands for, `Sound`: the two say the same. Each conjunct of the test is a field: a number's test is the fact on numbers, a
--- test of every node or edge the fact of each. Assumes nothing.
+-- The facts that the test `sound` stands for, `Sound`: the two say the same. Each conjunct of the test is a field: a number's
+-- test is the fact on numbers, a test of every node or edge the fact of each. Assumes nothing.
 use mathlib.Core.Path.{_≡_, refl}
 use mathlib.Core.Bool.{Bool, true, false, _&&_}
 use mathlib.Core.List.{List, [], _∷_, map}

@@ -1,5 +1,6 @@
--- Steps and walks. A walk is its first step and the walk after it, so walks compose, each law an induction on the string. In sound parts
--- every target is a node, so a step, and then a walk, from a node leads to a node. Neither looks at the ids. Assumes nothing.
+-- Steps and walks. A walk is its first step and the walk after it, so walks compose, each law an induction on the string. In
+-- sound parts every target is a node, so a step, and then a walk, from a node leads to a node. Neither looks at the ids.
+-- Assumes nothing.
 use mathlib.Core.Path.{_≡_, refl, sym, ap, _∙_}
 use mathlib.Core.Bool.{true}
 use mathlib.Core.List.{List, [], _∷_, _++_}

@@ -1,5 +1,6 @@
--- "Sound parts: 1 to 4,294,967,295 nodes; columns of equal length; each node's edges lie inside the edge part, at most 256, bytes strictly
--- rising; each target is a node; for Unigram, node scores and the unknown score are finite." Definitions only; assumes nothing.
+-- "Sound parts: 1 to 4,294,967,295 nodes; columns of equal length; each node's edges lie inside the edge part, at most 256,
+-- bytes strictly rising; each target is a node; for Unigram, node scores and the unknown score are finite." Definitions only;
+-- assumes nothing.
 use Prim.Native.Nat.{ℕ, zero, suc, _+_, _-_}
 use mathlib.Core.Bool.{Bool, true, _&&_}
 use mathlib.Core.List.{List, [], _∷_}

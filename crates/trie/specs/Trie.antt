@@ -10,8 +10,8 @@ use denote.Ref.{RefT, now}
 use Rattle.refusal.specs.Sizes.{noId}
 use Rattle.refusal.specs.Lent.{Lent, was}
 
--- "Each node has its first edge number, edge count, id": a place of the first three columns for each node, of the last two for each edge.
--- The score column of a Unigram trie stands beside these.
+-- "Each node has its first edge number, edge count, id": a place of the first three columns for each node, of the last two for
+-- each edge. The score column of a Unigram trie stands beside these.
 pub record Trie : Type 0 where
   pub edgeAt : List ℕ
   pub edgeN : List ℕ

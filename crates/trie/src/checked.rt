@@ -1,4 +1,5 @@
-// Steps and walks in sound parts, for layers above that have tested soundness once: each function asks for sound parts and refuses nothing.
+// Steps and walks in sound parts, for layers above that have tested soundness once: each function asks for sound parts and
+// refuses nothing.
 use refusal::NO_ID;
 ghost use mathlib.Core.Path.{_≡_};
 ghost use mathlib.Core.Bool.{true, cond};
@@ -29,8 +30,8 @@ pub enum NodeId {
     Missing,
 }
 
-// `part` where x is at most b, else 0. By a number and not a branch: the next byte of a text can't be foretold, and a wrong guess costs
-// more than the rest of a turn.
+// `part` where x is at most b, else 0. By a number and not a branch: the next byte of a text can't be foretold, and a wrong
+// guess costs more than the rest of a turn.
 fn passed(part: usize, x: u8, b: u8) -> usize
     ensures { λ r. ⌜ (r ≡ cond (leb x b) part 0) × (r ≤ part) ⌝ }
 {
@@ -63,8 +64,8 @@ fn seek_few(byte: &[u8], to: &[u32], at: usize, n: usize, b: u8) -> Step
     Step::Stop
 }
 
-// The target of the byte b among the n edges from `at` on. Their bytes rise, so each turn leaves out three quarters of those that are left: 4 turns
-// for 256 edges. Its three reads don't wait for each other.
+// The target of the byte b among the n edges from `at` on. Their bytes rise, so each turn leaves out three quarters of those
+// that are left: 4 turns for 256 edges. Its three reads don't wait for each other.
 fn seek(byte: &[u8], to: &[u32], at: usize, n: usize, b: u8) -> Step
     requires { ⌜ (at + n ≤ length (now byte)) × (at + n ≤ length (now to)) × (rises (now byte) at n ≡ true) ⌝ }
     ensures { λ r. ⌜ nextOf r ≡ seek (was byte) (was to) b at n ⌝ }
@@ -94,8 +95,8 @@ fn first_step(first: &[u32], b: u8) -> Step
     Step::To(Walk { node: x })
 }
 
-// Makes the table of where each byte leads from the root, from marks alone. It goes from the last edge to the first: were there two with one byte,
-// a search would find the first, and so would the table.
+// Makes the table of where each byte leads from the root, from marks alone. It goes from the last edge to the first: were there
+// two with one byte, a search would find the first, and so would the table.
 pub fn fill_first(edge_at: &[u32], edge_n: &[u16], byte: &[u8], to: &[u32], first: &mut [u32])
     requires { ⌜ Stands (now «edge_at») (now «edge_n») (now byte) (now to) 0 × (now first ≡ replicate 256 noId) ⌝ }
     ensures { λ _. ⌜ Leads (was byte) (was to) (getD (was «edge_at») 0 0) (getD (was «edge_n») 0 0) (is first) ⌝ }

@@ -45,7 +45,8 @@ fn look_up(
     }
 }
 
-// The id of a text in a Unigram trie's parts: refused are a text above the limit, then parts that are not sound, then an ill-formed text.
+// The id of a text in a Unigram trie's parts: refused are a text above the limit, then parts that are not sound, then an
+// ill-formed text.
 pub fn exact(
     edge_at: &[u32],
     edge_n: &[u16],

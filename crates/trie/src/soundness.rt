@@ -1,5 +1,5 @@
-// Which lent parts are sound. Each test answers for any columns of any lengths: what it reads lies inside, and a sum of two numbers of the
-// columns fits. One pass over the nodes with their edges' bytes, one over the targets, one over the scores.
+// Which lent parts are sound. Each test answers for any columns of any lengths: what it reads lies inside, and a sum of two
+// numbers of the columns fits. One pass over the nodes with their edges' bytes, one over the targets, one over the scores.
 ghost use mathlib.Core.Path.{_≡_};
 ghost use Prim.Native.Nat.{_+_, _≤_};
 ghost use lib.Dec.{ltb};

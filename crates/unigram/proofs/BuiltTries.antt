@@ -1,7 +1,7 @@
--- What a reader may rely on after `build`: the lent columns, cut to the counts, are the trie of the rows with its scores; these parts are sound
--- and their scores finite, so `segment` never refuses them with 8; and looking a string up in them is looking it up in the row list: its piece is
--- the first row with that token, with that row's score. The cut is the trie since N nodes have N places of each node column and N - 1 edges,
--- and the rest of each column is behind them. Assumes nothing.
+-- What a reader may rely on after `build`: the lent columns, cut to the counts, are the trie of the rows with its scores; these
+-- parts are sound and their scores finite, so `segment` never refuses them with 8; and looking a string up in them is looking
+-- it up in the row list: its piece is the first row with that token, with that row's score. The cut is the trie since N nodes
+-- have N places of each node column and N - 1 edges, and the rest of each column is behind them. Assumes nothing.
 use mathlib.Core.Path.{_≡_, refl, sym, ap, _∙_, subst}
 use mathlib.Core.Bool.{true, false}
 use mathlib.Core.List.{List, [], _∷_, map}
@@ -204,7 +204,8 @@ module _ (tab : List ℕ) (c : Columns) (m after : Memory) (s : Summary) (bytes 
   unfolding told
   built-scores = left.built-scores b refl built-nodes refl
 
-  -- for a reader who looks a string up: it has in what was built the index of the first row with that token, and none where no row has it.
+  -- for a reader who looks a string up: it has in what was built the index of the first row with that token, and none where no
+  -- row has it.
   pub built-lookup : (t : List ℕ) → idOf (partsIn (s .nodes) after) t ≡ firstRow (tokensOf tab (rowsOf c)) t
   built-lookup t = ap (λ (x : Trie). idOf x t) built-parts ∙ rows-lookup tab (rowsOf c) bytes few t
 

@@ -45,8 +45,8 @@ module _ {a b c d a′ b′ c′ d′ : List ℕ} (x x′ : List Float) (held : 
       let left = scratch-once (once .1) in
       (once .0, left .0, left .1, left .2, left .3, left .4)
 
--- "exactly when", both ways: a call of `segment` is refused with f exactly when f is the first fault, and answers with ids exactly
--- when there is none
+-- "exactly when", both ways: a call of `segment` is refused with f exactly when f is the first fault, and answers with ids
+-- exactly when there is none
 module _ {m : Model} {s : List ℕ} {before after : Scratch} {answer : CodeAnswer} (p : Segmented m s before answer after) where
   pub refused-exactly : (f : Fault) → (answer ≡ Refused f) ↔ (segmentFault (soundModel m) s (lengthsOf before) ≡ some f)
   refused-exactly = codings.refused-exactly (p .coded)

@@ -1,5 +1,6 @@
--- What a piece is in a Unigram trie meets what the laws of the records ask of any rule: for a well-formed text and sound scored parts. A node
--- that a walk ends in is one of the parts, so its score is finite; the character at a boundary ends at the next. Assumes nothing.
+-- What a piece is in a Unigram trie meets what the laws of the records ask of any rule: for a well-formed text and sound scored
+-- parts. A node that a walk ends in is one of the parts, so its score is finite; the character at a boundary ends at the next.
+-- Assumes nothing.
 use mathlib.Core.Path.{_≡_, refl, sym, ap, subst, _∙_}
 use mathlib.Core.Bool.{Bool, true, false, _&&_, cond}
 use mathlib.Core.List.{List, Option·toList}

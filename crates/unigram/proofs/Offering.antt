@@ -1,6 +1,6 @@
--- The work at one boundary. A walk from it offers each string with an id at its end, byte by byte: what the walk has come to says which string
--- that is, and where it stops no longer one has an id (`offered-all`). With the one character that has none, that is every piece (`worked-all`),
--- so the slots hold the records of one start more. Assumes nothing.
+-- The work at one boundary. A walk from it offers each string with an id at its end, byte by byte: what the walk has come to
+-- says which string that is, and where it stops no longer one has an id (`offered-all`). With the one character that has none,
+-- that is every piece (`worked-all`), so the slots hold the records of one start more. Assumes nothing.
 use mathlib.Core.Path.{_≡_, refl, sym, ap, subst, _∙_}
 use mathlib.Core.Bool.{Bool, true, false, _&&_, _||_, cond}
 use mathlib.Core.List.{List, [], _∷_, _++_, Option·toList}

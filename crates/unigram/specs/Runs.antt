@@ -1,5 +1,5 @@
--- "Then runs of adjacent pieces whose id is the unknown id become one id: that of the whole run's bytes if they have one, else the unknown id."
--- Definitions only; assumes nothing.
+-- "Then runs of adjacent pieces whose id is the unknown id become one id: that of the whole run's bytes if they have one, else
+-- the unknown id." Definitions only; assumes nothing.
 use Prim.Native.Nat.{ℕ}
 use mathlib.Core.Bool.{cond}
 use mathlib.Core.List.{List, [], _∷_}
@@ -11,8 +11,8 @@ use Rattle.cutting.specs.Cuttings.{Step}
 unfoldable pub runId : (ℕ → ℕ → Option ℕ) → ℕ → ℕ → ℕ → ℕ
 runId idOf unknown i j = Option·getD (idOf i j) unknown
 
--- The ids of the pieces `es`, the first of which starts at `at`. `some i` for the run: the pieces from i up to `at` have the unknown id, and
--- the id of their run is still to come.
+-- The ids of the pieces `es`, the first of which starts at `at`. `some i` for the run: the pieces from i up to `at` have the
+-- unknown id, and the id of their run is still to come.
 unfoldable pub merged : (ℕ → ℕ → Option ℕ) → ℕ → Option ℕ → ℕ → List Step → List ℕ
 merged idOf unknown none at [] = []
 merged idOf unknown (some i) at [] = runId idOf unknown i at ∷ []

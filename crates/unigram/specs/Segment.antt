@@ -47,8 +47,8 @@ lengthsOf b =
 unfoldable pub shortScratch : List ℕ → Lengths → Bool
 shortScratch s n = ltb 0 (length s) && (anyBelow (length s + 1) (n .slots) || ltb (n .path) (characters s))
 
--- "For a text or word: 1, 8, 4, 9, 10", by whether the parts are sound and how many places are lent. 10 is "fewer id places than
--- characters".
+-- "For a text or word: 1, 8, 4, 9, 10", by whether the parts are sound and how many places are lent. 10 is "fewer id places
+-- than characters".
 unfoldable pub segmentFault : Bool → List ℕ → Lengths → Option Fault
 segmentFault soundParts s n =
     first (lookupFault soundParts s)

@@ -102,8 +102,8 @@ fn short_scratch(
     places < characters
 }
 
-// The first fault of a call of `segment` in parts that are sound or not, lent so many places: the size, the parts, the text, the
-// scratch, the id places.
+// The first fault of a call of `segment` in parts that are sound or not, lent so many places: the size, the parts, the text,
+// the scratch, the id places.
 fn judge(
     sound: bool,
     text: &[u8],

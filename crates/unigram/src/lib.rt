@@ -10,8 +10,9 @@ ghost use Rattle.unigram.specs.Segment.{Segmented};
 ghost use Rattle.unigram.specs.Checked.{scratchIs, scratchWas};
 ghost use Rattle.refusal.specs.Lent.{was};
 
-// The ids of the text's cutting with the highest sum of scores. Refused are, in this order, a text above the limit, parts that are not sound, an
-// ill-formed text, too little scratch, too few id places; a refused call and an empty text write nothing. What the scratch held has no effect.
+// The ids of the text's cutting with the highest sum of scores. Refused are, in this order, a text above the limit, parts that
+// are not sound, an ill-formed text, too little scratch, too few id places; a refused call and an empty text write nothing.
+// What the scratch held has no effect.
 pub fn segment(
     edge_at: &[u32],
     edge_n: &[u16],

@@ -1,5 +1,5 @@
-// Runs of adjacent pieces with the unknown id become one id: that of the whole run's bytes if they have one, else the unknown id. A run that is
-// still to come goes from `run` up to `at`; where the two are one, there is none.
+// Runs of adjacent pieces with the unknown id become one id: that of the whole run's bytes if they have one, else the unknown
+// id. A run that is still to come goes from `run` up to `at`; where the two are one, there is none.
 use trie::checked::NodeId;
 ghost use mathlib.Core.Path.{_≡_};
 ghost use mathlib.Core.Bool.{cond};
@@ -63,7 +63,8 @@ fn close_run(
     n + 1
 }
 
-// A piece with the id x comes: unless that is the unknown id, the run's id and x are written from place n on. Answers the place after them.
+// A piece with the id x comes: unless that is the unknown id, the run's id and x are written from place n on. Answers the place
+// after them.
 fn stand(
     edge_at: &[u32],
     edge_n: &[u16],

@@ -1,5 +1,5 @@
--- What `from_rows` promises: the room decides, and what the core says of its rows is said of the columns' rows. No score column is lent. Assumes
--- nothing.
+-- What `from_rows` promises: the room decides, and what the core says of its rows is said of the columns' rows. No score column
+-- is lent. Assumes nothing.
 use mathlib.Core.Path.{_≡_, refl, sym, ap, _∙_}
 use mathlib.Core.Bool.{Bool}
 use mathlib.Core.List.{List, []}

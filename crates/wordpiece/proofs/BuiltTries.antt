@@ -1,7 +1,7 @@
--- What a reader may rely on after `from_rows`: the lent columns, cut to the counts, are the trie of the rows; that trie is sound, so `encode`
--- never refuses it with 8; looking a string up in it is looking it up in the row list; and so the ids of a word are those over
--- the row list. The cut is the trie since N nodes have N places of each node column and N - 1 edges, and the rest of each
--- column is behind them. Assumes nothing.
+-- What a reader may rely on after `from_rows`: the lent columns, cut to the counts, are the trie of the rows; that trie is
+-- sound, so `encode` never refuses it with 8; looking a string up in it is looking it up in the row list; and so the ids of a
+-- word are those over the row list. The cut is the trie since N nodes have N places of each node column and N - 1 edges, and
+-- the rest of each column is behind them. Assumes nothing.
 use mathlib.Core.Path.{_≡_, refl, ap, _∙_}
 use mathlib.Core.Bool.{true, false}
 use mathlib.Core.List.{List}

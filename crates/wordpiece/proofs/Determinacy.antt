@@ -1,4 +1,5 @@
--- The promises of `from_rows` and `encode` fix what they answer and what they leave: each field is an equation with a value of the inputs.
+-- The promises of `from_rows` and `encode` fix what they answer and what they leave: each field is an equation with a value of
+-- the inputs.
 use mathlib.Core.Path.{_≡_, ap}
 use mathlib.Core.Logic.{_↔_}
 use Prim.Native.Nat.{ℕ}

@@ -1,4 +1,5 @@
--- A word has no more ids than characters: each piece takes at least one, and where the word is one unknown it has one. Assumes nothing.
+-- A word has no more ids than characters: each piece takes at least one, and where the word is one unknown it has one. Assumes
+-- nothing.
 use mathlib.Core.Path.{_≡_, refl, ap}
 use mathlib.Core.Bool.{Bool, true, false}
 use mathlib.Core.List.{List, []}

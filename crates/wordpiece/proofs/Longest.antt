@@ -1,5 +1,5 @@
--- The longest piece, as the walk finds it. Each byte more of the word is a step more of the walk; a piece that ends there is longer than those
--- before it; and where the walk stops, nothing beyond is a piece. Assumes nothing.
+-- The longest piece, as the walk finds it. Each byte more of the word is a step more of the walk; a piece that ends there is
+-- longer than those before it; and where the walk stops, nothing beyond is a piece. Assumes nothing.
 use mathlib.Core.Path.{_≡_, refl, sym, ap, _∙_}
 use mathlib.Core.Bool.{Bool, true, false, not, _&&_, cond}
 use mathlib.Core.List.{List, [], _∷_, _++_}

@@ -1,5 +1,5 @@
--- What is to be written for a word, by what was found of it: a miss at any place makes it one unknown; else the first piece's id and then those
--- of the rest, at most one a character. Assumes nothing.
+-- What is to be written for a word, by what was found of it: a miss at any place makes it one unknown; else the first piece's
+-- id and then those of the rest, at most one a character. Assumes nothing.
 use mathlib.Core.Path.{_≡_, refl, sym, ap, _∙_}
 use mathlib.Core.Bool.{Bool, true, false, cond}
 use mathlib.Core.List.{List, [], _∷_, _++_}

@@ -1,5 +1,6 @@
--- The pieces of a word from a position on, one after the other. A piece that was found ends further on, on a boundary, so the bound on how many
--- pieces there may be never bites (`enough`); each piece takes at least one character, so they are no more than the characters. Assumes nothing.
+-- The pieces of a word from a position on, one after the other. A piece that was found ends further on, on a boundary, so the
+-- bound on how many pieces there may be never bites (`enough`); each piece takes at least one character, so they are no more
+-- than the characters. Assumes nothing.
 use mathlib.Core.Path.{_≡_, refl, sym, ap, _∙_}
 use mathlib.Core.Bool.{Bool, true, false}
 use mathlib.Core.List.{List, [], _∷_, _++_}

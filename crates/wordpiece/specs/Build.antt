@@ -1,4 +1,5 @@
--- What `wordpiece::from_rows` promises: the promise of every build, of WordPiece rows in columns. Definitions only; assumes nothing.
+-- What `wordpiece::from_rows` promises: the promise of every build, of WordPiece rows in columns. Definitions only; assumes
+-- nothing.
 use Prim.Native.Nat.{ℕ}
 use mathlib.Core.List.{List}
 use Rattle.rows.specs.declared.Kind.the-variants as kind

@@ -35,8 +35,8 @@ abbrev pub countIn : Count → Option ℕ
 countIn (count-is.Pieces n) = some n
 countIn count-is.Miss = none
 
--- What a walk over the rest leaves: the count of its ids, none at a miss; and where there is none, these in the places that were lent, as many
--- as there are places.
+-- What a walk over the rest leaves: the count of its ids, none at a miss; and where there is none, these in the places that
+-- were lent, as many as there are places.
 pub record Walked (rest : Option (List ℕ)) (before : List ℕ) (count : Count) (after : List ℕ) : Type 0 where
   pub answered : countIn count ≡ Option·map length rest
   pub held : (xs : List ℕ) → rest ≡ some xs → after ≡ sets before 0 xs

@@ -17,8 +17,8 @@ use Rattle.trie.specs.Trie.{Trie, idOf}
 use Rattle.trie.specs.Sound.{sound}
 use Rattle.wordpiece.specs.Pieces.{idsOf}
 
--- "For a text or word: 1, 8, 4 (the text, then the prefix), 10", by whether the parts are sound and how many id places are lent.
--- 10 is "fewer id places than characters".
+-- "For a text or word: 1, 8, 4 (the text, then the prefix), 10", by whether the parts are sound and how many id places are
+-- lent. 10 is "fewer id places than characters".
 unfoldable pub encodeFault : Bool → List ℕ → List ℕ → ℕ → Option Fault
 encodeFault soundParts prefix w places =
     refuse (above maxText (length w) || above maxPrefix (length prefix)) fault.Size

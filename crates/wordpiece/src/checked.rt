@@ -71,8 +71,8 @@ fn piece_to(i: usize, end: usize, id: u32) -> Match
     Match::Is(Piece { end, id })
 }
 
-// The longest piece of w from i, after what the node of the walk spells. The loop keeps the best piece as two numbers, its end (i while there is
-// none) and its id: a `Match` would go through memory in each turn.
+// The longest piece of w from i, after what the node of the walk spells. The loop keeps the best piece as two numbers, its end
+// (i while there is none) and its id: a `Match` would go through memory in each turn.
 pub(crate) fn longest(
     edge_at: &[u32],
     edge_n: &[u16],
@@ -217,7 +217,8 @@ fn put_held(held: &[u32], n: usize, ids: &mut [u32]) -> usize
     k + 1
 }
 
-// The first piece's id, and then those of the n pieces after it: as they are held, or found again where they are too many to be held.
+// The first piece's id, and then those of the n pieces after it: as they are held, or found again where they are too many to be
+// held.
 fn put_all(
     edge_at: &[u32],
     edge_n: &[u16],
@@ -248,8 +249,8 @@ fn put_all(
     put_held(held, n, ids)
 }
 
-// The ids of a word of more than its first piece: an absent prefix or a miss makes it one unknown. A late miss is known before anything is
-// written, so that no place past the answer is touched; the ids that the walk finds are held until then.
+// The ids of a word of more than its first piece: an absent prefix or a miss makes it one unknown. A late miss is known before
+// anything is written, so that no place past the answer is touched; the ids that the walk finds are held until then.
 fn encode_rest(
     edge_at: &[u32],
     edge_n: &[u16],

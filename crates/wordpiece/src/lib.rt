@@ -21,9 +21,9 @@ pub enum BuildAnswer {
     Refused(Reason),
 }
 
-// The trie of the rows, in the lent columns. Refused are sizes above their limits or lists of unequal length, then the first bad row, and then
-// too few lent places. A refusal of the rows writes nothing; a refusal of the places leaves every lent place zero. After a build the work
-// places and the places past the trie are zero.
+// The trie of the rows, in the lent columns. Refused are sizes above their limits or lists of unequal length, then the first
+// bad row, and then too few lent places. A refusal of the rows writes nothing; a refusal of the places leaves every lent place
+// zero. After a build the work places and the places past the trie are zero.
 pub fn from_rows(
     tab: &[u8],
     off: &[u32],
@@ -68,8 +68,9 @@ pub fn from_rows(
     }
 }
 
-// The ids of a word, in the first of the lent places. Refused are a word or prefix above its limit, parts that are not sound, an ill-formed word,
-// an ill-formed prefix, and fewer id places than characters. Places past the answer stay as they are, and a refused call writes nothing.
+// The ids of a word, in the first of the lent places. Refused are a word or prefix above its limit, parts that are not sound,
+// an ill-formed word, an ill-formed prefix, and fewer id places than characters. Places past the answer stay as they are, and a
+// refused call writes nothing.
 pub fn encode(
     edge_at: &[u32],
     edge_n: &[u16],

@@ -1,5 +1,5 @@
--- A definition is shut until a proof opens it, and to open one is to open what its own `unfolding` line names. So `opened` on such a line opens
--- every definition that computing an example meets, layer by layer. It says nothing itself.
+-- A definition is shut until a proof opens it, and to open one is to open what its own `unfolding` line names. So `opened` on
+-- such a line opens every definition that computing an example meets, layer by layer. It says nothing itself.
 use mathlib.Core.List.{flatMap, flatten, Option·toList}
 use mathlib.Core.Option.{bind}
 use lib.Ieee.{size}

@@ -1,5 +1,5 @@
--- The paper's pack case: "strings `un##able`, rows (0,2) id 1 and (2,6) id 2, unknown 0, max_chars 100, prefix (2,2); 76 bytes. Input lines `unable`,
--- empty, `unx`". Definitions only; assumes nothing.
+-- The paper's pack case: "strings `un##able`, rows (0,2) id 1 and (2,6) id 2, unknown 0, max_chars 100, prefix (2,2); 76 bytes.
+-- Input lines `unable`, empty, `unx`". Definitions only; assumes nothing.
 use Prim.Native.Nat.{ℕ}
 use mathlib.Core.List.{List, [], _∷_, _++_, flatMap}
 use Rattle.text.specs.Ascii.{ascii}

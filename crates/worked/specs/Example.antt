@@ -24,7 +24,8 @@ pub record Entry : Type 0 where
   pub token : List ℕ
   pub worth : Worth
 
--- a text and the ids that it gives; at which max_chars (for WordPiece); and the score of its last record, where the paper gives it
+-- a text and the ids that it gives; at which max_chars (for WordPiece); and the score of its last record, where the paper gives
+-- it
 pub record Given : Type 0 where
   pub text : List ℕ
   pub maxChars : ℕ

@@ -1,5 +1,5 @@
--- `exports::sk_characters` meets its contract: each test finds its fault, and where none does the characters are counted. Assumes
--- nothing.
+-- `exports::sk_characters` meets its contract: each test finds its fault, and where none does the characters are counted.
+-- Assumes nothing.
 use mathlib.Core.Path.{_≡_, sym, ap, _∙_}
 use mathlib.Core.List.{List}
 use mathlib.Core.Option.{Option}

@@ -1,4 +1,5 @@
--- `output::print` meets its contract: a pack that is too large is refused, and else it is built in zero columns and printed. Assumes nothing.
+-- `output::print` meets its contract: a pack that is too large is refused, and else it is built in zero columns and printed.
+-- Assumes nothing.
 use Prim.Native.Nat.{ℕ}
 use lib.Ieee.{Float, binary64, ofBits}
 use lib.ListN.{length-replicate}

@@ -1,5 +1,5 @@
--- `output::print_lines` meets its contract: too much input is refused, and else the lines are printed in the first places of the columns.
--- Assumes nothing.
+-- `output::print_lines` meets its contract: too much input is refused, and else the lines are printed in the first places of
+-- the columns. Assumes nothing.
 use mathlib.Core.List.{List}
 use Prim.Native.Nat.{ℕ, _-_}
 use Rattle.text.specs.Ascii.{ascii}

@@ -1,5 +1,5 @@
--- `replay::counted` is safe and ends: each case counts once, so the counts with the cases left are at most a million. The measure is the cases left.
--- Assumes nothing.
+-- `replay::counted` is safe and ends: each case counts once, so the counts with the cases left are at most a million. The
+-- measure is the cases left. Assumes nothing.
 use Prim.Native.Nat.{_≤_, _+_}
 use native.Mathlib.Omega.{arith}
 use borrow.Author.Needs.{needs}

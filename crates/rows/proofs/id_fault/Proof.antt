@@ -1,4 +1,5 @@
--- `rows::id_fault` meets its contract: a score is no id, and an id is fine exactly where it is not the mark for none. Assumes nothing.
+-- `rows::id_fault` meets its contract: a score is no id, and an id is fine exactly where it is not the mark for none. Assumes
+-- nothing.
 use mathlib.Core.Path.{sym}
 use native.Mathlib.Omega.{arith}
 use borrow.Author.Needs.{needs}

@@ -1,5 +1,5 @@
--- `rows::row_fault` meets its contract: each return is the fault that its test finds, and past the tests of the token the worth decides.
--- Assumes nothing.
+-- `rows::row_fault` meets its contract: each return is the fault that its test finds, and past the tests of the token the worth
+-- decides. Assumes nothing.
 use mathlib.Core.Path.{_≡_, sym, ap, _∙_}
 use Prim.Native.Nat.{_+_, _≤_}
 use native.Mathlib.Omega.{arith}

@@ -1,5 +1,5 @@
--- `sums::counted` is safe and ends: each line counts once, so the counts with the lines left are at most a million. The measure is the lines left.
--- Assumes nothing.
+-- `sums::counted` is safe and ends: each line counts once, so the counts with the lines left are at most a million. The measure
+-- is the lines left. Assumes nothing.
 use Prim.Native.Nat.{_≤_, _+_}
 use native.Mathlib.Omega.{arith}
 use borrow.Author.Needs.{needs}

@@ -1,5 +1,5 @@
--- `sums::word` is safe and ends: sixteen digits from `at` on lie in the line. The invariant bounds the turns, and the measure is those left.
--- Assumes nothing.
+-- `sums::word` is safe and ends: sixteen digits from `at` on lie in the line. The invariant bounds the turns, and the measure
+-- is those left. Assumes nothing.
 use Prim.Native.Nat.{_≤_, _-_}
 use native.Mathlib.Omega.{arith}
 use borrow.Author.Needs.{needs}

@@ -1,4 +1,5 @@
--- `text::nothing` meets its contract: a part that ends where it starts is empty, and one that starts at 0 stands at the start. Assumes nothing.
+-- `text::nothing` meets its contract: a part that ends where it starts is empty, and one that starts at 0 stands at the start.
+-- Assumes nothing.
 use mathlib.Core.Path.{refl}
 use native.Mathlib.Nat.{add-comm}
 use borrow.Author.Needs.{needs}

@@ -1,5 +1,5 @@
--- `text::text` meets its contract: an answer tells the fault, or that there is none, and then the span lies inside and is what is given back.
--- Assumes nothing.
+-- `text::text` meets its contract: an answer tells the fault, or that there is none, and then the span lies inside and is what
+-- is given back. Assumes nothing.
 use mathlib.Core.Path.{_≡_}
 use mathlib.Core.Option.{Option, none}
 use borrow.Author.Needs.{needs}

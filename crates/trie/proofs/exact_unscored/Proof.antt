@@ -1,4 +1,5 @@
--- `trie::exact_unscored` meets its contract: the size is tested, then soundness, and `look_up` answers the rest. Assumes nothing.
+-- `trie::exact_unscored` meets its contract: the size is tested, then soundness, and `look_up` answers the rest. Assumes
+-- nothing.
 use mathlib.Core.Path.{_≡_, sym, _∙_}
 use mathlib.Core.Bool.{true}
 use native.Mathlib.Omega.{arith}

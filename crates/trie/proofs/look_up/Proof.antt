@@ -1,5 +1,5 @@
--- `trie::look_up` meets its contract: an ill-formed text is refused, and else the answer is the string's id or that it has none.
--- Assumes nothing.
+-- `trie::look_up` meets its contract: an ill-formed text is refused, and else the answer is the string's id or that it has
+-- none. Assumes nothing.
 use mathlib.Core.Path.{_≡_, sym, ap, _∙_}
 use mathlib.Core.Bool.{true}
 use mathlib.Core.Option.{none}

@@ -1,5 +1,5 @@
--- `wordpiece::from_rows` meets its contract: what `judge` finds is refused. Rows without a fault are what the core asks for, the room is the
--- least that the columns have, and what the core answers is answered. Assumes nothing.
+-- `wordpiece::from_rows` meets its contract: what `judge` finds is refused. Rows without a fault are what the core asks for,
+-- the room is the least that the columns have, and what the core answers is answered. Assumes nothing.
 use mathlib.Core.Path.{_≡_, sym, ap, _∙_}
 use mathlib.Core.Option.{none}
 use native.Mathlib.Omega.{arith}

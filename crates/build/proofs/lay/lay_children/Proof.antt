@@ -1,5 +1,6 @@
--- `build::lay::lay_children` meets its contract. The loop's invariant: the edges written so far and those from `low` on are the node's edges,
--- and k is the first child by a byte from `low` on. Each child takes a byte of its own, so at most 256 are written. Assumes nothing.
+-- `build::lay::lay_children` meets its contract. The loop's invariant: the edges written so far and those from `low` on are the
+-- node's edges, and k is the first child by a byte from `low` on. Each child takes a byte of its own, so at most 256 are
+-- written. Assumes nothing.
 use borrow.Author.Needs.{needs}
 use mathlib.Core.Path.{_≡_, refl, _∙_}
 use mathlib.Core.List.{List}

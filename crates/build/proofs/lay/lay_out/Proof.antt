@@ -1,5 +1,6 @@
--- `build::lay::lay_out` meets its contract: the columns are made zero, the nodes laid out, the work places made zero. The loop's invariant:
--- the first k nodes are laid out, and `at` is the number of their edges. The measure is what is left of the nodes. Assumes nothing.
+-- `build::lay::lay_out` meets its contract: the columns are made zero, the nodes laid out, the work places made zero. The
+-- loop's invariant: the first k nodes are laid out, and `at` is the number of their edges. The measure is what is left of the
+-- nodes. Assumes nothing.
 use borrow.Author.Needs.{needs}
 use mathlib.Core.Path.{_≡_, refl, _∙_}
 use mathlib.Core.List.{List}

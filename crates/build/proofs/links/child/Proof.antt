@@ -1,5 +1,5 @@
--- `build::links::child` meets its contract. The link that `seek` finds leads to the child by the byte, if that is there; else the new node
--- is put behind it, or no room is left. Assumes nothing.
+-- `build::links::child` meets its contract. The link that `seek` finds leads to the child by the byte, if that is there; else
+-- the new node is put behind it, or no room is left. Assumes nothing.
 use mathlib.Core.Path.{_≡_}
 use mathlib.Core.List.{List, [], _∷_, _++_}
 use mathlib.Core.Logic.{⊎-elim}

@@ -1,5 +1,5 @@
--- `build::links::seek` meets its contract. The loop's invariant: `at` has the link to the first child by a byte from `low` on, for some
--- `low` up to the byte sought. What is left of the bytes after the last child falls. Assumes nothing.
+-- `build::links::seek` meets its contract. The loop's invariant: `at` has the link to the first child by a byte from `low` on,
+-- for some `low` up to the byte sought. What is left of the bytes after the last child falls. Assumes nothing.
 use mathlib.Core.Path.{_≡_}
 use mathlib.Core.List.{List}
 use Prim.Native.Nat.{ℕ, suc, _+_, _*_, _≤_, _<_}

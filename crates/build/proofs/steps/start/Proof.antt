@@ -1,4 +1,5 @@
--- `build::steps::start` meets its contract: in columns made zero the root is planted, where there is room for it. Assumes nothing.
+-- `build::steps::start` meets its contract: in columns made zero the root is planted, where there is room for it. Assumes
+-- nothing.
 use mathlib.Core.Path.{refl}
 use native.Mathlib.Omega.{arith}
 use borrow.Author.Needs.{needs}

@@ -1,5 +1,5 @@
--- `build::tokens::enter` meets its contract. The loop's invariant: the first i bytes are entered. The measure is what is left of the token.
--- Assumes nothing.
+-- `build::tokens::enter` meets its contract. The loop's invariant: the first i bytes are entered. The measure is what is left
+-- of the token. Assumes nothing.
 use borrow.Author.Needs.{needs}
 use mathlib.Core.Path.{_≡_, refl}
 use mathlib.Core.List.{List}

@@ -1,5 +1,5 @@
--- `build::tokens::enter_token` meets its contract: the token's last node takes the id, unless the token is empty or there was no room.
--- Assumes nothing.
+-- `build::tokens::enter_token` meets its contract: the token's last node takes the id, unless the token is empty or there was
+-- no room. Assumes nothing.
 use mathlib.Core.List.{[]}
 use native.Mathlib.Omega.{arith}
 use borrow.Author.Needs.{needs}

@@ -1,4 +1,5 @@
--- `build::vocabulary::enter_row` meets its contract: it reads the row and enters its token, which lies inside the table. Assumes nothing.
+-- `build::vocabulary::enter_row` meets its contract: it reads the row and enters its token, which lies inside the table.
+-- Assumes nothing.
 use native.Mathlib.Omega.{arith}
 use borrow.Author.Needs.{needs}
 use Rattle.text.proofs.Spans.{bytes-given}

@@ -1,4 +1,5 @@
--- `build::zero::zero32` meets its contract. The loop's invariant: the places below `at` are zero. The measure is what is left. Assumes nothing.
+-- `build::zero::zero32` meets its contract. The loop's invariant: the places below `at` are zero. The measure is what is left.
+-- Assumes nothing.
 use borrow.Author.Needs.{needs}
 use Prim.Native.Nat.{_-_}
 use lib.ListN.{length}

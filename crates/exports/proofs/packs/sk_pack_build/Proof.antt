@@ -1,4 +1,5 @@
--- `exports::packs::sk_pack_build` meets its contract: what `pack::build` promises, its answer as a number and a score. Assumes nothing.
+-- `exports::packs::sk_pack_build` meets its contract: what `pack::build` promises, its answer as a number and a score. Assumes
+-- nothing.
 use borrow.Author.Needs.{needs}
 use Rattle.exports.proofs.packs.sk_pack_build.Statement.{statement}
 use Rattle.exports.proofs.packs.sk_pack_build.Tie as tie

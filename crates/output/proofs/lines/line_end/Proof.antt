@@ -1,5 +1,5 @@
--- `output::lines::line_end` meets its contract. The loop's invariant: the line that begins at `from` ends where what is left of it ends. The measure
--- is what is left. Assumes nothing.
+-- `output::lines::line_end` meets its contract. The loop's invariant: the line that begins at `from` ends where what is left of
+-- it ends. The measure is what is left. Assumes nothing.
 use mathlib.Core.Path.{_≡_, refl, _∙_}
 use Prim.Native.Nat.{_+_, _-_, _≤_}
 use native.Mathlib.Omega.{arith}

@@ -1,5 +1,6 @@
--- The proof of the cycle of calls {put_number}. The measure is the number itself. A number of one digit is that digit, and the digits of a larger one
--- are those of its tenth and the last, so the last is put after what the call of itself put. Assumes nothing.
+-- The proof of the cycle of calls {put_number}. The measure is the number itself. A number of one digit is that digit, and the
+-- digits of a larger one are those of its tenth and the last, so the last is put after what the call of itself put. Assumes
+-- nothing.
 use mathlib.Core.Path.{sym}
 use native.Mathlib.Omega.{arith}
 use borrow.Author.Needs.{needs}

@@ -1,5 +1,5 @@
--- `output::put::put_refusal` meets its contract: what was refused, the word, a space, the number's digits and LF, one after the other.
--- Assumes nothing.
+-- `output::put::put_refusal` meets its contract: what was refused, the word, a space, the number's digits and LF, one after the
+-- other. Assumes nothing.
 use mathlib.Core.Path.{_≡_, ap, _∙_}
 use mathlib.Core.List.{List, [], _∷_, _++_}
 use Prim.Native.Nat.{ℕ, _+_, _≤_}

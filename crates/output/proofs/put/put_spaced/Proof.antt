@@ -1,4 +1,5 @@
--- `output::put::put_spaced` meets its contract: a space, and the digits after it, of which there are at most ten. Assumes nothing.
+-- `output::put::put_spaced` meets its contract: a space, and the digits after it, of which there are at most ten. Assumes
+-- nothing.
 use mathlib.Core.Path.{_∙_}
 use Prim.Native.Nat.{_≤_}
 use native.Mathlib.Omega.{arith}

@@ -1,4 +1,5 @@
--- `output::put::put_text` meets its contract. The loop's invariant: the first i bytes are put. The measure is what is left. Assumes nothing.
+-- `output::put::put_text` meets its contract. The loop's invariant: the first i bytes are put. The measure is what is left.
+-- Assumes nothing.
 use mathlib.Core.Path.{refl}
 use mathlib.Core.List.{List, [], _∷_}
 use Prim.Native.Nat.{ℕ, _-_}

@@ -1,5 +1,5 @@
--- `pack::checked::build_fine` meets its contract: the room is the least that the columns have, and what the core answers is answered, with the
--- score column beside it. Assumes nothing.
+-- `pack::checked::build_fine` meets its contract: the room is the least that the columns have, and what the core answers is
+-- answered, with the score column beside it. Assumes nothing.
 use native.Mathlib.Omega.{arith}
 use borrow.Author.Needs.{needs}
 use Rattle.build.specs.Memory.{Memory, memory}

@@ -1,4 +1,5 @@
--- `pack::enter::enter_row` meets its contract: what is read is the row, since it is fine, and its token is entered. Assumes nothing.
+-- `pack::enter::enter_row` meets its contract: what is read is the row, since it is fine, and its token is entered. Assumes
+-- nothing.
 use mathlib.Core.Path.{_≡_, refl, ap}
 use Prim.Native.Nat.{_+_, _≤_}
 use native.Mathlib.Omega.{arith}

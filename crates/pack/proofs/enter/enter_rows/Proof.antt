@@ -1,5 +1,5 @@
--- `pack::enter::enter_rows` meets its contract. The loop's invariant: the first i rows are entered, or there was no room for them. The
--- measure is what is left of them. Assumes nothing.
+-- `pack::enter::enter_rows` meets its contract. The loop's invariant: the first i rows are entered, or there was no room for
+-- them. The measure is what is left of them. Assumes nothing.
 use borrow.Author.Needs.{needs}
 use Prim.Native.Nat.{_-_, _≤_}
 use native.Mathlib.Omega.{arith}

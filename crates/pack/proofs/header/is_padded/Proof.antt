@@ -1,5 +1,5 @@
--- `pack::header::is_padded` meets its contract. The loop's invariant: the rows below i are padded. The measure is what is left of them.
--- Assumes nothing.
+-- `pack::header::is_padded` meets its contract. The loop's invariant: the rows below i are padded. The measure is what is left
+-- of them. Assumes nothing.
 use borrow.Author.Needs.{needs}
 use mathlib.Core.Path.{_≡_, sym, ap, _∙_}
 use mathlib.Core.Bool.{Bool, true}

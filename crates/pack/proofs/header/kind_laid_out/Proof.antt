@@ -1,4 +1,5 @@
--- `pack::header::kind_laid_out` meets its contract: the kind 1 with bare words, the kind 2 with padded rows, and no other. Assumes nothing.
+-- `pack::header::kind_laid_out` meets its contract: the kind 1 with bare words, the kind 2 with padded rows, and no other.
+-- Assumes nothing.
 use mathlib.Core.Path.{sym, _∙_}
 use borrow.Author.Needs.{needs}
 use Rattle.pack.proofs.Headers.{kind-bare, kind-none, kind-padded}

@@ -1,4 +1,5 @@
--- `pack::header::word` meets its contract: each byte is below 256, so nothing wraps, and the sum is that of the definition. Assumes nothing.
+-- `pack::header::word` meets its contract: each byte is below 256, so nothing wraps, and the sum is that of the definition.
+-- Assumes nothing.
 use native.Mathlib.Omega.{arith}
 use borrow.Author.Needs.{needs}
 use Prim.Native.Nat.{ℕ, _+_, _<_}

@@ -1,5 +1,5 @@
--- `pack::judge::judge_rows` meets its contract: the sizes, then the first bad row, then the prefix, each where those before it found nothing.
--- Assumes nothing.
+-- `pack::judge::judge_rows` meets its contract: the sizes, then the first bad row, then the prefix, each where those before it
+-- found nothing. Assumes nothing.
 use mathlib.Core.Path.{_≡_, sym, ap, _∙_, subst}
 use mathlib.Core.Bool.{false}
 use mathlib.Core.List.{List}

@@ -1,5 +1,5 @@
--- `pack::row::first_bad` meets its contract. The loop's invariant: what is first bad of all rows is what is first bad from row i on. The measure is
--- what is left of the rows. Assumes nothing.
+-- `pack::row::first_bad` meets its contract. The loop's invariant: what is first bad of all rows is what is first bad from row
+-- i on. The measure is what is left of the rows. Assumes nothing.
 use mathlib.Core.Path.{_≡_, sym, ap, _∙_}
 use Prim.Native.Nat.{_-_, _≤_}
 use native.Mathlib.Omega.{arith}

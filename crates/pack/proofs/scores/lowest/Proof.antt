@@ -1,5 +1,5 @@
--- `pack::scores::lowest` meets its contract. The loop's invariant: the lowest of all is that of `low` and the scores from row i on. The measure
--- is what is left of the rows. Assumes nothing.
+-- `pack::scores::lowest` meets its contract. The loop's invariant: the lowest of all is that of `low` and the scores from row i
+-- on. The measure is what is left of the rows. Assumes nothing.
 use borrow.Author.Needs.{needs}
 use mathlib.Core.Path.{_≡_, sym, ap, _∙_}
 use Prim.Native.Nat.{_+_, _-_, _≤_}

@@ -1,5 +1,5 @@
--- `rows::checked::row_at` meets its contract: the places at i are inside their lists, so what is read there is what the definition reads.
--- Assumes nothing.
+-- `rows::checked::row_at` meets its contract: the places at i are inside their lists, so what is read there is what the
+-- definition reads. Assumes nothing.
 use borrow.Author.Needs.{needs}
 use Rattle.rows.proofs.RowLists.{row-scored, row-numbered}
 use Rattle.rows.proofs.checked.row_at.Statement.{statement}

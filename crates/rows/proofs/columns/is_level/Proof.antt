@@ -1,4 +1,5 @@
--- `rows::columns::is_level` meets its contract: the first list of another length decides, and where none is left the last one. Assumes nothing.
+-- `rows::columns::is_level` meets its contract: the first list of another length decides, and where none is left the last one.
+-- Assumes nothing.
 use mathlib.Core.Path.{sym}
 use Rattle.rows.proofs.RowLists.{uneven-len, uneven-scored, uneven-score, level-by-id}
 use Rattle.rows.proofs.columns.is_level.Statement.{statement}

@@ -1,4 +1,5 @@
--- `rows::columns::judge` meets its contract: each return is what its test finds, and past the sizes the first bad row decides. Assumes nothing.
+-- `rows::columns::judge` meets its contract: each return is what its test finds, and past the sizes the first bad row decides.
+-- Assumes nothing.
 use mathlib.Core.Path.{_≡_, sym, _∙_}
 use mathlib.Core.Bool.{true, false}
 use borrow.Author.Needs.{needs}

@@ -1,5 +1,5 @@
--- `rows::scores::lowest` meets its contract. The loop's invariant: the lowest of x and all scores is that of `low` and the scores from i on. The
--- measure is what is left of the length. Assumes nothing.
+-- `rows::scores::lowest` meets its contract. The loop's invariant: the lowest of x and all scores is that of `low` and the
+-- scores from i on. The measure is what is left of the length. Assumes nothing.
 use mathlib.Core.Path.{_≡_, refl, sym, ap, _∙_}
 use mathlib.Core.List.{List, map}
 use Prim.Native.Nat.{ℕ, suc, _-_, _≤_, _<_}

@@ -1,5 +1,5 @@
--- `scored::checked::build_rows` meets its contract: the room is the least that the columns have, what the core answers is answered, and the score
--- column is made zero or filled. Assumes nothing.
+-- `scored::checked::build_rows` meets its contract: the room is the least that the columns have, what the core answers is
+-- answered, and the score column is made zero or filled. Assumes nothing.
 use mathlib.Core.Path.{sym, ap, _∙_}
 use mathlib.Core.List.{map}
 use Prim.Native.Nat.{min}

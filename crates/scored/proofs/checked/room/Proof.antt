@@ -1,4 +1,5 @@
--- `scored::checked::room` meets its contract: the lesser of the room of the other columns and the places of the score column. Assumes nothing.
+-- `scored::checked::room` meets its contract: the lesser of the room of the other columns and the places of the score column.
+-- Assumes nothing.
 use mathlib.Core.Path.{_≡_}
 use Prim.Native.Nat.{ℕ, _≤_, _<_, min}
 use native.Mathlib.Omega.{arith}

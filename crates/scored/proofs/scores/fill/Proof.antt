@@ -1,5 +1,5 @@
--- `scored::scores::fill` meets its contract. The loop's invariant: the places below k hold the scores of their nodes, the others are as they
--- were made, zero. What is left of the n nodes falls. Assumes nothing.
+-- `scored::scores::fill` meets its contract. The loop's invariant: the places below k hold the scores of their nodes, the
+-- others are as they were made, zero. What is left of the n nodes falls. Assumes nothing.
 use mathlib.Core.Path.{_≡_, refl, subst, _∙_}
 use mathlib.Core.List.{List, map}
 use Prim.Native.Nat.{ℕ, _-_, _≤_, _<_}

@@ -1,4 +1,5 @@
--- `scored::scores::zero` meets its contract. The loop's invariant: the places below i are zero. The measure is what is left. Assumes nothing.
+-- `scored::scores::zero` meets its contract. The loop's invariant: the places below i are zero. The measure is what is left.
+-- Assumes nothing.
 use mathlib.Core.Path.{refl, _∙_}
 use mathlib.Core.List.{map}
 use Prim.Native.Nat.{_-_}

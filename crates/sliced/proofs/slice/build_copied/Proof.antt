@@ -1,5 +1,5 @@
--- `sliced::slice::build_copied` meets its contract: what was found is answered, too little room leaves every place zero, and else the rows in the first
--- places are built and the columns made zero. Assumes nothing.
+-- `sliced::slice::build_copied` meets its contract: what was found is answered, too little room leaves every place zero, and
+-- else the rows in the first places are built and the columns made zero. Assumes nothing.
 use mathlib.Core.Path.{_≡_, sym, ap, _∙_}
 use mathlib.Core.List.{map}
 use mathlib.Core.Option.{none}

@@ -1,4 +1,5 @@
--- `sliced::slice::build_first` meets its contract: the first places of the columns are what the build asks for. Assumes nothing.
+-- `sliced::slice::build_first` meets its contract: the first places of the columns are what the build asks for. Assumes
+-- nothing.
 use Rattle.sliced.proofs.Copies.{all-hold}
 use lib.ListN.{length, take}
 use Prim.Native.Nat.{_≤_}

@@ -1,4 +1,5 @@
--- `sliced::slice::judge_row` meets its contract: what was found before stands, and else the row's own fault is found. Assumes nothing.
+-- `sliced::slice::judge_row` meets its contract: what was found before stands, and else the row's own fault is found. Assumes
+-- nothing.
 use Rattle.sliced.proofs.Slices.{already, bad-now, fine-now}
 use Rattle.rows.specs.Answers.{reasonIn}
 use Rattle.rows.specs.Rows.{rowIs}

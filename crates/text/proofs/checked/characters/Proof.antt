@@ -1,5 +1,5 @@
--- `text::checked::characters` meets its contract. The loop's invariant: i is a boundary, and n is how many characters stand before it. The
--- measure is what is left of the length. One turn passes one character (`characters-next`). Assumes nothing.
+-- `text::checked::characters` meets its contract. The loop's invariant: i is a boundary, and n is how many characters stand
+-- before it. The measure is what is left of the length. One turn passes one character (`characters-next`). Assumes nothing.
 use mathlib.Core.Path.{_≡_, refl, sym, ap, _∙_}
 use mathlib.Core.Bool.{true}
 use mathlib.Core.List.{List}

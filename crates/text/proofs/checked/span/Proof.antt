@@ -1,4 +1,5 @@
--- `text::checked::span` meets its contract: the part that is cut out stands as far from the table's start as it is cut. Assumes nothing.
+-- `text::checked::span` meets its contract: the part that is cut out stands as far from the table's start as it is cut. Assumes
+-- nothing.
 use mathlib.Core.Path.{refl}
 use native.Mathlib.Nat.{add-comm}
 use borrow.Author.Needs.{needs}

@@ -1,4 +1,5 @@
--- `text::strides::begins` meets its contract: the first byte is no tail, and the answer is what is left of the second. Assumes nothing.
+-- `text::strides::begins` meets its contract: the first byte is no tail, and the answer is what is left of the second. Assumes
+-- nothing.
 use native.Mathlib.Omega.{arith}
 use borrow.Author.Tests.{not-true, eqb-true, eqb-false}
 use Rattle.refusal.proofs.Lists.{false-true}

@@ -1,5 +1,5 @@
--- `text::strides::is_ascii` meets its contract. The loop's invariant: where every byte so far was counted, all are ASCII; a byte is counted
--- exactly where it is below 128. Assumes nothing.
+-- `text::strides::is_ascii` meets its contract. The loop's invariant: where every byte so far was counted, all are ASCII; a
+-- byte is counted exactly where it is below 128. Assumes nothing.
 use borrow.Author.Needs.{needs}
 use mathlib.Core.Path.{_≡_}
 use Prim.Native.Nat.{_+_, _-_, _≤_, _<_}

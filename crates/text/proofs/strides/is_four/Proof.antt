@@ -7,7 +7,8 @@ use Rattle.text.proofs.Plain.{four-at}
 use Rattle.text.proofs.strides.is_four.Statement.{statement}
 use Rattle.text.proofs.strides.is_four.Tie as tie
 
--- the ways back: from behind the test of the third byte to those of the second, from there to that of the first, and to the start
+-- the ways back: from behind the test of the third byte to those of the second, from there to that of the first, and to the
+-- start
 abbrev second-test : tie.Else4 → tie.Else3
 second-test c = c .before .before .before
 

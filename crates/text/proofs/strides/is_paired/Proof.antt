@@ -1,5 +1,5 @@
--- `text::strides::is_paired` meets its contract. The loop's invariant: where every byte so far was counted, each may stand before the next. The
--- measure is what is left of the block. Assumes nothing.
+-- `text::strides::is_paired` meets its contract. The loop's invariant: where every byte so far was counted, each may stand
+-- before the next. The measure is what is left of the block. Assumes nothing.
 use mathlib.Core.Path.{_≡_}
 use mathlib.Core.List.{List}
 use Prim.Native.Nat.{ℕ, _+_, _-_, _≤_}

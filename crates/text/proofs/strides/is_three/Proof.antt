@@ -1,5 +1,5 @@
--- `text::strides::is_three` meets its contract: the tests are those of `three-at`, and the ranges after E0 and ED are where the number
--- made of the first two bytes is not 0 and not 27. Assumes nothing.
+-- `text::strides::is_three` meets its contract: the tests are those of `three-at`, and the ranges after E0 and ED are where the
+-- number made of the first two bytes is not 0 and not 27. Assumes nothing.
 use mathlib.Core.Path.{_≡_, sym, _∙_}
 use mathlib.Core.Bool.{true}
 use Prim.Native.Nat.{ℕ, _+_, _-_, _*_, _/_, _≤_}
@@ -13,7 +13,8 @@ use Rattle.text.proofs.Plain.{three-at}
 use Rattle.text.proofs.strides.is_three.Statement.{statement}
 use Rattle.text.proofs.strides.is_three.Tie as tie
 
--- the ways back: from behind the test of the third byte to that of the second, from there to that of the first, and to the start
+-- the ways back: from behind the test of the third byte to that of the second, from there to that of the first, and to the
+-- start
 abbrev second-test : tie.Else3 → tie.Else2
 second-test c = c .before .before .before
 

@@ -1,5 +1,5 @@
--- `text::strides::past_ascii` meets its contract. The loop's invariant is the contract's, of what was passed so far; a turn passes a byte, and
--- then the blocks after it. Assumes nothing.
+-- `text::strides::past_ascii` meets its contract. The loop's invariant is the contract's, of what was passed so far; a turn
+-- passes a byte, and then the blocks after it. Assumes nothing.
 use borrow.Author.Needs.{needs}
 use Prim.Native.Nat.{_+_, _-_}
 use native.Mathlib.Omega.{arith}

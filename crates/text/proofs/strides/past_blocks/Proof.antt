@@ -1,4 +1,5 @@
--- `text::strides::past_blocks` meets its contract. The loop's invariant is the contract's, of what was passed so far. Assumes nothing.
+-- `text::strides::past_blocks` meets its contract. The loop's invariant is the contract's, of what was passed so far. Assumes
+-- nothing.
 use borrow.Author.Needs.{needs}
 use Prim.Native.Nat.{_+_, _-_}
 use native.Mathlib.Omega.{arith}

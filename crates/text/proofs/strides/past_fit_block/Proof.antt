@@ -1,5 +1,5 @@
--- `text::strides::past_fit_block` meets its contract: a character begins at the block's start, so the block ends with a whole one, which the
--- tails behind it belong to (`ended`). Assumes nothing.
+-- `text::strides::past_fit_block` meets its contract: a character begins at the block's start, so the block ends with a whole
+-- one, which the tails behind it belong to (`ended`). Assumes nothing.
 use mathlib.Core.Path.{sym, _∙_}
 use Prim.Native.Nat.{_+_}
 use native.Mathlib.Omega.{arith}
@@ -10,8 +10,8 @@ use Rattle.text.proofs.Reading.{tail-quarter, no-tail-quarter}
 use Rattle.text.proofs.strides.past_fit_block.Statement.{statement}
 use Rattle.text.proofs.strides.past_fit_block.Tie as tie
 
--- the ways back: from after the test of the first byte behind the block to behind that of the block, from there to behind that of the first
--- two bytes, and to the start
+-- the ways back: from after the test of the first byte behind the block to behind that of the block, from there to behind that
+-- of the first two bytes, and to the start
 abbrev block : tie.After-is-tail → tie.Else2
 block c = c .before .before
 

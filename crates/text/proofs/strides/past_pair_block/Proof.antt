@@ -1,5 +1,5 @@
--- `text::strides::past_pair_block` meets its contract: the block starts at no tail, so it ends with a whole character, inside it or one byte
--- further (`paired-lead`, `paired-tail`). Assumes nothing.
+-- `text::strides::past_pair_block` meets its contract: the block starts at no tail, so it ends with a whole character, inside
+-- it or one byte further (`paired-lead`, `paired-tail`). Assumes nothing.
 use mathlib.Core.Path.{_≡_, sym, _∙_}
 use Prim.Native.Nat.{_+_, _/_}
 use native.Mathlib.Omega.{arith}
@@ -12,7 +12,8 @@ use Rattle.text.proofs.Reading.{tail-quarter, no-tail-quarter}
 use Rattle.text.proofs.strides.past_pair_block.Statement.{statement}
 use Rattle.text.proofs.strides.past_pair_block.Tie as tie
 
--- the ways back: from after the last call to behind the test of the block, from there to behind that of the first byte, and to the start
+-- the ways back: from after the last call to behind the test of the block, from there to behind that of the first byte, and to
+-- the start
 abbrev block : tie.After-is-tail2 → tie.Else2
 block c = c .before .before
 

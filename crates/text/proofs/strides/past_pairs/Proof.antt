@@ -1,5 +1,5 @@
--- `text::strides::past_pairs` meets its contract. The loop's invariant is the contract's, of what was passed so far; a turn passes a block, and
--- what is left of the length falls where it is not empty. Assumes nothing.
+-- `text::strides::past_pairs` meets its contract. The loop's invariant is the contract's, of what was passed so far; a turn
+-- passes a block, and what is left of the length falls where it is not empty. Assumes nothing.
 use borrow.Author.Needs.{needs}
 use Prim.Native.Nat.{_-_}
 use lib.ListN.{length}

@@ -1,4 +1,5 @@
--- `text::strides::past_run` meets its contract: an ASCII byte is passed before its run, and the calls pass the others. Assumes nothing.
+-- `text::strides::past_run` meets its contract: an ASCII byte is passed before its run, and the calls pass the others. Assumes
+-- nothing.
 use Prim.Native.Nat.{_+_}
 use native.Mathlib.Omega.{arith}
 use borrow.Author.Needs.{needs}

@@ -1,5 +1,5 @@
--- `text::strides::past_same` meets its contract. The loop's invariant is the contract's, of what was passed so far; a turn passes a character.
--- What is left of the length falls. Assumes nothing.
+-- `text::strides::past_same` meets its contract. The loop's invariant is the contract's, of what was passed so far; a turn
+-- passes a character. What is left of the length falls. Assumes nothing.
 use borrow.Author.Needs.{needs}
 use Prim.Native.Nat.{_+_, _-_}
 use native.Mathlib.Omega.{arith}

@@ -1,5 +1,5 @@
--- `text::utf8::character_at` meets its contract: the entry has the length and the range of the lead byte, and each return is one case of
--- `character`. Assumes nothing.
+-- `text::utf8::character_at` meets its contract: the entry has the length and the range of the lead byte, and each return is
+-- one case of `character`. Assumes nothing.
 use mathlib.Core.Path.{_≡_, sym, ap, _∙_}
 use Prim.Native.Nat.{ℕ, _+_, _-_, _/_}
 use native.Mathlib.Omega.{arith}

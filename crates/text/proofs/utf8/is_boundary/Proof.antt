@@ -1,4 +1,5 @@
--- `text::utf8::is_boundary` meets its contract: inside the text the byte decides, at and past its end the position. Assumes nothing.
+-- `text::utf8::is_boundary` meets its contract: inside the text the byte decides, at and past its end the position. Assumes
+-- nothing.
 use mathlib.Core.Path.{sym, ap, _∙_}
 use mathlib.Core.Bool.{not}
 use borrow.Author.Needs.{needs}

@@ -1,4 +1,5 @@
--- `text::utf8::valid_after` meets its contract: what is valid is what the strides pass and what is valid after them. Assumes nothing.
+-- `text::utf8::valid_after` meets its contract: what is valid is what the strides pass and what is valid after them. Assumes
+-- nothing.
 use native.Mathlib.Omega.{arith}
 use borrow.Author.Needs.{needs}
 use Rattle.text.proofs.Valid.{valid-past}

@@ -1,5 +1,5 @@
--- `text::utf8::valid_by` meets its contract. The loop's invariant: whole characters were passed so far. What is left of the length falls;
--- a step that stays ends the loop, for nothing more is valid. Assumes nothing.
+-- `text::utf8::valid_by` meets its contract. The loop's invariant: whole characters were passed so far. What is left of the
+-- length falls; a step that stays ends the loop, for nothing more is valid. Assumes nothing.
 use mathlib.Core.List.{List}
 use Prim.Native.Nat.{ℕ, _-_}
 use native.Mathlib.Omega.{arith}

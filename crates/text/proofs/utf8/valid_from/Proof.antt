@@ -1,5 +1,5 @@
--- `text::utf8::valid_from` meets its contract: RFC 3629's rule is one test, the second `refl`, which antt computes over the whole table;
--- `lead-table` carries it to each entry. Assumes nothing.
+-- `text::utf8::valid_from` meets its contract: RFC 3629's rule is one test, the second `refl`, which antt computes over the
+-- whole table; `lead-table` carries it to each entry. Assumes nothing.
 use mathlib.Core.Path.{refl}
 use borrow.Author.Needs.{needs}
 use Rattle.text.specs.Lead.{entryOf}

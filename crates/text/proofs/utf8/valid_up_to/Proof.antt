@@ -1,4 +1,5 @@
--- `text::utf8::valid_up_to` meets its contract: what is valid is the blocks of ASCII in front and what is valid after them. Assumes nothing.
+-- `text::utf8::valid_up_to` meets its contract: what is valid is the blocks of ASCII in front and what is valid after them.
+-- Assumes nothing.
 use native.Mathlib.Omega.{arith}
 use borrow.Author.Needs.{needs}
 use Rattle.text.proofs.Valid.{valid-past}

@@ -1,4 +1,5 @@
--- `trie::checked::exact` meets its contract: the string's id is that of the node its walk from the root ends in. Assumes nothing.
+-- `trie::checked::exact` meets its contract: the string's id is that of the node its walk from the root ends in. Assumes
+-- nothing.
 use mathlib.Core.Path.{_≡_, refl, sym, ap, _∙_}
 use mathlib.Core.Option.{some}
 use Prim.Native.Nat.{ℕ}

@@ -1,5 +1,5 @@
--- `trie::checked::fill_first` meets its contract. The loop's invariant: each byte leads where a search among the edges after the first `left` says.
--- Assumes nothing.
+-- `trie::checked::fill_first` meets its contract. The loop's invariant: each byte leads where a search among the edges after
+-- the first `left` says. Assumes nothing.
 use mathlib.Core.Path.{_≡_, refl, ap, _∙_}
 use Prim.Native.Nat.{suc, _+_, _-_, _≤_, _<_}
 use native.Mathlib.Omega.{arith}

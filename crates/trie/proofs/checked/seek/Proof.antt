@@ -1,5 +1,5 @@
--- `trie::checked::seek` meets its contract. The loop's invariant: the byte's target among all the edges is its target among the `left` edges
--- from `low` on. Their number falls. Assumes nothing.
+-- `trie::checked::seek` meets its contract. The loop's invariant: the byte's target among all the edges is its target among the
+-- `left` edges from `low` on. Their number falls. Assumes nothing.
 use mathlib.Core.Path.{_≡_, refl, sym, ap, _∙_}
 use Prim.Native.Nat.{ℕ, _+_, _-_, _*_, _/_, _≤_}
 use native.Mathlib.Omega.{arith}

@@ -1,4 +1,5 @@
--- `trie::checked::seek_few` meets its contract: each edge in turn has the byte or is passed over, until none is left. Assumes nothing.
+-- `trie::checked::seek_few` meets its contract: each edge in turn has the byte or is passed over, until none is left. Assumes
+-- nothing.
 use mathlib.Core.Path.{_≡_, sym, _∙_}
 use mathlib.Core.Option.{Option}
 use Prim.Native.Nat.{ℕ, _+_, _-_, _≤_}

@@ -1,5 +1,5 @@
--- `trie::soundness::all_finite` meets its contract. The loop's invariant: the scores are all finite exactly when those from k on are.
--- Assumes nothing.
+-- `trie::soundness::all_finite` meets its contract. The loop's invariant: the scores are all finite exactly when those from k
+-- on are. Assumes nothing.
 use mathlib.Core.Path.{_≡_, refl, sym, ap, _∙_}
 use mathlib.Core.Bool.{Bool, _&&_}
 use mathlib.Core.List.{List, map}

@@ -1,4 +1,5 @@
--- `trie::soundness::nodes_sound` meets its contract. The loop's invariant: the edges of the k nodes so far are sound. Assumes nothing.
+-- `trie::soundness::nodes_sound` meets its contract. The loop's invariant: the edges of the k nodes so far are sound. Assumes
+-- nothing.
 use mathlib.Core.Path.{_≡_, sym, _∙_}
 use mathlib.Core.Bool.{Bool, true}
 use mathlib.Core.List.{List}

@@ -1,5 +1,5 @@
--- `trie::soundness::targets_inside` meets its contract. The loop's invariant: the e targets so far are below the number of nodes.
--- Assumes nothing.
+-- `trie::soundness::targets_inside` meets its contract. The loop's invariant: the e targets so far are below the number of
+-- nodes. Assumes nothing.
 use mathlib.Core.Path.{_≡_, sym}
 use mathlib.Core.Bool.{Bool, true}
 use mathlib.Core.List.{List}

@@ -1,5 +1,5 @@
--- `unigram::checked::segment_tested` meets its contract: what `judge` finds is refused, and a call without a fault is prepared for
--- the cutting. Assumes nothing.
+-- `unigram::checked::segment_tested` meets its contract: what `judge` finds is refused, and a call without a fault is prepared
+-- for the cutting. Assumes nothing.
 use mathlib.Core.Path.{_≡_, sym, ap, _∙_}
 use mathlib.Core.Bool.{Bool}
 use mathlib.Core.List.{List}

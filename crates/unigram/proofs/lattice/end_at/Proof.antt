@@ -1,5 +1,5 @@
--- `unigram::lattice::end_at` meets its contract: what ends here is offered where the position is a boundary and the node has an id. Assumes
--- nothing.
+-- `unigram::lattice::end_at` meets its contract: what ends here is offered where the position is a boundary and the node has an
+-- id. Assumes nothing.
 use mathlib.Core.Path.{_≡_, refl, sym, ap, _∙_}
 use mathlib.Core.Bool.{Bool, true, false, _||_}
 use mathlib.Core.List.{List, map}

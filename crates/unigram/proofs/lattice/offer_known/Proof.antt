@@ -1,5 +1,5 @@
--- `unigram::lattice::offer_known` meets its contract. The loop's invariant: the walk over the bytes from `at` up to i has come to the node, and
--- each string that ends by i has been offered. What is left of the text falls. Assumes nothing.
+-- `unigram::lattice::offer_known` meets its contract. The loop's invariant: the walk over the bytes from `at` up to i has come
+-- to the node, and each string that ends by i has been offered. What is left of the text falls. Assumes nothing.
 use mathlib.Core.Path.{_≡_, refl, sym, ap, _∙_}
 use mathlib.Core.List.{List}
 use mathlib.Core.Option.{some}

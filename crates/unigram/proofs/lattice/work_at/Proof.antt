@@ -1,5 +1,5 @@
--- `unigram::lattice::work_at` meets its contract: every string with an id is offered, and the unknown character where none is one character long,
--- so every piece from `at` has been offered (`worked-all`). Assumes nothing.
+-- `unigram::lattice::work_at` meets its contract: every string with an id is offered, and the unknown character where none is
+-- one character long, so every piece from `at` has been offered (`worked-all`). Assumes nothing.
 use mathlib.Core.Path.{_≡_, refl, sym, ap, subst, _∙_}
 use mathlib.Core.List.{List}
 use Prim.Native.Nat.{ℕ, _+_, _≤_}

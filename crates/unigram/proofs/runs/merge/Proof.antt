@@ -1,5 +1,5 @@
--- `unigram::runs::merge` meets its contract. The loop's invariant (`Going`): the ids written and those of the pieces left, with the run that is still
--- to come, are all. The pieces left fall. Assumes nothing.
+-- `unigram::runs::merge` meets its contract. The loop's invariant (`Going`): the ids written and those of the pieces left, with
+-- the run that is still to come, are all. The pieces left fall. Assumes nothing.
 use mathlib.Core.Path.{sym, ap, subst, _∙_}
 use mathlib.Core.Option.{Option}
 use Prim.Native.Nat.{ℕ, _+_, _-_, _≤_, _<_}

@@ -1,6 +1,6 @@
--- `wordpiece::checked::count_rest` meets its contract. The loop's invariant: the pieces from i on are n and those from where the loop stands; and
--- where none is missing, storing the ids of those that are left, from place n on, completes what is to be held. The measure is what is left of
--- the word, since a piece is not empty. Assumes nothing.
+-- `wordpiece::checked::count_rest` meets its contract. The loop's invariant: the pieces from i on are n and those from where
+-- the loop stands; and where none is missing, storing the ids of those that are left, from place n on, completes what is to be
+-- held. The measure is what is left of the word, since a piece is not empty. Assumes nothing.
 use mathlib.Core.Path.{_≡_, refl, sym, ap, _∙_}
 use mathlib.Core.List.{List, []}
 use mathlib.Core.Option.{Option, none, some, Option·map}

@@ -1,5 +1,5 @@
--- `wordpiece::checked::encode` meets its contract: by the word's length, its characters, its first piece, and then by the rest; a word has a place
--- for each character. Assumes nothing.
+-- `wordpiece::checked::encode` meets its contract: by the word's length, its characters, its first piece, and then by the rest;
+-- a word has a place for each character. Assumes nothing.
 use mathlib.Core.Path.{_≡_, refl, sym, ap, _∙_}
 use mathlib.Core.List.{List, []}
 use mathlib.Core.Option.{Option, some}

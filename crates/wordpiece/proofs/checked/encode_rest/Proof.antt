@@ -1,5 +1,5 @@
--- `wordpiece::checked::encode_rest` meets its contract: by whether the prefix is there, and by whether there is a miss after it. Where there is
--- none, the walk holds the ids of the rest, as many as there are places. Assumes nothing.
+-- `wordpiece::checked::encode_rest` meets its contract: by whether the prefix is there, and by whether there is a miss after
+-- it. Where there is none, the walk holds the ids of the rest, as many as there are places. Assumes nothing.
 use mathlib.Core.Path.{_≡_, sym, ap, _∙_}
 use mathlib.Core.List.{List, [], _∷_}
 use mathlib.Core.Option.{some}

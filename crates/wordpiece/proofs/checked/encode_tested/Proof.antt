@@ -1,4 +1,5 @@
--- `wordpiece::checked::encode_tested` meets its contract: what `judge` finds is refused, and a call without a fault is ready for the core. Assumes nothing.
+-- `wordpiece::checked::encode_tested` meets its contract: what `judge` finds is refused, and a call without a fault is ready
+-- for the core. Assumes nothing.
 use mathlib.Core.Path.{_≡_, sym, ap, _∙_}
 use mathlib.Core.Bool.{Bool}
 use mathlib.Core.Option.{none}

@@ -1,6 +1,6 @@
--- `wordpiece::checked::longest` meets its contract. The loop's invariant: the walk over the bytes from i to j ends in the node, and the best piece,
--- which the end and the id say, is the longest that ends at j or before. A turn is `longest-step`; where there is no step, `longest-stops`. The
--- measure is what is left of the word. Assumes nothing.
+-- `wordpiece::checked::longest` meets its contract. The loop's invariant: the walk over the bytes from i to j ends in the node,
+-- and the best piece, which the end and the id say, is the longest that ends at j or before. A turn is `longest-step`; where
+-- there is no step, `longest-stops`. The measure is what is left of the word. Assumes nothing.
 use mathlib.Core.Path.{_≡_, refl, sym, ap, _∙_}
 use mathlib.Core.Bool.{Bool}
 use mathlib.Core.List.{List, []}

@@ -1,5 +1,5 @@
--- `wordpiece::checked::put_all` meets its contract: a store in the first place and those of the rest after it lie over what was there. Held ids are
--- those of the rest where they have places. Assumes nothing.
+-- `wordpiece::checked::put_all` meets its contract: a store in the first place and those of the rest after it lie over what was
+-- there. Held ids are those of the rest where they have places. Assumes nothing.
 use mathlib.Core.Path.{_≡_, sym, ap, _∙_}
 use mathlib.Core.List.{_∷_}
 use Prim.Native.Nat.{_≤_}

@@ -1,5 +1,5 @@
--- `wordpiece::checked::put_held` meets its contract. The loop's invariant: storing the held ids from k on, from place k + 1 on, completes what is
--- to be written. The measure is how many are left. Assumes nothing.
+-- `wordpiece::checked::put_held` meets its contract. The loop's invariant: storing the held ids from k on, from place k + 1 on,
+-- completes what is to be written. The measure is how many are left. Assumes nothing.
 use mathlib.Core.Path.{_≡_, refl, sym, ap, _∙_}
 use mathlib.Core.List.{List, _∷_}
 use Prim.Native.Nat.{ℕ, suc, _+_, _-_, _≤_, _<_}

@@ -1,6 +1,6 @@
--- `wordpiece::checked::write_rest` meets its contract. The loop's invariant: writing the ids of the pieces from where the loop stands, from place n
--- on, completes what was to be written. There is no miss, since all pieces are there (`Fitting`). The measure is what is left of the word.
--- Assumes nothing.
+-- `wordpiece::checked::write_rest` meets its contract. The loop's invariant: writing the ids of the pieces from where the loop
+-- stands, from place n on, completes what was to be written. There is no miss, since all pieces are there (`Fitting`). The
+-- measure is what is left of the word. Assumes nothing.
 use mathlib.Core.Path.{_≡_, refl, sym, ap, _∙_}
 use mathlib.Core.List.{List, [], _∷_}
 use mathlib.Core.Option.{Option, some}

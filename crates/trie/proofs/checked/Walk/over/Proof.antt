@@ -1,5 +1,5 @@
--- `trie::checked::Walk::over` meets its contract. The loop's invariant: the walk over s is the walk over what is left of s from the node
--- come to, and that is a node. What is left of s falls. Assumes nothing.
+-- `trie::checked::Walk::over` meets its contract. The loop's invariant: the walk over s is the walk over what is left of s from
+-- the node come to, and that is a node. What is left of s falls. Assumes nothing.
 use mathlib.Core.Path.{_≡_, refl, sym, ap, _∙_}
 use mathlib.Core.List.{List}
 use mathlib.Core.Option.{some}

@@ -1,4 +1,5 @@
--- `trie::checked::Walk::step` meets its contract: the edges of a node of sound parts are what the search asks for. Assumes nothing.
+-- `trie::checked::Walk::step` meets its contract: the edges of a node of sound parts are what the search asks for. Assumes
+-- nothing.
 use native.Mathlib.Omega.{arith}
 use borrow.Author.Needs.{needs}
 use Rattle.trie.specs.Trie.{step}

@@ -1,5 +1,5 @@
--- `trie::checked::Walk::step_by` meets its contract: from the root the table says what a search would, and from any other node it is the step. Assumes
--- nothing.
+-- `trie::checked::Walk::step_by` meets its contract: from the root the table says what a search would, and from any other node
+-- it is the step. Assumes nothing.
 use mathlib.Core.Path.{sym, ap, _∙_}
 use Prim.Native.Nat.{ℕ}
 use native.Mathlib.Omega.{arith}
