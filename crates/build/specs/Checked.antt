@@ -35,7 +35,8 @@ abbrev pub builtAnswer : ℕ → ℕ → Built
 builtAnswer room n = cond (ltb room n) NoRoom (Nodes n)
 
 -- what the build of these rows answers, and what it leaves in the memory
-pub record BuiltOf (kind : Kind) (tab : List ℕ) (rows : List Row) (room : ℕ) (before after : Memory) (answer : Built) : Type 0 where
+pub record BuiltOf (kind : Kind) (tab : List ℕ) (rows : List Row) (room : ℕ) (before after : Memory)
+    (answer : Built) : Type 0 where
   pub answered : answer ≡ builtAnswer room (nodesOf tab rows)
   pub left : after ≡ cond (ltb room (nodesOf tab rows)) (cleared before) (holding (trieIn kind tab rows) [] before)
 

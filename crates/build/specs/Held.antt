@@ -67,7 +67,8 @@ pub record Enterable (edgeN id work : List ℕ) (room node n : ℕ) : Type 0 whe
   pub fits : n ≤ room
 
 -- The nodes are now ms, and the string t has come to `node`, one of n. The node is `room` where there is no room for t.
-pub record Done (ms : List (List ℕ)) (rule : List ℕ → Option ℕ) (t : List ℕ) (room : ℕ) (edgeN id work : List ℕ) (node n : ℕ) : Type 0 where
+pub record Done (ms : List (List ℕ)) (rule : List ℕ → Option ℕ) (t : List ℕ) (room : ℕ) (edgeN id work : List ℕ)
+    (node n : ℕ) : Type 0 where
   pub full : node ≡ room → room < length ms
   pub fits : (node ≡ room → ⊥) → n ≤ room
   pub count : (node ≡ room → ⊥) → n ≡ length ms
@@ -76,7 +77,8 @@ pub record Done (ms : List (List ℕ)) (rule : List ℕ → Option ℕ) (t : Lis
 
 pub record ByteEntered (edgeN id work edgeN′ id′ work′ : List ℕ) (room node n b node′ n′ : ℕ) : Type 0 where
   pub entered :
-      (ns : List (List ℕ)) (rule : List ℕ → Option ℕ) (s : List ℕ) → Held ns rule edgeN id work → n ≡ length ns → place ns s ≡ some node
+      (ns : List (List ℕ)) (rule : List ℕ → Option ℕ) (s : List ℕ) → Held ns rule edgeN id work → n ≡ length ns
+      → place ns s ≡ some node
       → Done (add ns (s ++ (b ∷ []))) rule (s ++ (b ∷ [])) room edgeN′ id′ work′ node′ n′
 
 -- ---- one token more
@@ -103,7 +105,8 @@ pub record RowDone (ms : List (List ℕ)) (rule : List ℕ → Option ℕ) (room
   pub count : n ≤ room → n ≡ length ms
   pub held : n ≤ room → Held ms rule edgeN id work
 
-pub record RowEntered (edgeN id work edgeN′ id′ work′ : List ℕ) (kind : Kind) (room n : ℕ) (t : List ℕ) (v n′ : ℕ) : Type 0 where
+pub record RowEntered (edgeN id work edgeN′ id′ work′ : List ℕ) (kind : Kind) (room n : ℕ) (t : List ℕ)
+    (v n′ : ℕ) : Type 0 where
   pub entered :
       (ns : List (List ℕ)) (rule : List ℕ → Option ℕ) → Held ns rule edgeN id work → n ≡ length ns → Unmarked kind rule
       → RowDone (enter ns (prefixes [] t)) (marked kind t v rule) room edgeN′ id′ work′ n′

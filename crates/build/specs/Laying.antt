@@ -42,7 +42,8 @@ pub record NodeReady (edgeAt edgeN byte to work : List ℕ) (node at : ℕ) : Ty
   pub there : node < length edgeAt
   pub few : at ≤ 4_294_967_295
 
-pub record NodeDone (ns : List (List ℕ)) (s edgeAt edgeN byte to edgeAt′ edgeN′ byte′ to′ : List ℕ) (node at end : ℕ) : Type 0 where
+pub record NodeDone (ns : List (List ℕ)) (s edgeAt edgeN byte to edgeAt′ edgeN′ byte′ to′ : List ℕ)
+    (node at end : ℕ) : Type 0 where
   pub begun : edgeAt′ ≡ set edgeAt node at
   pub counted : edgeN′ ≡ set edgeN node (length (edgesOf ns s))
   pub children : ChildrenDone ns s byte to byte′ to′ at end

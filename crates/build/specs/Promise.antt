@@ -40,6 +40,9 @@ toldFor none summary = built summary
 toldFor (some r) summary = refused r
 
 -- What a build promises of its answer and of the memory lent to it, before and after.
-pub record Promised {A : Type 0} (kind : Kind) (tab : List ℕ) (rows : List Row) (judged : Option Reason) (short : Bool) (summary : A) (before : Memory) (answer : Told A) (after : Memory) : Type 0 where
+pub record Promised {A : Type 0} (kind : Kind) (tab : List ℕ) (rows : List Row) (judged : Option Reason) (short : Bool)
+    (summary : A) (before : Memory) (answer : Told A) (after : Memory) : Type 0 where
   pub answered : answer ≡ toldFor (buildFault judged short) summary
-  pub left : after ≡ leaves (buildFault judged short) (holding (trieIn kind tab rows) (scoresIn kind tab rows) before) (cleared before) before
+  pub left :
+      after ≡ leaves (buildFault judged short) (holding (trieIn kind tab rows) (scoresIn kind tab rows) before) (cleared before)
+      before

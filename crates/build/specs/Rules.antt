@@ -37,7 +37,9 @@ unfoldable pub unigramTrie : List ℕ → List Row → Trie
 unigramTrie tab rows = let tokens = tokensOf tab rows in trieOf (firstRow tokens) tokens
 
 unfoldable pub unigramScores : List ℕ → List Row → List Double
-unigramScores tab rows = let tokens = tokensOf tab rows in map (λ s. nodeScore (scoresOf rows) (firstRow tokens s)) (names tokens)
+unigramScores tab rows =
+    let tokens = tokensOf tab rows in
+    map (λ s. nodeScore (scoresOf rows) (firstRow tokens s)) (names tokens)
 
 -- ---- WordPiece
 

@@ -18,7 +18,9 @@ use Rattle.output.specs.Output.{lentMemory}
 
 -- what the span check gives of a pack's strings
 abbrev pub PrefixGiven : List ℕ → ℕ → ℕ → List ℕ → Type 0
-PrefixGiven pack off len prefix = let strings = stringsOf pack in prefix ≡ unlessFault (spanFault strings off len) (spanOf strings off len) []
+PrefixGiven pack off len prefix =
+    let strings = stringsOf pack in
+    prefix ≡ unlessFault (spanFault strings off len) (spanOf strings off len) []
 
 -- the columns have places for n nodes, of which there is at least the root, and their edges
 pub record Cuttable (n : ℕ) (edgeAt edgeN id : List ℕ) (score : List Float) (byte to : List ℕ) : Type 0 where
@@ -37,7 +39,8 @@ cutTo coder n edgeAt edgeN id score byte to prefix =
 
 -- the pack was judged, and built where it is fine, in the columns that the program lends; what the work places hold afterwards
 -- is no matter
-pub record LentBuilt (pack : List ℕ) (answer : PackAnswer) (edgeAt edgeN id : List ℕ) (scores : List Float) (byte to : List ℕ) : Type 0 where
+pub record LentBuilt (pack : List ℕ) (answer : PackAnswer) (edgeAt edgeN id : List ℕ) (scores : List Float)
+    (byte to : List ℕ) : Type 0 where
   pub work : List ℕ
   pub built : PackBuilt pack lentMemory answer (withScores (memory edgeAt edgeN id byte to work) (map units scores))
   pub small : length pack ≤ 65_536

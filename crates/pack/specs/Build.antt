@@ -61,7 +61,8 @@ told (answer-is.WordPiece n u c off len) = built (wordpiece n u c off len)
 told (answer-is.Refused r) = refused r
 
 unfoldable pub reportOf : Kind → List ℕ → Report
-reportOf Unigram bytes = unigram (nodesOf Unigram bytes) (headerOf bytes .unknown) (unknownScore (scoresOf (rowsOf Unigram bytes)))
+reportOf Unigram bytes =
+    unigram (nodesOf Unigram bytes) (headerOf bytes .unknown) (unknownScore (scoresOf (rowsOf Unigram bytes)))
 reportOf WordPiece bytes =
     let h = headerOf bytes in
     wordpiece (nodesOf WordPiece bytes) (h .unknown) (h .«max_chars») (h .«prefix_off») (h .«prefix_len»)
@@ -87,4 +88,5 @@ unigramModel bytes =
 abbrev pub PackBuilt : List ℕ → Memory → PackAnswer → Memory → Type 0
 PackBuilt bytes before answer after =
     let kind = theKind bytes in
-    Promised kind (stringsOf bytes) (rowsOf kind bytes) (packJudged bytes) (noScoredRoom (nodesOf kind bytes) before) (reportOf kind bytes) before (told answer) after
+    Promised kind (stringsOf bytes) (rowsOf kind bytes) (packJudged bytes) (noScoredRoom (nodesOf kind bytes) before)
+    (reportOf kind bytes) before (told answer) after

@@ -15,7 +15,8 @@ use Rattle.pack.specs.declared.header.Header.{Header}
 
 -- "Little-endian u32": the word at byte `at`
 unfoldable pub word : List ℕ → ℕ → ℕ
-word bytes at = getD bytes at 0 + 2 ^ 8 * getD bytes (at + 1) 0 + 2 ^ 16 * getD bytes (at + 2) 0 + 2 ^ 24 * getD bytes (at + 3) 0
+word bytes at =
+    getD bytes at 0 + 2 ^ 8 * getD bytes (at + 1) 0 + 2 ^ 16 * getD bytes (at + 2) 0 + 2 ^ 24 * getD bytes (at + 3) 0
 
 -- "header, 36 bytes: kind (1 Unigram, 2 WordPiece), rows, rows offset, strings offset, strings length, unknown id, max_chars,
 -- prefix offset, prefix length"
@@ -36,7 +37,8 @@ headerOf bytes =
 -- "Rows offset is 36, strings offset 36 + 16 x rows, and the file ends with the strings."
 unfoldable pub laidOut : List ℕ → Header → Bool
 laidOut bytes h =
-    leb 36 (length bytes) && eqb (h .«rows_off») 36 && eqb (h .«strings_off») (36 + 16 * h .rows) && eqb (h .«strings_off» + h .«strings_len») (length bytes)
+    leb 36 (length bytes) && eqb (h .«rows_off») 36 && eqb (h .«strings_off») (36 + 16 * h .rows)
+    && eqb (h .«strings_off» + h .«strings_len») (length bytes)
 
 -- "For kind 1 the last three are 0." "a row is 16 bytes: .. an id (u32, then four zero bytes)".
 unfoldable pub kindLaidOut : List ℕ → Header → Option Kind

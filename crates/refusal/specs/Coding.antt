@@ -16,6 +16,7 @@ codeAnswer none count = Ids count
 codeAnswer (some f) count = Refused f
 
 -- What a coding promises of its answer and of the memory lent to it, before and after. "Every other refusal writes nothing."
-pub record Coded {A : Type 0} (fault : Option Fault) (ids : List ℕ) (written before : A) (answer : CodeAnswer) (after : A) : Type 0 where
+pub record Coded {A : Type 0} (fault : Option Fault) (ids : List ℕ) (written before : A) (answer : CodeAnswer)
+    (after : A) : Type 0 where
   pub answered : answer ≡ codeAnswer fault (length ids)
   pub left : after ≡ unlessFault fault written before

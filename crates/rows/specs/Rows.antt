@@ -61,4 +61,5 @@ rowFault kind tab r =
 -- "the first bad row", the first of these rows being row i
 unfoldable pub firstBad : Kind → List ℕ → ℕ → List Row → Option Reason
 firstBad kind tab i [] = none
-firstBad kind tab i (r ∷ rs) = elim (rowFault kind tab r) [ some f ↦ some (reason.Row f i) | none ↦ firstBad kind tab (suc i) rs ]
+firstBad kind tab i (r ∷ rs) =
+    elim (rowFault kind tab r) [ some f ↦ some (reason.Row f i) | none ↦ firstBad kind tab (suc i) rs ]

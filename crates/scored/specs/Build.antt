@@ -30,4 +30,5 @@ told (answer-is.Refused r) = refused r
 abbrev pub Built : List ℕ → Columns → Memory → BuildAnswer → Memory → Type 0
 Built tab c before answer after =
     let rows = rowsOf c in
-    Promised kind.Unigram tab rows (columnsFault kind.Unigram tab c) (noScoredRoom (nodesOf tab rows) before) (reportOf tab rows) before (told answer) after
+    Promised kind.Unigram tab rows (columnsFault kind.Unigram tab c) (noScoredRoom (nodesOf tab rows) before)
+    (reportOf tab rows) before (told answer) after

@@ -58,8 +58,10 @@ shortFor n tab rows lent m = shortOf n lent || noScoredRoom (nodesOf tab rows) m
 
 -- What is promised of n rows, what was found of them being `judged`: the promise of every build. The places that are lent for
 -- the rows end as work places do.
-pub record PlacesBuilt (judged : Option Reason) (n : ℕ) (tab : List ℕ) (rows : List Row) (lent : RowPlaces) (before : Memory) (answer : BuildAnswer) (lentAfter : RowPlaces) (after : Memory) : Type 0 where
-  pub built : Promised kind.Unigram tab rows judged (shortFor n tab rows lent before) (reportOf tab rows) before (told answer) after
+pub record PlacesBuilt (judged : Option Reason) (n : ℕ) (tab : List ℕ) (rows : List Row) (lent : RowPlaces)
+    (before : Memory) (answer : BuildAnswer) (lentAfter : RowPlaces) (after : Memory) : Type 0 where
+  pub built :
+      Promised kind.Unigram tab rows judged (shortFor n tab rows lent before) (reportOf tab rows) before (told answer) after
   pub places : lentAfter ≡ leaves (buildFault judged (shortFor n tab rows lent before)) (zeroRows lent) (zeroRows lent) lent
 
 -- What `build_rows` promises of its answer and of the memory lent to it, before and after.

@@ -23,7 +23,8 @@ foundAfter found tab r i = first found (firstBad kind.Unigram tab i (r ∷ []))
 
 -- row i at place i of the columns
 unfoldable pub putRow : RowPlaces → ℕ → Row → RowPlaces
-putRow c i r = record { off = set (c .off) i (r .off); len = set (c .len) i (r .len); score = set (c .score) i (scoreOf (r .worth)) }
+putRow c i r =
+    record { off = set (c .off) i (r .off); len = set (c .len) i (r .len); score = set (c .score) i (scoreOf (r .worth)) }
 
 -- a row put at place i, where nothing was found and the columns have room for n rows
 unfoldable pub putFine : ℕ → Option Reason → ℕ → Row → RowPlaces → RowPlaces
@@ -47,4 +48,6 @@ firstPlaces n off len score = columns (take n off) (take n len) (replicate n tru
 -- is room for them
 pub record RowsCopied (found : Option Reason) (n : ℕ) (tab off len : List ℕ) (score : List Float) : Type 0 where
   pub other : (r : Reason) → found ≡ some r → eqb (numberOf r) 7 ≡ false
-  pub fine : found ≡ none → shortOf n (rowPlaces off len score) ≡ false → columnsFault kind.Unigram tab (firstPlaces n off len score) ≡ none
+  pub fine :
+      found ≡ none → shortOf n (rowPlaces off len score) ≡ false
+      → columnsFault kind.Unigram tab (firstPlaces n off len score) ≡ none

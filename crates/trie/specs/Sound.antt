@@ -31,7 +31,10 @@ unfoldable pub sound : Trie → Bool
 sound t =
     let nodes = length (t .edgeAt) in
     let edges = length (t .byte) in
-    leb 1 nodes && leb nodes 4_294_967_295 && eqb (length (t .edgeN)) nodes && eqb (length (t .id)) nodes && eqb (length (t .to)) edges && every nodes (soundNode t) && every edges (λ e. ltb (getD (t .to) e 0) nodes)
+    leb 1 nodes && leb nodes 4_294_967_295
+    && eqb (length (t .edgeN)) nodes && eqb (length (t .id)) nodes && eqb (length (t .to)) edges
+    && every nodes (soundNode t)
+    && every edges (λ e. ltb (getD (t .to) e 0) nodes)
 
 unfoldable pub allFinite : List Double → Bool
 allFinite [] = true

@@ -47,7 +47,8 @@ endsHere m s k i = elim (boundary s i) [ true ↦ pieceAt m k | false ↦ none ]
 
 -- The work at one end i of a walk from `at`: the piece that ends there is offered, and `single` becomes true where it is one
 -- character long.
-pub record Ended (m : Model) (s : List ℕ) (node i one : ℕ) (single : Bool) (at : ℕ) (x : Double) (before after : Slots) (r : Bool) : Type 0 where
+pub record Ended (m : Model) (s : List ℕ) (node i one : ℕ) (single : Bool) (at : ℕ) (x : Double) (before after : Slots)
+    (r : Bool) : Type 0 where
   pub put : PutAt before i (afterOffer (endsHere m s node i) x at (slotAt before i)) after
   pub seen : r ≡ (single || (eqb i one && isSome (endsHere m s node i)))
 
@@ -88,7 +89,8 @@ abbrev pub Recorded : Model → List ℕ → ℕ → Slots → Slots → Type 0
 Recorded m s from before after = law.Recorded (rule m s) (λ j. boundary s j ≡ true) (length s) from before after
 
 -- The slots hold the records, and the first path places the ends of the best cutting's pieces; r is how many there are.
-pub record BestCutting (m : Model) (s : List ℕ) (before : Slots) (path₀ : List ℕ) (after : Slots) (path₁ : List ℕ) (r : ℕ) : Type 0 where
+pub record BestCutting (m : Model) (s : List ℕ) (before : Slots) (path₀ : List ℕ) (after : Slots) (path₁ : List ℕ)
+    (r : ℕ) : Type 0 where
   pub slots : Recorded m s (length s) before after
   pub path : path₁ ≡ pathLeft (rule m s) (length s) path₀
   pub count : r ≡ length (piecesOf m s)

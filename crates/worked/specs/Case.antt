@@ -10,7 +10,8 @@ word n = n ∷ 0 ∷ 0 ∷ 0 ∷ []
 
 unfoldable pub packBytes : List ℕ
 packBytes =
-    flatMap word (2 ∷ 2 ∷ 36 ∷ 68 ∷ 8 ∷ 0 ∷ 100 ∷ 2 ∷ 2 ∷ []) ++ flatMap word (0 ∷ 2 ∷ 1 ∷ 0 ∷ []) ++ flatMap word (2 ∷ 6 ∷ 2 ∷ 0 ∷ []) ++ ascii "un##able"
+    flatMap word (2 ∷ 2 ∷ 36 ∷ 68 ∷ 8 ∷ 0 ∷ 100 ∷ 2 ∷ 2 ∷ [])
+    ++ flatMap word (0 ∷ 2 ∷ 1 ∷ 0 ∷ []) ++ flatMap word (2 ∷ 6 ∷ 2 ∷ 0 ∷ []) ++ ascii "un##able"
 
 unfoldable pub inputBytes : List ℕ
 inputBytes = ascii "unable\n\nunx\n"

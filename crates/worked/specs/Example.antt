@@ -80,16 +80,21 @@ unfoldable pub unigramHolds : unigram.Model → Given → Bool
 unigramHolds m g =
     let s = g .text in
     let n = length s in
-    isNone (segmentFault (soundModel m) s (lengths places places places places places)) && names.same (unigram.idsOf m s) (g .ids) && scoreIs (g .score) (shown (best (unigram.rule m s) n n) .score)
+    isNone (segmentFault (soundModel m) s (lengths places places places places places))
+    && names.same (unigram.idsOf m s) (g .ids)
+    && scoreIs (g .score) (shown (best (unigram.rule m s) n n) .score)
 
 -- the word is accepted and gives these ids
 unfoldable pub wordpieceHolds : Example → Given → Bool
 wordpieceHolds x g =
     let t = wordpieceTrie (tableOf (x .entries)) (rowsAt 0 (x .entries)) in
-    isNone (encodeFault (sound t) (x .prefix) (g .text) places) && names.same (wordpiece.idsOf (idOf t) (x .unknown) (g .maxChars) (x .prefix) (g .text)) (g .ids)
+    isNone (encodeFault (sound t) (x .prefix) (g .text) places)
+    && names.same (wordpiece.idsOf (idOf t) (x .unknown) (g .maxChars) (x .prefix) (g .text)) (g .ids)
 
 unfoldable pub kindHolds : Kind → Example → Bool
-kindHolds Unigram x = let m = exampleModel x in scoreIs (x .unknownScore) (m .unknown .score) && allOf (unigramHolds m) (x .given)
+kindHolds Unigram x =
+    let m = exampleModel x in
+    scoreIs (x .unknownScore) (m .unknown .score) && allOf (unigramHolds m) (x .given)
 kindHolds WordPiece x = allOf (wordpieceHolds x) (x .given)
 
 -- an example holds: its rows are accepted, and every text gives what it should

@@ -58,7 +58,8 @@ table =
     -- 1. a -1, b -1, ab -2; `ab` gives 3.
     unigram (unk ∷ "a" scores minus 1 ∷ "b" scores minus 1 ∷ "ab" scores minus 2 ∷ []) ("ab" gives (3 ∷ []) ∷ [])
     -- 2. a -1, ab -2, bc -2, c -1; `abc` gives 1 3.
-    ∷ unigram (unk ∷ "a" scores minus 1 ∷ "ab" scores minus 2 ∷ "bc" scores minus 2 ∷ "c" scores minus 1 ∷ []) ("abc" gives (1 ∷ 3 ∷ []) ∷ [])
+    ∷ unigram (unk ∷ "a" scores minus 1 ∷ "ab" scores minus 2 ∷ "bc" scores minus 2 ∷ "c" scores minus 1 ∷ [])
+    ("abc" gives (1 ∷ 3 ∷ []) ∷ [])
     -- 3. a 0.1, b 0.2, ab 0.3; `ab` gives 1 2, for the rounded sum is larger.
     ∷ unigram (unk ∷ "a" scores tenths1 ∷ "b" scores tenths2 ∷ "ab" scores tenths3 ∷ []) ("ab" gives (1 ∷ 2 ∷ []) ∷ [])
     -- 4. a -1; `xya` gives 0 1.
@@ -68,7 +69,8 @@ table =
     -- 6. x -1; `q<unk>` gives 0.
     ∷ unigram (unk ∷ "x" scores minus 1 ∷ []) ("q<unk>" gives (0 ∷ []) ∷ [])
     -- 7. a -3, a -1; `a` gives 1, and its record's score is -3.
-    ∷ unigram (unk ∷ "a" scores minus 3 ∷ "a" scores minus 1 ∷ []) (record { text = ascii "a"; maxChars = 100; ids = 1 ∷ []; score = some (minus 3) } ∷ [])
+    ∷ unigram (unk ∷ "a" scores minus 3 ∷ "a" scores minus 1 ∷ [])
+    (record { text = ascii "a"; maxChars = 100; ids = 1 ∷ []; score = some (minus 3) } ∷ [])
     -- 8. Rows empty -50, a -1, unknown 7; `x` gives 7, unknown score -60.
     ∷ record {
       kind = Unigram;
@@ -85,5 +87,7 @@ table =
     -- 11. a 1, a 2; `a` gives 2.
     ∷ wordpiece ("a" has 1 ∷ "a" has 2 ∷ []) ("a" gives (2 ∷ []) ∷ [])
     -- 12. éé 5; `éé` gives 5 at max_chars 2 and 0 at 1.
-    ∷ wordpiece (record { token = éé; worth = id 5 } ∷ []) (record { text = éé; maxChars = 2; ids = 5 ∷ []; score = none } ∷ record { text = éé; maxChars = 1; ids = 0 ∷ []; score = none } ∷ [])
+    ∷ wordpiece (record { token = éé; worth = id 5 } ∷ [])
+    (record { text = éé; maxChars = 2; ids = 5 ∷ []; score = none }
+    ∷ record { text = éé; maxChars = 1; ids = 0 ∷ []; score = none } ∷ [])
     ∷ []
