@@ -57,9 +57,7 @@ sk-characters-spec =
     (tie.spec
     (λ c κs. search needs)
     returns
-    (λ c κs. search needs)
-    (λ c. search needs)
-    (λ c κs. search needs)
+    (λ c κs. search needs) (λ c. search needs) (λ c κs. search needs)
     returns-2
     (λ c. search needs)
     characters-requires

@@ -43,10 +43,8 @@ pub prefix-of-spec : {M : Type 1} → statement M
 prefix-of-spec =
     tie.close
     (tie.spec
-    (λ c κs. search needs)
-    (λ c. search needs)
+    (λ c κs. search needs) (λ c. search needs)
     sub-strings
     part-strings-start
-    (λ c. search needs)
-    (λ c κs. search needs)
+    (λ c. search needs) (λ c κs. search needs)
     returns)

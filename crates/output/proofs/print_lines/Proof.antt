@@ -79,9 +79,7 @@ pub print-lines-spec : {M : Type 1} → statement M
 print-lines-spec =
     tie.close
     (tie.spec
-    (λ c. search needs)
-    (λ c κs. search needs)
-    (λ c. search needs)
+    (λ c. search needs) (λ c κs. search needs) (λ c. search needs)
     returns
     (λ c. search needs)
     slice-aggregate-put-lines
@@ -90,6 +88,5 @@ print-lines-spec =
     slice-aggregate-put-lines-4
     slice-aggregate-put-lines-5
     slice-aggregate-put-lines-6
-    (λ c κs. search needs)
-    (λ c. search needs)
+    (λ c κs. search needs) (λ c. search needs)
     returns-2)

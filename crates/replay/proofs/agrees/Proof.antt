@@ -14,8 +14,7 @@ pub agrees-spec : {M : Type 1} → statement M
 agrees-spec =
     tie.close
     (tie.spec
-    (λ c. search needs)
-    (λ c κs. search needs)
+    (λ c. search needs) (λ c κs. search needs)
     array-share-prefix-out
     slice-aggregate-is-same
     (λ c κs. search needs)

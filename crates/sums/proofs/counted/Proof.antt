@@ -44,8 +44,7 @@ counted-spec =
     μ-loop
     loop-holds
     sub-left
-    (λ c κs. search needs)
-    (λ c. search needs)
+    (λ c κs. search needs) (λ c. search needs)
     add-agree
     loop-less
     loop-again
@@ -53,6 +52,5 @@ counted-spec =
     add-differ
     loop-less-2
     loop-again-2
-    (λ c. search needs)
-    (λ c. search needs)
+    (λ c. search needs) (λ c. search needs)
     (λ c. search needs))

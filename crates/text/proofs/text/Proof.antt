@@ -38,9 +38,7 @@ pub text-spec : {M : Type 1} → statement M
 text-spec =
     tie.close
     (tie.spec
-    (λ c κs. search needs)
-    (λ c. search needs)
-    (λ c κs. search needs)
+    (λ c κs. search needs) (λ c. search needs) (λ c κs. search needs)
     returns
     (λ c. search needs)
     span-requires

@@ -46,12 +46,10 @@ pub look-up-spec : {M : Type 1} → statement M
 look-up-spec =
     tie.close
     (tie.spec
-    (λ c κs. search needs)
-    (λ c. search needs)
+    (λ c κs. search needs) (λ c. search needs)
     returns
     (λ c. search needs)
     exact-requires
-    (λ c. search needs)
-    (λ c. search needs)
+    (λ c. search needs) (λ c. search needs)
     returns-2
     returns-3)

@@ -131,6 +131,5 @@ lay-children-spec =
     cast-k-2
     loop-less
     loop-again
-    (λ c. search needs)
-    (λ c. search needs)
+    (λ c. search needs) (λ c. search needs)
     returns)

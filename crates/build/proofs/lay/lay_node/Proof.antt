@@ -65,15 +65,10 @@ lay-node-spec =
     tie.close
     (tie.spec
     (λ c κs. entry c .pre .children)
-    (λ c. search needs)
-    (λ c. search needs)
-    (λ c. search needs)
+    (λ c. search needs) (λ c. search needs) (λ c. search needs)
     sub-edge-n
     cast-edge-n
     (λ c. search needs)
     (λ c. inside (called c))
-    (λ c. search needs)
-    (λ c. search needs)
-    (λ c. search needs)
-    (λ c. search needs)
+    (λ c. search needs) (λ c. search needs) (λ c. search needs) (λ c. search needs)
     returns)

@@ -119,8 +119,7 @@ seek-spec =
     μ-loop
     mul-at
     loop-holds
-    (λ c. search needs)
-    (λ c. search needs)
+    (λ c. search needs) (λ c. search needs)
     cast-k
     returns
     mul-if2

@@ -125,11 +125,7 @@ put-lines-spec =
     sub-line
     part-line-start
     part-line-end
-    (λ c. search needs)
-    (λ c. search needs)
-    (λ c. search needs)
-    (λ c. search needs)
-    (λ c. search needs)
+    (λ c. search needs) (λ c. search needs) (λ c. search needs) (λ c. search needs) (λ c. search needs)
     put-line-requires
     add-from
     loop-less

@@ -54,7 +54,6 @@ kind-laid-out-spec =
     returns
     returns-2
     returns-3
-    (λ c. search needs)
-    (λ c κs. search needs)
+    (λ c. search needs) (λ c κs. search needs)
     returns-4
     returns-5)

@@ -55,16 +55,13 @@ word-spec =
     (tie.spec
     (λ c. search needs)
     cast-low
-    (λ c. search needs)
-    (λ c. search needs)
+    (λ c. search needs) (λ c. search needs)
     cast-low-2
     mul-low
     add-low-2
-    (λ c. search needs)
-    (λ c. search needs)
+    (λ c. search needs) (λ c. search needs)
     cast-high
-    (λ c. search needs)
-    (λ c. search needs)
+    (λ c. search needs) (λ c. search needs)
     cast-high-2
     mul-high
     add-high-3

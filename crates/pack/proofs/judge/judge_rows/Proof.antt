@@ -133,17 +133,13 @@ judge-rows-spec =
     (λ c. search needs)
     (λ c. start-inside (entry (c .before .before)))
     (λ c. start-inside (entry (c .before .before)))
-    (λ c. search needs)
-    (λ c. search needs)
+    (λ c. search needs) (λ c. search needs)
     first-bad-requires
     (λ c. search needs)
     returns-2
     (λ c. search needs)
     (λ c. start-inside (entry (fits (c .before .before) .before)))
     (λ c. start-inside (entry (fits (c .before .before) .before)))
-    (λ c. search needs)
-    (λ c κs. search needs)
-    (λ c. search needs)
-    (λ c. search needs)
+    (λ c. search needs) (λ c κs. search needs) (λ c. search needs) (λ c. search needs)
     returns-3
     returns-4)

@@ -36,10 +36,7 @@ pub judge-row-spec : {M : Type 1} → statement M
 judge-row-spec =
     tie.close
     (tie.spec
-    (λ c. search needs)
-    (λ c. search needs)
-    (λ c κs. search needs)
-    (λ c. search needs)
+    (λ c. search needs) (λ c. search needs) (λ c κs. search needs) (λ c. search needs)
     cast-t11
     (λ c. search needs)
     returns

@@ -56,11 +56,8 @@ put-fine-spec =
     (tie.spec
     (λ c. search needs)
     returns
-    (λ c. search needs)
-    (λ c κs. search needs)
+    (λ c. search needs) (λ c κs. search needs)
     returns-2
     put-row-requires
-    (λ c. search needs)
-    (λ c. search needs)
-    (λ c. search needs)
+    (λ c. search needs) (λ c. search needs) (λ c. search needs)
     returns-3)

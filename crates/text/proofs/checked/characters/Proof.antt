@@ -83,8 +83,7 @@ characters-spec =
     Inv-loop
     μ-loop
     loop-holds
-    (λ c. search needs)
-    (λ c κs. search needs)
+    (λ c. search needs) (λ c κs. search needs)
     add-i
     add-n
     loop-less

@@ -30,17 +30,7 @@ pub is-four-spec : {M : Type 1} → statement M
 is-four-spec =
     tie.close
     (tie.spec
-    (λ c. search needs)
-    (λ c e. search needs)
-    (λ c. search needs)
-    (λ c. search needs)
-    (λ c e. search needs)
-    (λ c e. search needs)
-    (λ c. search needs)
-    (λ c. search needs)
-    (λ c κs. search needs)
-    (λ c e. search needs)
-    (λ c. search needs)
-    (λ c. search needs)
-    (λ c κs. search needs)
+    (λ c. search needs) (λ c e. search needs) (λ c. search needs) (λ c. search needs) (λ c e. search needs)
+    (λ c e. search needs) (λ c. search needs) (λ c. search needs) (λ c κs. search needs) (λ c e. search needs)
+    (λ c. search needs) (λ c. search needs) (λ c κs. search needs)
     returns-5)

@@ -70,18 +70,9 @@ pub is-three-spec : {M : Type 1} → statement M
 is-three-spec =
     tie.close
     (tie.spec
-    (λ c. search needs)
-    (λ c e. search needs)
-    (λ c. search needs)
-    (λ c. search needs)
-    (λ c κs. search needs)
-    (λ c e. search needs)
-    (λ c. search needs)
-    (λ c. search needs)
-    (λ c κs. search needs)
-    (λ c e. search needs)
-    (λ c. search needs)
-    (λ c. search needs)
+    (λ c. search needs) (λ c e. search needs) (λ c. search needs) (λ c. search needs) (λ c κs. search needs)
+    (λ c e. search needs) (λ c. search needs) (λ c. search needs) (λ c κs. search needs) (λ c e. search needs)
+    (λ c. search needs) (λ c. search needs)
     sub-part-2
     add-part
     returns-4

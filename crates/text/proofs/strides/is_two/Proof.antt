@@ -19,10 +19,6 @@ pub is-two-spec : {M : Type 1} → statement M
 is-two-spec =
     tie.close
     (tie.spec
-    (λ c. search needs)
-    (λ c e. search needs)
-    (λ c e. search needs)
-    (λ c. search needs)
-    (λ c. search needs)
+    (λ c. search needs) (λ c e. search needs) (λ c e. search needs) (λ c. search needs) (λ c. search needs)
     (λ c κs. search needs)
     returns-3)

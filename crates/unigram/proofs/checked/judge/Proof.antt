@@ -114,8 +114,7 @@ judge-spec =
     (tie.spec
     returns
     returns-2
-    (λ c κs. search needs)
-    (λ c. search needs)
+    (λ c κs. search needs) (λ c. search needs)
     returns-3
     (λ c. search needs)
     characters-requires

@@ -96,9 +96,5 @@ segment-spec =
     slice-reshare-prefix-merge
     slice-aggregate-merge
     merge-requires
-    (λ c. search needs)
-    (λ c. search needs)
-    (λ c. search needs)
-    (λ c. search needs)
-    (λ c. search needs)
+    (λ c. search needs) (λ c. search needs) (λ c. search needs) (λ c. search needs) (λ c. search needs)
     returns-2)

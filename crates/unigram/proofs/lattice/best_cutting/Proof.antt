@@ -31,8 +31,5 @@ best-cutting-spec =
     (tie.spec
     (λ c κs. search needs)
     trace-requires
-    (λ c. search needs)
-    (λ c. search needs)
-    (λ c. search needs)
-    (λ c. search needs)
+    (λ c. search needs) (λ c. search needs) (λ c. search needs) (λ c. search needs)
     returns)

@@ -190,8 +190,7 @@ offer-known-spec =
     loop-holds
     shared-slice-read-step-by
     step-by-requires
-    (λ c. search needs)
-    (λ c. search needs)
+    (λ c. search needs) (λ c. search needs)
     same-length
     same-length-2
     same-length-3

@@ -124,8 +124,7 @@ merge-spec =
     Inv-loop
     μ-loop
     loop-holds
-    (λ c. search needs)
-    (λ c. search needs)
+    (λ c. search needs) (λ c. search needs)
     cast-end
     mul-x
     shared-slice-read-x

@@ -160,8 +160,7 @@ count-rest-spec =
     μ-loop
     loop-holds
     longest-requires
-    (λ c. search needs)
-    (λ c. search needs)
+    (λ c. search needs) (λ c. search needs)
     same-length
     returns
     (λ c κs. search needs)

@@ -151,8 +151,7 @@ encode-spec =
     returns-2
     (λ c κs. search needs)
     longest-requires
-    (λ c. search needs)
-    (λ c. search needs)
+    (λ c. search needs) (λ c. search needs)
     put-requires-2
     (λ c. search needs)
     returns-3

@@ -155,15 +155,13 @@ encode-rest-spec =
     (tie.spec
     (λ c κs. search needs)
     over-requires
-    (λ c. search needs)
-    (λ c. search needs)
+    (λ c. search needs) (λ c. search needs)
     put-requires
     (λ c. search needs)
     returns
     (λ c. search needs)
     count-rest-requires
-    (λ c. search needs)
-    (λ c. search needs)
+    (λ c. search needs) (λ c. search needs)
     put-all-requires
     (λ c. search needs)
     put-requires-2

@@ -99,12 +99,9 @@ judge-spec =
     returns
     returns-2
     returns-3
-    (λ c κs. search needs)
-    (λ c. search needs)
+    (λ c κs. search needs) (λ c. search needs)
     returns-4
-    (λ c. search needs)
-    (λ c κs. search needs)
-    (λ c. search needs)
+    (λ c. search needs) (λ c κs. search needs) (λ c. search needs)
     returns-5
     (λ c. search needs)
     characters-requires

@@ -203,9 +203,7 @@ longest-spec =
     loop-holds
     shared-slice-read-step
     step-requires
-    (λ c. search needs)
-    (λ c. search needs)
-    (λ c κs. search needs)
+    (λ c. search needs) (λ c. search needs) (λ c κs. search needs)
     returns
     add-j
     ends-here-requires

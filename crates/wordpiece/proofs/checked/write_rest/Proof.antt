@@ -154,8 +154,7 @@ write-rest-spec =
     μ-loop
     loop-holds
     longest-requires
-    (λ c. search needs)
-    (λ c. search needs)
+    (λ c. search needs) (λ c. search needs)
     same-length
     returns
     mul-ids

@@ -103,8 +103,7 @@ over-spec =
     loop-holds
     shared-slice-read-step
     step-requires
-    (λ c. search needs)
-    (λ c. search needs)
+    (λ c. search needs) (λ c. search needs)
     returns
     add-i
     loop-less
