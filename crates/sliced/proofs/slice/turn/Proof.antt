@@ -11,12 +11,23 @@ use Rattle.sliced.proofs.slice.turn.Tie as tie
 abbrev places : tie.Start → RowPlaces
 places e = let a = e .args in rowPlaces (a .off .now) (a .len .now) (a .score .now)
 
+-- ---- the ways back: from both branches to the start, and from the call that puts a row to its branch
+
+abbrev judged : tie.Then1 → tie.Start
+judged c = c .before .before .before .before .before
+
+abbrev put : tie.Else1 → tie.Start
+put c = c .before .before .before .before .before
+
+abbrev branch : tie.After-put-fine → tie.Else1
+branch c = c .before .before .before .before
+
 judge-row-requires : tie.Need-judge-row-requires
-judge-row-requires c κs = let e = c .before .before .before .before .before in λ z. omega (arith, c .if1 .taken, e .pre .1 z)
+judge-row-requires c κs z = omega (arith, c .if1 .taken, judged c .pre .1 z)
 
 returns : tie.Need-returns
 returns c =
-    let e = c .before .before .before .before .before .before in
+    let e = judged (c .before) in
     let a = e .args in
     turn-judged (a .n) (a .t) (a .tab .now) (rowIs (a .row)) (places e) (reasonIn (a .found)) (c .before .if1 .taken)
     (c .judge-row .ensures)
@@ -24,8 +35,8 @@ returns c =
 returns-2 : tie.Need-returns-2
 returns-2 c =
     let p = c .before .before .before .before .before .before in
-    let k = p .before .before .before .before in
-    let e = k .before .before .before .before .before in
+    let k = branch p in
+    let e = put k in
     let a = e .args in
     turn-put (a .n) (a .t) (a .tab .now) (rowIs (a .row)) (places e) (reasonIn (a .found)) (k .if1 .left) (p .put-fine .ensures)
 
