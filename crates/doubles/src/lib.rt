@@ -1,4 +1,6 @@
 // IEEE 754 doubles: the leaves that add and compare. No other crate has a float operator.
+#![tactic(auto)]
+
 ghost use Rattle.std.specs.Prelude.{◌≡◌};
 ghost use Rattle.doubles.specs.Double.{minus_ten, sum, less, is_finite, lower_of, of_pattern};
 ghost use Rattle.doubles.specs.Units.{units};

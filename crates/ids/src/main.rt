@@ -1,6 +1,7 @@
 // Prints the ids of each line of standard input, in the vocabulary of the file `vocab.pack` of its working folder. What it
 // prints is what `output::print` puts into a buffer; this file only reads and writes. It reads one byte more than may be there,
 // so that too much shows.
+#![tactic(auto)]
 ghost use Rattle.io.specs.Counts.{IsPrefixLen};
 
 use libc::{STDIN_FILENO, STDOUT_FILENO};

@@ -2,6 +2,7 @@
 // each case, the lengths of a pack, an input and an output as little-endian words, and then their bytes. The outputs are what
 // the Rust and the paper give: they are made by compare/src/packs.rs from a fixed seed, small packs of both kinds with lines
 // over them, every fourth pack damaged.
+#![tactic(auto)]
 ghost use Rattle.io.specs.Counts.{IsPrefixLen};
 
 use libc::{STDIN_FILENO, STDOUT_FILENO};

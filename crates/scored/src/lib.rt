@@ -1,4 +1,5 @@
 // A Unigram trie from rows: `build`.
+#![tactic(auto)]
 use refusal::Reason;
 use rows::Kind;
 use rows::columns::RowsAnswer;

@@ -1,4 +1,5 @@
 // A Unigram trie from a slice of rows: `build_rows`, over the build on columns.
+#![tactic(auto)]
 use rows::Row;
 use scored::BuildAnswer;
 

@@ -3,6 +3,7 @@
 // Rust's own f64, made by compare/src/sums.rs from a fixed seed: edges in all pairs, then random doubles, near and far
 // exponents, ties and their neighbours, near cancellations, subnormals, sums around the largest double, and numbers such as a
 // vocabulary's scores.
+#![tactic(auto)]
 ghost use Rattle.std.specs.Prelude.{◌≤◌};
 
 use doubles::{Bits, Pattern};

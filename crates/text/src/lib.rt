@@ -1,4 +1,6 @@
 // RFC 3629 text: where it is well-formed, where its characters begin, and the span check over a lent string table.
+#![tactic(auto)]
+
 use refusal::{Fault, Judged, MAX_TABLE};
 
 pub mod checked;

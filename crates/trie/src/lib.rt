@@ -1,4 +1,5 @@
 // Trie parts in lent columns: soundness, steps and walks, and looking a string up.
+#![tactic(auto)]
 use checked::NodeId;
 use refusal::{Fault, Judged, MAX_TEXT};
 

@@ -1,4 +1,5 @@
 // Unigram: `segment`, the cutting of a text with the highest sum of scores.
+#![tactic(auto)]
 use refusal::CodeAnswer;
 
 pub mod checked;

@@ -1,4 +1,5 @@
 // WordPiece: `from_rows`, a trie from rows; `encode`, the longest token first.
+#![tactic(auto)]
 use build::Built;
 use refusal::{CodeAnswer, Fault, Reason};
 use rows::Kind;

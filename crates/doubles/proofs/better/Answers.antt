@@ -2,11 +2,7 @@
 -- Assumes nothing.
 use borrow.Author.Rules.{rules}
 use Rattle.doubles.proofs.Floats.{lt-is-less}
-use Rattle.doubles.proofs.better.Statement.{statement}
-use Rattle.doubles.proofs.better.Tie as tie
+use Rattle.doubles.proofs.better.Goals as goal
 
-returns : tie.Need-returns
+pub returns : goal.returns
 returns c = lt-is-less c.args.b c.args.a (search rules) (search rules)
-
-pub better-spec : {M : Type 1} → statement M
-better-spec = tie.close (tie.spec returns)

@@ -11,8 +11,7 @@ use Rattle.doubles.specs.Double.{finite, less, at_most, is_finite}
 use Rattle.doubles.specs.Units.{units}
 use Rattle.doubles.proofs.Largest.{largest, too-low, not-too-low}
 use Rattle.doubles.proofs.Floats.{lt-is-less, le-is-at-most, units-is-double}
-use Rattle.doubles.proofs.is_finite.Statement.{statement}
-use Rattle.doubles.proofs.is_finite.Tie as tie
+use Rattle.doubles.proofs.is_finite.Goals as goal
 
 -- the literal
 abbrev top : Float
@@ -43,11 +42,8 @@ compared x h e =
     ∙ ap (at_most (units x)) top-units
     ∙ not-too-low (units x) (units-is-double x h) (λ l. subst T (sym (low-test x h) ∙ e) l)
 
-returns : tie.Need-returns
-returns c = refused c.before.args.x (search rules) c.if1.true
+pub returns-then-x : goal.returns-then-x
+returns-then-x c = refused c.args.x (search rules) c.if-x.true
 
-returns-2 : tie.Need-returns-2
-returns-2 c = compared c.before.args.x (search rules) c.if1.false
-
-pub is-finite-spec : {M : Type 1} → statement M
-is-finite-spec = tie.close (tie.spec returns returns-2)
+pub returns : goal.returns
+returns c = compared c.args.x (search rules) c.if-x.false

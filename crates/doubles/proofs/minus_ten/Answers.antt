@@ -11,8 +11,7 @@ use borrow.Author.Rules.{rules}
 use Rattle.doubles.specs.Double.{finite, one, sum}
 use Rattle.doubles.specs.Units.{units}
 use Rattle.doubles.proofs.Floats.{add-is-sum}
-use Rattle.doubles.proofs.minus_ten.Statement.{statement}
-use Rattle.doubles.proofs.minus_ten.Tie as tie
+use Rattle.doubles.proofs.minus_ten.Goals as goal
 
 -- the literal 10.0
 abbrev ten : Float
@@ -26,8 +25,5 @@ difference : (x : Float) → T (fits binary64 x) → units (sub binary64 x ten) 
 unfolding sub
 difference x h = add-is-sum x (neg ten) h (neg-fits binary64 ten (of_bits-fits binary64 0x4024_0000_0000_0000)) ∙ ap (sum (units x)) minus-ten-units
 
-returns : tie.Need-returns
+pub returns : goal.returns
 returns c = difference c.args.x (search rules)
-
-pub minus-ten-spec : {M : Type 1} → statement M
-minus-ten-spec = tie.close (tie.spec returns)

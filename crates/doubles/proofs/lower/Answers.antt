@@ -8,18 +8,14 @@ use borrow.Author.Rules.{rules}
 use Rattle.doubles.specs.Double.{lower_of}
 use Rattle.doubles.specs.Units.{units}
 use Rattle.doubles.proofs.Floats.{lt-is-less}
-use Rattle.doubles.proofs.lower.Statement.{statement}
-use Rattle.doubles.proofs.lower.Tie as tie
+use Rattle.doubles.proofs.lower.Goals as goal
 
 picked : (a b : Float) → T (fits binary64 a) → T (fits binary64 b) → (t : Bool) → lt b a ≡ t → cond t (units b) (units a) ≡ lower_of (units a) (units b)
 unfolding lower_of
 picked a b h k t e = ap (λ (x : Bool). cond x (units b) (units a)) (sym e ∙ lt-is-less b a k h)
 
-returns : tie.Need-returns
-returns c = picked c.before.args.a c.before.args.b (search rules) (search rules) true c.if1.true
+pub returns-then-b-a : goal.returns-then-b-a
+returns-then-b-a c = picked c.args.a c.args.b (search rules) (search rules) true c.if-b-a.true
 
-returns-2 : tie.Need-returns-2
-returns-2 c = picked c.before.args.a c.before.args.b (search rules) (search rules) false c.if1.false
-
-pub lower_spec : {M : Type 1} → statement M
-lower_spec = tie.close (tie.spec returns returns-2)
+pub returns-else-b-a : goal.returns-else-b-a
+returns-else-b-a c = picked c.args.a c.args.b (search rules) (search rules) false c.if-b-a.false

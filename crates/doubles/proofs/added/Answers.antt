@@ -2,11 +2,7 @@
 -- Assumes nothing.
 use borrow.Author.Rules.{rules}
 use Rattle.doubles.proofs.Floats.{add-is-sum}
-use Rattle.doubles.proofs.added.Statement.{statement}
-use Rattle.doubles.proofs.added.Tie as tie
+use Rattle.doubles.proofs.added.Goals as goal
 
-returns : tie.Need-returns
+pub returns : goal.returns
 returns c = add-is-sum c.args.a c.args.s (search rules) (search rules)
-
-pub added-spec : {M : Type 1} → statement M
-added-spec = tie.close (tie.spec returns)
