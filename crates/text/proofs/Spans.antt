@@ -108,7 +108,7 @@ module _ {fault : Option Fault} {table : Bor (List ℕ)} {off len : ℕ} {a b : 
   pub part-determined : a.now ≡ b.now
   part-determined = p.gave ∙ sym q.gave
 
-  pub place-determined : (a.ptr.0 ≡ b.ptr.0) × (a.ptr.1 ≡ b.ptr.1)
+  pub place-determined : (a.ref_ptr.0 ≡ b.ref_ptr.0) × (a.ref_ptr.1 ≡ b.ref_ptr.1)
   place-determined = (p.block ∙ sym q.block, p.stands ∙ sym q.stands)
 
 -- ---- the part
