@@ -1,0 +1,12 @@
+-- `text::strides::past_fits` meets its contract. The loop's invariant is the contract's, of what was passed so far; a turn
+-- passes a block, and what is left of the length falls where it is not empty. Assumes nothing.
+use Prim.Native.Nat.{◌-◌}
+use lib.ListN.{length}
+use Rattle.text.specs.Passing.{Passed}
+use Rattle.text.proofs.strides.past_fits.Given as goal
+
+abbrev pub invariant-loop-at : goal.invariant-loop-at
+invariant-loop-at l = Passed l.s l.i l.at
+
+abbrev pub decreases-loop-at : goal.decreases-loop-at
+decreases-loop-at l = length l.s - l.at
