@@ -2,9 +2,9 @@
 use Rattle.std.specs.Prelude.{ℕ, ◌-◌, ◌*◌, Bool, false, ◌||◌, cond, List, [], ◌∷◌, ltb, eqb, Float, length}
 use Rattle.std.proofs.Math.Option.{Option, none, some}
 use Rattle.doubles.specs.Double.{Double, plus_zero}
-use Rattle.doubles.specs.Units.{scores_was, scores_is}
-use Rattle.std.specs.Borrow.{Bor}
-use Rattle.refusal.specs.Lent.{Lent, was, is}
+use Rattle.doubles.specs.Units.{scores_had, scores_is}
+use Rattle.std.specs.Borrow.{MutBor}
+use Rattle.refusal.specs.Lent.{LentMut, had, is}
 use Rattle.refusal.specs.declared.Reason.{Reason}
 use Rattle.refusal.specs.Refusal.{number_of}
 use Rattle.refusal.specs.Places.{zeroed, filled}
@@ -25,21 +25,21 @@ abbrev pub with_scores : Memory → List Double → Memory
 with_scores m score = record { parts = m.parts; score = score; work = m.work }
 
 -- the same as a contract names the columns: as the call found them, as it left them, and in a `requires`
-abbrev pub memory_was : Lent ℕ → Lent ℕ → Lent ℕ → Lent ℕ → Lent ℕ → Lent ℕ → Memory
-memory_was edge_at edge_n id byte to work = memory (was edge_at) (was edge_n) (was id) (was byte) (was to) (was work)
+abbrev pub memory_was : LentMut ℕ → LentMut ℕ → LentMut ℕ → LentMut ℕ → LentMut ℕ → LentMut ℕ → Memory
+memory_was edge_at edge_n id byte to work = memory (had edge_at) (had edge_n) (had id) (had byte) (had to) (had work)
 
-abbrev pub memory_is : Lent ℕ → Lent ℕ → Lent ℕ → Lent ℕ → Lent ℕ → Lent ℕ → Memory
+abbrev pub memory_is : LentMut ℕ → LentMut ℕ → LentMut ℕ → LentMut ℕ → LentMut ℕ → LentMut ℕ → Memory
 memory_is edge_at edge_n id byte to work = memory (is edge_at) (is edge_n) (is id) (is byte) (is to) (is work)
 
 abbrev pub memory_now :
-    Bor (List ℕ) → Bor (List ℕ) → Bor (List ℕ) → Bor (List ℕ) → Bor (List ℕ) → Bor (List ℕ) → Memory
+    MutBor (List ℕ) → MutBor (List ℕ) → MutBor (List ℕ) → MutBor (List ℕ) → MutBor (List ℕ) → MutBor (List ℕ) → Memory
 memory_now edge_at edge_n id byte to work = memory edge_at.now edge_n.now id.now byte.now to.now work.now
 
 -- and with a score column
-abbrev pub scored_memory_was : Lent ℕ → Lent ℕ → Lent ℕ → Lent Float → Lent ℕ → Lent ℕ → Lent ℕ → Memory
-scored_memory_was edge_at edge_n id score byte to work = with_scores (memory_was edge_at edge_n id byte to work) (scores_was score)
+abbrev pub scored_memory_was : LentMut ℕ → LentMut ℕ → LentMut ℕ → LentMut Float → LentMut ℕ → LentMut ℕ → LentMut ℕ → Memory
+scored_memory_was edge_at edge_n id score byte to work = with_scores (memory_was edge_at edge_n id byte to work) (scores_had score)
 
-abbrev pub scored_memory_is : Lent ℕ → Lent ℕ → Lent ℕ → Lent Float → Lent ℕ → Lent ℕ → Lent ℕ → Memory
+abbrev pub scored_memory_is : LentMut ℕ → LentMut ℕ → LentMut ℕ → LentMut Float → LentMut ℕ → LentMut ℕ → LentMut ℕ → Memory
 scored_memory_is edge_at edge_n id score byte to work = with_scores (memory_is edge_at edge_n id byte to work) (scores_is score)
 
 -- one of the lent columns, by its length, has fewer than n places

@@ -2,7 +2,7 @@
 ghost use Rattle.std.specs.Prelude.{◌≡◌, ◌≤◌, min};
 ghost use Rattle.build.specs.Given.{given};
 ghost use Rattle.build.specs.Held.{LevelRows};
-ghost use Rattle.build.specs.Memory.{memory_is, memory_now, memory_was};
+ghost use Rattle.build.specs.Memory.{memory, memory_is, memory_now, memory_was};
 ghost use Rattle.build.specs.Checked.{room_of, BuiltOf};
 ghost use Rattle.refusal.specs.Lent.{was};
 
@@ -26,7 +26,7 @@ pub fn room(
     to: &[u32],
     work: &[u32],
 ) -> usize
-    ensures { result ≡ room_of (memory_was edge_at edge_n id byte to work) }
+    ensures { result ≡ room_of (memory (was edge_at) (was edge_n) (was id) (was byte) (was to) (was work)) }
 {
     let nodes = least(
         least(edge_at.len(), edge_n.len()),

@@ -1,7 +1,7 @@
 // The linked nodes laid out as parts: "Edges stand node after node, by rising byte." A node's children have larger numbers, so
 // their bytes are read from their `edge_n` places before those take their own counts.
 ghost use Rattle.build.specs.Laying.{ChildrenReady, ChildrenLaid, NodeReady, NodeLaid, AllReady, AllLaid};
-ghost use Rattle.refusal.specs.Lent.{is, was};
+ghost use Rattle.refusal.specs.Lent.{was};
 
 use crate::zero::{zero8, zero32};
 
@@ -15,7 +15,7 @@ fn lay_children(
     from: usize,
 ) -> usize
     requires { ChildrenReady edge_n.now work.now byte.old to.old node from }
-    ensures { ChildrenLaid (was edge_n) (was work) (was byte) (was to) (is byte) (is to) node from result }
+    ensures { ChildrenLaid (was edge_n) (was work) byte.old to.old byte.new to.new node from result }
 {
     let mut at = from;
     let mut k = work[2 * node] as usize;
@@ -39,8 +39,8 @@ fn lay_node(
     from: usize,
 ) -> usize
     requires { NodeReady edge_at.old edge_n.old byte.old to.old work.now node from }
-    ensures { NodeLaid (was edge_at) (was edge_n) (was byte) (was to) (was work) (is edge_at) (is edge_n)
-        (is byte) (is to) node from result }
+    ensures { NodeLaid edge_at.old edge_n.old byte.old to.old (was work) edge_at.new edge_n.new
+        byte.new to.new node from result }
 {
     let end = lay_children(edge_n, byte, to, work, node, from);
     edge_at[node] = from as u32;
@@ -58,8 +58,8 @@ pub fn lay_out(
     n: usize,
 )
     requires { AllReady edge_at.old edge_n.old byte.old to.old work.old n }
-    ensures { AllLaid (was edge_at) (was edge_n) (was byte) (was to) (was work) (is edge_at) (is edge_n) (is byte)
-        (is to) (is work) n }
+    ensures { AllLaid edge_at.old edge_n.old byte.old to.old work.old edge_at.new edge_n.new byte.new
+        to.new work.new n }
 {
     zero32(edge_at);
     zero8(byte);

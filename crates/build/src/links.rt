@@ -4,7 +4,7 @@ ghost use Rattle.std.specs.Prelude.{◌≡◌, ◌+◌, ◌*◌, ◌<◌, set};
 ghost use Rattle.refusal.specs.Sizes.{no_id};
 ghost use Rattle.build.specs.Links.{linked_work};
 ghost use Rattle.build.specs.Held.{Roomy, Chained, Sought, Enterable, ByteEntered};
-ghost use Rattle.refusal.specs.Lent.{is, was};
+ghost use Rattle.refusal.specs.Lent.{was};
 
 use refusal::NO_ID;
 
@@ -31,7 +31,7 @@ pub fn seek(edge_n: &[u16], work: &[u32], node: usize, b: u8) -> usize
 // Node n, by the byte b, behind the link at `at`. It leads on to what that led to, and has no id yet and no child.
 pub fn link(edge_n: &mut [u16], id: &mut [u32], work: &mut [u32], at: usize, n: usize, b: u8)
     requires { (at < 2 * n) × Roomy (n + 1) edge_n.old id.old work.old }
-    ensures { (is edge_n ≡ set (was edge_n) n b) × (is id ≡ set (was id) n no_id) × (is work ≡ linked_work (was work) at n) }
+    ensures { (edge_n.new ≡ set edge_n.old n b) × (id.new ≡ set id.old n no_id) × (work.new ≡ linked_work work.old at n) }
 {
     let next = work[at];
     work[2 * n] = 0;
@@ -59,7 +59,7 @@ pub fn child(
     b: u8,
 ) -> Reached
     requires { Enterable edge_n.old id.old work.old room from.node from.n }
-    ensures { ByteEntered (was edge_n) (was id) (was work) (is edge_n) (is id) (is work) room from.node from.n b
+    ensures { ByteEntered edge_n.old id.old work.old edge_n.new id.new work.new room from.node from.n b
         result.node result.n }
 {
     let n = from.n;

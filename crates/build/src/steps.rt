@@ -6,7 +6,7 @@ ghost use Rattle.build.specs.Given.{no_rule};
 ghost use Rattle.build.specs.Held.{Roomy, RowDone};
 ghost use Rattle.build.specs.Memory.{memory_is, memory_now, memory_was};
 ghost use Rattle.build.specs.Checked.{Finishable, Finished};
-ghost use Rattle.refusal.specs.Lent.{is, was};
+
 
 use crate::Built;
 use crate::lay::lay_out;
@@ -16,7 +16,7 @@ use refusal::NO_ID;
 // The root, alone: it has no id and no child.
 fn plant(id: &mut [u32], work: &mut [u32])
     requires { (0 < length id.old) × (0 < length work.old) }
-    ensures { (is id ≡ set (was id) 0 no_id) × (is work ≡ set (was work) 0 0) }
+    ensures { (id.new ≡ set id.old 0 no_id) × (work.new ≡ set work.old 0 0) }
 {
     id[0] = NO_ID;
     work[0] = 0;
@@ -26,7 +26,7 @@ fn plant(id: &mut [u32], work: &mut [u32])
 // for it.
 pub fn start(edge_n: &mut [u16], id: &mut [u32], work: &mut [u32], room: usize) -> usize
     requires { Roomy room edge_n.old id.old work.old }
-    ensures { (result ≡ 1) × RowDone ([] ∷ []) no_rule room (is edge_n) (is id) (is work) result }
+    ensures { (result ≡ 1) × RowDone ([] ∷ []) no_rule room edge_n.new id.new work.new result }
 {
     zero16(edge_n);
     zero32(id);

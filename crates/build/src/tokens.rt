@@ -1,7 +1,7 @@
 // Tokens entered byte by byte, each new prefix taking the next node number, and the ids that their last nodes take.
 ghost use Rattle.std.specs.Prelude.{◌≡◌, ◌<◌, length};
 ghost use Rattle.build.specs.Held.{Enterable, TokenEntered, marked_ids, RowEntered};
-ghost use Rattle.refusal.specs.Lent.{is, was};
+ghost use Rattle.refusal.specs.Lent.{was};
 
 use crate::links::{Reached, child};
 use refusal::NO_ID;
@@ -17,7 +17,7 @@ fn enter(
     n: usize,
 ) -> Reached
     requires { Enterable edge_n.old id.old work.old room 0 n }
-    ensures { TokenEntered (was edge_n) (was id) (was work) (is edge_n) (is id) (is work) room n (was token) result.node
+    ensures { TokenEntered edge_n.old id.old work.old edge_n.new id.new work.new room n (was token) result.node
         result.n }
 {
     let mut at = Reached { node: 0, n };
@@ -35,7 +35,7 @@ fn enter(
 // The id v for `node`: for Unigram only if it has none yet.
 fn mark(id: &mut [u32], node: usize, kind: Kind, v: u32)
     requires { node < length id.old }
-    ensures { is id ≡ marked_ids kind (was id) node v }
+    ensures { id.new ≡ marked_ids kind id.old node v }
 {
     if let Kind::Unigram = kind {
         if id[node] != NO_ID {
@@ -58,7 +58,7 @@ pub fn enter_token(
     n: usize,
 ) -> usize
     requires { Enterable edge_n.old id.old work.old room 0 n }
-    ensures { RowEntered (was edge_n) (was id) (was work) (is edge_n) (is id) (is work) kind room n (was token) v result }
+    ensures { RowEntered edge_n.old id.old work.old edge_n.new id.new work.new kind room n (was token) v result }
 {
     if token.len() == 0 {
         return n;

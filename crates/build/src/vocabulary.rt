@@ -8,7 +8,7 @@ ghost use Rattle.build.specs.Names.{names};
 ghost use Rattle.build.specs.Rules.{tokens_of};
 ghost use Rattle.build.specs.Given.{given, value_of, rules_from, no_rule};
 ghost use Rattle.build.specs.Held.{RowEntered, RowDone, LevelRows, Enterable, Roomy};
-ghost use Rattle.refusal.specs.Lent.{is, was};
+ghost use Rattle.refusal.specs.Lent.{was};
 
 use crate::steps::start;
 use crate::tokens::enter_token;
@@ -41,7 +41,7 @@ fn enter_row(
 ) -> usize
     requires { LevelRows kind tab.now off.now len.now ids.now × (i < length off.now) ×
         Enterable edge_n.old id.old work.old room 0 n }
-    ensures { RowEntered (was edge_n) (was id) (was work) (is edge_n) (is id) (is work) kind room n
+    ensures { RowEntered edge_n.old id.old work.old edge_n.new id.new work.new kind room n
         (span_of (was tab) (get_or (was off) i 0) (get_or (was len) i 0)) (value_of kind i (get_or (was ids) i 0)) result }
 {
     let v = value(kind, ids, i);
@@ -64,7 +64,7 @@ pub fn enter_rows(
 ) -> usize
     requires { LevelRows kind tab.now off.now len.now ids.now × Roomy room edge_n.old id.old work.old }
     ensures { RowDone (names (tokens_of (was tab) (given (was off) (was len) (was ids)))) (rules_from kind (was tab) no_rule 0
-        (given (was off) (was len) (was ids))) room (is edge_n) (is id) (is work) result }
+        (given (was off) (was len) (was ids))) room edge_n.new id.new work.new result }
 {
     let mut n = start(edge_n, id, work, room);
     let mut i: usize = 0;

@@ -2,10 +2,10 @@
 ghost use Rattle.std.specs.Prelude.{◌≡◌};
 ghost use Rattle.refusal.specs.Places.{zeroed};
 ghost use Rattle.build.specs.Memory.{cleared, memory_is, memory_was};
-ghost use Rattle.refusal.specs.Lent.{is, was};
+
 
 pub fn zero8(s: &mut [u8])
-    ensures { is s ≡ zeroed 0 (was s) }
+    ensures { s.new ≡ zeroed 0 s.old }
 {
     let mut i: usize = 0;
     while i < s.len() {
@@ -15,7 +15,7 @@ pub fn zero8(s: &mut [u8])
 }
 
 pub fn zero16(s: &mut [u16])
-    ensures { is s ≡ zeroed 0 (was s) }
+    ensures { s.new ≡ zeroed 0 s.old }
 {
     let mut i: usize = 0;
     while i < s.len() {
@@ -25,7 +25,7 @@ pub fn zero16(s: &mut [u16])
 }
 
 pub fn zero32(s: &mut [u32])
-    ensures { is s ≡ zeroed 0 (was s) }
+    ensures { s.new ≡ zeroed 0 s.old }
 {
     let mut at: usize = 0;
     while at < s.len() {

@@ -1,8 +1,8 @@
 -- What the lent slot columns hold, and what an offer leaves in them. Definitions only; assumes nothing.
 use Rattle.std.specs.Prelude.{◌≡◌, ℕ, ◌<◌, cond, List, map, eqb, leb, Float, length, get_or}
 use Rattle.std.proofs.Math.Option.{Option, none, some}
-use Rattle.std.specs.Borrow.{Bor}
-use Rattle.refusal.specs.Lent.{Lent, was, is}
+use Rattle.std.specs.Borrow.{MutBor}
+use Rattle.refusal.specs.Lent.{LentMut, had, is}
 use Rattle.doubles.specs.Double.{Double, plus_zero, less}
 use Rattle.doubles.specs.Units.{units}
 use Rattle.refusal.specs.Sizes.{no_id}
@@ -20,13 +20,13 @@ abbrev pub slots_of : List ℕ → List ℕ → List Float → Slots
 slots_of start id score = record { start = start; id = id; score = map units score }
 
 -- the same as a contract names the columns: as the call found them, as it left them, and in a `requires`
-abbrev pub slots_was : Lent ℕ → Lent ℕ → Lent Float → Slots
-slots_was start id score = slots_of (was start) (was id) (was score)
+abbrev pub slots_was : LentMut ℕ → LentMut ℕ → LentMut Float → Slots
+slots_was start id score = slots_of (had start) (had id) (had score)
 
-abbrev pub slots_is : Lent ℕ → Lent ℕ → Lent Float → Slots
+abbrev pub slots_is : LentMut ℕ → LentMut ℕ → LentMut Float → Slots
 slots_is start id score = slots_of (is start) (is id) (is score)
 
-abbrev pub slots_now : Bor (List ℕ) → Bor (List ℕ) → Bor (List Float) → Slots
+abbrev pub slots_now : MutBor (List ℕ) → MutBor (List ℕ) → MutBor (List Float) → Slots
 slots_now start id score = slots_of start.now id.now score.now
 
 -- the slot at j

@@ -2,7 +2,7 @@
 ghost use Rattle.std.specs.Prelude.{◌≡◌, ◌≤◌, length};
 ghost use Rattle.cutting.specs.Tracing.{ends_from, Falling};
 ghost use Rattle.refusal.specs.Places.{overlay};
-ghost use Rattle.refusal.specs.Lent.{is, was};
+ghost use Rattle.refusal.specs.Lent.{was};
 
 // How many pieces there are before n.
 fn count(start: &[u32], n: usize) -> usize
@@ -21,7 +21,7 @@ fn count(start: &[u32], n: usize) -> usize
 // Writes the ends of these pieces from the last to the first.
 fn write(start: &[u32], n: usize, pieces: usize, path: &mut [u32])
     requires { Falling start.now n × (pieces ≡ length (ends_from start.now n n)) × (pieces ≤ length path.old) }
-    ensures { is path ≡ overlay (ends_from (was start) n n) (was path) }
+    ensures { path.new ≡ overlay (ends_from (was start) n n) path.old }
 {
     let mut done: usize = 0;
     let mut at = n;
@@ -36,7 +36,7 @@ fn write(start: &[u32], n: usize, pieces: usize, path: &mut [u32])
 // The ends of the pieces before n go to the first path places. Answers how many there are.
 pub fn trace(start: &[u32], n: usize, path: &mut [u32]) -> usize
     requires { Falling start.now n × (length (ends_from start.now n n) ≤ length path.old) }
-    ensures { let ends = ends_from (was start) n n in (result ≡ length ends) × (is path ≡ overlay ends (was path)) }
+    ensures { let ends = ends_from (was start) n n in (result ≡ length ends) × (path.new ≡ overlay ends path.old) }
 {
     let pieces = count(start, n);
     write(start, n, pieces, path);

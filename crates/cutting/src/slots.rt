@@ -2,7 +2,8 @@
 // empty where its start is the mark.
 ghost use Rattle.std.specs.Prelude.{◌≡◌};
 ghost use Rattle.cutting.specs.Cuttings.{Slot};
-ghost use Rattle.cutting.specs.Slots.{slot_at, held, Inside, PutAt, Cleared, taken, slots_is, slots_was};
+ghost use Rattle.cutting.specs.Slots.{slot_at, held, Inside, PutAt, Cleared, taken, slots_is, slots_of, slots_was};
+ghost use Rattle.refusal.specs.Lent.{was};
 
 use refusal::NO_ID;
 
@@ -17,7 +18,7 @@ pub struct Slot {
 // The slot at j.
 pub fn slot_at(start: &[u32], slot_id: &[u32], slot_score: &[f64], j: usize) -> Slot
     requires { Inside start.now slot_id.now slot_score.now j }
-    ensures { held result ≡ slot_at (slots_was start slot_id slot_score) j }
+    ensures { held result ≡ slot_at (slots_of (was start) (was slot_id) (was slot_score)) j }
 {
     Slot {
         start: start[j],

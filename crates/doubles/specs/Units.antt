@@ -3,7 +3,7 @@
 use Rattle.std.specs.Prelude.{◌*◌, ◌/◌, List, map, Float}
 use Rattle.std.specs.Float.{nan, inf, fin}
 use Rattle.std.specs.Float.Ieee.{up, down}
-use Rattle.refusal.specs.Lent.{Lent, was, is}
+use Rattle.refusal.specs.Lent.{Lent, LentMut, was, had, is}
 use Rattle.doubles.specs.Double.{Double, not_a_number, infinite, finite, one}
 
 unfoldable pub units : Float → Double
@@ -15,5 +15,9 @@ units (fin s m e) = finite s (m * up e * one / down e)
 abbrev pub scores_was : Lent Float → List Double
 scores_was x = map units (was x)
 
-abbrev pub scores_is : Lent Float → List Double
+-- the same of one that may be written
+abbrev pub scores_had : LentMut Float → List Double
+scores_had x = map units (had x)
+
+abbrev pub scores_is : LentMut Float → List Double
 scores_is x = map units (is x)

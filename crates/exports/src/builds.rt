@@ -1,7 +1,7 @@
 // Both builds. An answer's low 32 bits are the number of nodes where its high bits are 0. Otherwise the high bits are the
 // refusal's number and the low ones the row, or 4,294,967,295 where it names none.
 ghost use Rattle.std.specs.Prelude.{◌≡◌};
-ghost use Rattle.doubles.specs.Units.{units, scores_is, scores_was};
+ghost use Rattle.doubles.specs.Units.{units, scores_is, scores_was, scores_had};
 ghost use Rattle.rows.specs.Answers.{columns_was};
 ghost use Rattle.build.specs.Memory.{memory_is, memory_was, scored_memory_is, scored_memory_was};
 ghost use Rattle.exports.specs.Flat.{reason_number, from_rows_number, told_number, told_score, with_first, As};
@@ -57,7 +57,7 @@ pub extern "C" fn sk_from_rows(
 
 // A score in the first of the lent places, if there is one.
 pub(crate) fn put_score(places: &mut [f64], x: f64)
-    ensures { scores_is places ≡ with_first (units x) (scores_was places) }
+    ensures { scores_is places ≡ with_first (units x) (scores_had places) }
 {
     if 0 < places.len() {
         places[0] = x;
@@ -66,7 +66,7 @@ pub(crate) fn put_score(places: &mut [f64], x: f64)
 
 // An answer of `build` as one number, and its unknown score in the first of the lent places.
 fn built_number(a: scored::BuildAnswer, unknown_score: &mut [f64]) -> u64
-    ensures { (result ≡ told_number (told a)) × (scores_is unknown_score ≡ told_score (told a) (scores_was unknown_score)) }
+    ensures { (result ≡ told_number (told a)) × (scores_is unknown_score ≡ told_score (told a) (scores_had unknown_score)) }
 {
     match a {
         scored::BuildAnswer::Built(s) => {
@@ -98,7 +98,7 @@ pub extern "C" fn sk_build(
     ensures { As (λ said. told_number (told said)) (λ said. Built (was tab) (columns_was off len scored score id)
         (scored_memory_was edge_at edge_n node_id node_score byte to work) said
         (scored_memory_is edge_at edge_n node_id node_score byte to work)
-        × (scores_is unknown_score ≡ told_score (told said) (scores_was unknown_score))) result }
+        × (scores_is unknown_score ≡ told_score (told said) (scores_had unknown_score))) result }
 {
     built_number(
         scored::build(

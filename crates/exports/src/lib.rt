@@ -26,7 +26,7 @@ ghost use Rattle.wordpiece.specs.Checked.{Encodable};
 ghost use Rattle.refusal.specs.Places.{overlay};
 ghost use Rattle.wordpiece.specs.Encode.{Encoded};
 ghost use Rattle.exports.specs.Flat.{status, count_fault, count_number, lookup_number, code_number, As};
-ghost use Rattle.refusal.specs.Lent.{is, was};
+ghost use Rattle.refusal.specs.Lent.{was};
 
 // The length of the longest prefix made of whole well-formed characters.
 #[unsafe(no_mangle)]
@@ -211,7 +211,7 @@ pub extern "C" fn sk_encode(
     ids: &mut [u32],
 ) -> usize
     ensures { As code_number (λ said. Encoded (parts edge_at edge_n id byte to) unknown max_chars (was prefix) (was word)
-        (was ids) said (is ids)) result }
+        ids.old said ids.new) result }
 {
     code_number(wordpiece::encode(
         edge_at, edge_n, id, byte, to, unknown, max_chars, prefix, word, ids,
@@ -234,7 +234,7 @@ pub extern "C" fn sk_encode_checked(
 ) -> usize
     requires { Encodable (parts_now edge_at edge_n id byte to) word.now ids.old }
     ensures { let all = ids_of (id_of (parts edge_at edge_n id byte to)) unknown max_chars (was prefix) (was word) in
-        (result ≡ length all) × (is ids ≡ overlay all (was ids)) }
+        (result ≡ length all) × (ids.new ≡ overlay all ids.old) }
 {
     wordpiece::checked::encode(
         edge_at, edge_n, id, byte, to, unknown, max_chars, prefix, word, ids,

@@ -1,17 +1,17 @@
 // A build from a pack, and all that the program prints. Answers of the build are numbers as in `builds`.
 ghost use Rattle.std.specs.Prelude.{◌≡◌};
-ghost use Rattle.doubles.specs.Units.{scores_is, scores_was};
+ghost use Rattle.doubles.specs.Units.{scores_is, scores_was, scores_had};
 ghost use Rattle.build.specs.Memory.{scored_memory_is, scored_memory_was};
 ghost use Rattle.pack.specs.Build.{told, PackBuilt};
 ghost use Rattle.exports.specs.Flat.{pack_number, pack_score, As, PrintedAs};
-ghost use Rattle.refusal.specs.Lent.{is, was};
+ghost use Rattle.refusal.specs.Lent.{was};
 
 use crate::builds::{put_score, reason_number};
 use pack::PackAnswer;
 
 // An answer of the build as one number, and its unknown score in the first of the lent places.
 fn pack_number(a: PackAnswer, unknown_score: &mut [f64]) -> u64
-    ensures { (result ≡ pack_number (told a)) × (scores_is unknown_score ≡ pack_score (told a) (scores_was unknown_score)) }
+    ensures { (result ≡ pack_number (told a)) × (scores_is unknown_score ≡ pack_score (told a) (scores_had unknown_score)) }
 {
     match a {
         PackAnswer::Unigram {
@@ -50,7 +50,7 @@ pub extern "C" fn sk_pack_build(
     ensures { As (λ said. pack_number (told said)) (λ said. PackBuilt (was bytes)
         (scored_memory_was edge_at edge_n node_id node_score byte to work) said
         (scored_memory_is edge_at edge_n node_id node_score byte to work)
-        × (scores_is unknown_score ≡ pack_score (told said) (scores_was unknown_score))) result }
+        × (scores_is unknown_score ≡ pack_score (told said) (scores_had unknown_score))) result }
 {
     pack_number(
         pack::build(bytes, edge_at, edge_n, node_id, node_score, byte, to, work),
@@ -62,7 +62,7 @@ pub extern "C" fn sk_pack_build(
 // how many bytes; or 2^32, and nothing is written, where the buffer has fewer than 360,459, which are enough for any output.
 #[unsafe(no_mangle)]
 pub extern "C" fn sk_print(pack: &[u8], input: &[u8], out: &mut [u8]) -> usize
-    ensures { PrintedAs (was pack) (was input) (was out) result (is out) }
+    ensures { PrintedAs (was pack) (was input) out.old result out.new }
 {
     if out.len() < output::MAX_OUTPUT {
         return 4_294_967_296;

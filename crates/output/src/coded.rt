@@ -8,7 +8,7 @@ ghost use Rattle.coder.specs.Columns.{vocabulary, vocabulary_now};
 ghost use Rattle.output.specs.Lines.{lines};
 ghost use Rattle.output.specs.Output.{lent_places, coded_line};
 ghost use Rattle.output.specs.Put.{Put};
-ghost use Rattle.refusal.specs.Lent.{is, was};
+ghost use Rattle.refusal.specs.Lent.{was};
 
 use crate::lines::line_end;
 use crate::put::{put_first, put_refusal};
@@ -39,8 +39,8 @@ pub(crate) fn put_line(
     requires sound_value { sound ≡ sound_in (vocabulary_now coder edge_at edge_n id score byte to prefix) }
     requires ids_value { lengths_of (scratch_now start slot_id slot_score path ids) ≡ lent_places }
     requires line_in_bounds { at + 11 * length line.now + 11 ≤ length out.old }
-    ensures { Put (was out) at (coded_line (vocabulary coder edge_at edge_n id score byte to prefix) (was line)) result
-        (is out) × (result ≤ at + 11 * length (was line) + 11) }
+    ensures { Put out.old at (coded_line (vocabulary coder edge_at edge_n id score byte to prefix) (was line)) result
+        out.new × (result ≤ at + 11 * length (was line) + 11) }
 {
     let answer = coder::checked::code(
         coder, sound, edge_at, edge_n, id, score, byte, to, prefix, line, start, slot_id,
@@ -66,8 +66,8 @@ pub(crate) fn put_lines(
     out: &mut [u8],
 ) -> usize
     requires { 11 * length input.now + 11 ≤ length out.old }
-    ensures { Put (was out) 0 (flat_map (coded_line (vocabulary coder edge_at edge_n id score byte to prefix))
-        (lines (was input))) result (is out) }
+    ensures { Put out.old 0 (flat_map (coded_line (vocabulary coder edge_at edge_n id score byte to prefix))
+        (lines (was input))) result out.new }
 {
     let sound = coder::sound(coder, edge_at, edge_n, id, score, byte, to);
     let mut start = [0u32; 4096];

@@ -13,7 +13,7 @@ ghost use Rattle.pack.specs.Pack.{header_of};
 ghost use Rattle.output.specs.Output.{coded_line, lines_printed, output_of, output, max_output};
 ghost use Rattle.output.specs.Put.{Put};
 ghost use Rattle.output.specs.Cut.{PrefixGiven, Cuttable, cut_to, LentBuilt};
-ghost use Rattle.refusal.specs.Lent.{is, was};
+ghost use Rattle.refusal.specs.Lent.{was};
 
 // The largest pack and the most input, in bytes.
 const MAX_PACK: usize = 65_536;
@@ -49,8 +49,8 @@ fn print_lines(
 ) -> usize
     requires { Cuttable nodes edge_at.now edge_n.now id.now score.now byte.now to.now ×
         (max_output ≤ length out.old) }
-    ensures { Put (was out) 0 (lines_printed (coded_line (cut_to coder nodes (was edge_at) (was edge_n) (was id)
-        (was score) (was byte) (was to) (was prefix))) (was input)) result (is out) }
+    ensures { Put out.old 0 (lines_printed (coded_line (cut_to coder nodes (was edge_at) (was edge_n) (was id)
+        (was score) (was byte) (was to) (was prefix))) (was input)) result out.new }
 {
     if MAX_INPUT < input.len() {
         return put::put_refusal(out, 0, b"input ", Fault::Size);
@@ -86,7 +86,7 @@ fn print_built(
 ) -> usize
     requires { LentBuilt pack.now answer edge_at.now edge_n.now id.now score.now byte.now to.now
         × (max_output ≤ length out.old) }
-    ensures { Put (was out) 0 (output_of (was pack) (was input)) result (is out) }
+    ensures { Put out.old 0 (output_of (was pack) (was input)) result out.new }
 {
     match answer {
         PackAnswer::Refused(r) => put::put_refusal(out, 0, b"pack ", refusal::fault_of(r)),
@@ -123,7 +123,7 @@ fn print_built(
 // how many bytes. For callers that know that there is room for any output.
 pub fn print(pack: &[u8], input: &[u8], out: &mut [u8]) -> usize
     requires { max_output ≤ length out.old }
-    ensures { Put (was out) 0 (output (was pack) (was input)) result (is out) }
+    ensures { Put out.old 0 (output (was pack) (was input)) result out.new }
 {
     if MAX_PACK < pack.len() {
         return put::put_refusal(out, 0, b"pack ", Fault::Size);

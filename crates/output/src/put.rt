@@ -2,14 +2,14 @@
 ghost use Rattle.std.specs.Prelude.{[], ◌∷◌, ◌+◌, ◌*◌, ◌^◌, ◌≤◌, ◌<◌, length, take};
 ghost use Rattle.output.specs.Lines.{decimal, spaced, printed_ids, printed_refusal};
 ghost use Rattle.output.specs.Put.{Put};
-ghost use Rattle.refusal.specs.Lent.{is, was};
+ghost use Rattle.refusal.specs.Lent.{was};
 
 use refusal::Fault;
 
 // A number in decimal.
 pub(crate) fn put_number(out: &mut [u8], at: usize, n: u32) -> usize
     requires { at + length (decimal n) ≤ length out.old }
-    ensures { Put (was out) at (decimal n) result (is out) }
+    ensures { Put out.old at (decimal n) result out.new }
 {
     if n < 10 {
         out[at] = 48 + n as u8;
@@ -23,7 +23,7 @@ pub(crate) fn put_number(out: &mut [u8], at: usize, n: u32) -> usize
 // One byte.
 pub(crate) fn put_byte(out: &mut [u8], at: usize, b: u8) -> usize
     requires { at < length out.old }
-    ensures { Put (was out) at (b ∷ []) result (is out) }
+    ensures { Put out.old at (b ∷ []) result out.new }
 {
     out[at] = b;
     at + 1
@@ -32,7 +32,7 @@ pub(crate) fn put_byte(out: &mut [u8], at: usize, b: u8) -> usize
 // The bytes of a text.
 pub(crate) fn put_text(out: &mut [u8], at: usize, text: &[u8]) -> usize
     requires { at + length text.now ≤ length out.old }
-    ensures { Put (was out) at (was text) result (is out) }
+    ensures { Put out.old at (was text) result out.new }
 {
     let mut end = at;
     let mut i: usize = 0;
@@ -46,7 +46,7 @@ pub(crate) fn put_text(out: &mut [u8], at: usize, text: &[u8]) -> usize
 // A number after one space.
 pub(crate) fn put_spaced(out: &mut [u8], at: usize, n: u32) -> usize
     requires { at + 11 ≤ length out.old }
-    ensures { Put (was out) at (0x20 ∷ decimal n) result (is out) × (result ≤ at + 11) }
+    ensures { Put out.old at (0x20 ∷ decimal n) result out.new × (result ≤ at + 11) }
 {
     out[at] = 0x20;
     put_number(out, at + 1, n)
@@ -55,7 +55,7 @@ pub(crate) fn put_spaced(out: &mut [u8], at: usize, n: u32) -> usize
 // The numbers, each after one space. A u32 has at most ten digits.
 pub(crate) fn put_numbers(out: &mut [u8], at: usize, numbers: &[u32]) -> usize
     requires { at + 11 * length numbers.now ≤ length out.old }
-    ensures { Put (was out) at (spaced (was numbers)) result (is out) × (result ≤ at + 11 * length (was numbers)) }
+    ensures { Put out.old at (spaced (was numbers)) result out.new × (result ≤ at + 11 * length (was numbers)) }
 {
     let mut end = at;
     let mut i: usize = 0;
@@ -70,7 +70,7 @@ pub(crate) fn put_numbers(out: &mut [u8], at: usize, numbers: &[u32]) -> usize
 pub(crate) fn put_ids(out: &mut [u8], at: usize, ids: &[u32]) -> usize
     requires ids_in_bounds { at + 11 * length ids.now + 11 ≤ length out.old }
     requires ids_len_bound { length ids.now < 2 ^ 32 }
-    ensures { Put (was out) at (printed_ids (was ids)) result (is out) × (result ≤ at + 11 * length (was ids) + 11) }
+    ensures { Put out.old at (printed_ids (was ids)) result out.new × (result ≤ at + 11 * length (was ids) + 11) }
 {
     let counted = put_number(out, at, ids.len() as u32);
     let end = put_numbers(out, counted, ids);
@@ -80,7 +80,7 @@ pub(crate) fn put_ids(out: &mut [u8], at: usize, ids: &[u32]) -> usize
 // The line of the first n of some id places.
 pub(crate) fn put_first(out: &mut [u8], at: usize, places: &[u32], n: usize) -> usize
     requires { (at + 11 * n + 11 ≤ length out.old) × (n ≤ length places.now) × (n < 2 ^ 32) }
-    ensures { Put (was out) at (printed_ids (take n (was places))) result (is out) × (result ≤ at + 11 * n + 11) }
+    ensures { Put out.old at (printed_ids (take n (was places))) result out.new × (result ≤ at + 11 * n + 11) }
 {
     put_ids(out, at, &places[..n])
 }
@@ -88,7 +88,7 @@ pub(crate) fn put_first(out: &mut [u8], at: usize, places: &[u32], n: usize) -> 
 // The line of a refusal, after what was refused. A refusal's number has at most two digits.
 pub(crate) fn put_refusal(out: &mut [u8], at: usize, what: &[u8], f: Fault) -> usize
     requires { at + length what.now + 11 ≤ length out.old }
-    ensures { Put (was out) at (printed_refusal (was what) f) result (is out) × (result ≤ at + length (was what) + 11) }
+    ensures { Put out.old at (printed_refusal (was what) f) result out.new × (result ≤ at + length (was what) + 11) }
 {
     let named = put_text(out, at, what);
     let told = put_text(out, named, b"refused");

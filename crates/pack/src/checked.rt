@@ -1,6 +1,6 @@
 // The build of a pack in which nothing is wrong.
 ghost use Rattle.std.specs.Prelude.{◌≡◌, ◌≤◌, length};
-ghost use Rattle.doubles.specs.Units.{scores_is, scores_was};
+ghost use Rattle.doubles.specs.Units.{scores_is, scores_was, scores_had};
 ghost use Rattle.build.specs.Memory.{scored_memory_is, scored_memory_was};
 ghost use Rattle.build.specs.Promise.{built};
 ghost use Rattle.pack.specs.Build.{told, report_of, nodes_of, PackBuilt};
@@ -23,7 +23,7 @@ fn fill_scores(
     node_score: &mut [f64],
 )
     requires { PackFine bytes.now kind h × ((n ≤ length node_id.now) × (n ≤ length node_score.old)) }
-    ensures { ScoresLeft (was bytes) kind (was node_id) n (scores_was node_score) (scores_is node_score) }
+    ensures { ScoresLeft (was bytes) kind (was node_id) n (scores_had node_score) (scores_is node_score) }
 {
     match kind {
         Kind::Unigram => crate::scores::fill(bytes, h.rows as usize, node_id, n, node_score),

@@ -10,7 +10,7 @@ ghost use Rattle.build.specs.Memory.{memory_is, memory_now, memory_was};
 ghost use Rattle.build.specs.Checked.{room_of, BuiltOf};
 ghost use Rattle.pack.specs.Pack.{row_at, rows_from};
 ghost use Rattle.pack.specs.Reading.{row_start, FineRows, value_in, RowReady};
-ghost use Rattle.refusal.specs.Lent.{is, was};
+ghost use Rattle.refusal.specs.Lent.{was};
 
 use crate::header::{HEADER, ROW};
 use crate::row::row_at;
@@ -43,7 +43,7 @@ fn enter_row(
     n: usize,
 ) -> usize
     requires { RowReady kind bytes.now strings.now edge_n.old id.old work.old room n i }
-    ensures { RowEntered (was edge_n) (was id) (was work) (is edge_n) (is id) (is work) kind room n
+    ensures { RowEntered edge_n.old id.old work.old edge_n.new id.new work.new kind room n
         (token_of (was strings) (row_at kind (was bytes) (row_start i)))
         (value_of kind i (id_of_worth (row_at kind (was bytes) (row_start i)).worth)) result }
 {
@@ -68,7 +68,7 @@ fn enter_rows(
 ) -> usize
     requires { FineRows kind bytes.now strings.now rows × Roomy room edge_n.old id.old work.old }
     ensures { RowDone (names (tokens_of (was strings) (rows_from kind (was bytes) 36 rows))) (rules_from kind (was strings)
-        no_rule 0 (rows_from kind (was bytes) 36 rows)) room (is edge_n) (is id) (is work) result }
+        no_rule 0 (rows_from kind (was bytes) 36 rows)) room edge_n.new id.new work.new result }
 {
     let mut n = start(edge_n, id, work, room);
     let mut i: usize = 0;

@@ -1,7 +1,7 @@
 // The scores of a pack: the unknown score, and the score column. For a caller that has judged the rows.
 ghost use Rattle.std.specs.Prelude.{◌≡◌, ◌-◌, ◌≤◌, ◌<◌, length, get_or, take};
 ghost use Rattle.doubles.specs.Double.{plus_zero};
-ghost use Rattle.doubles.specs.Units.{units, scores_is, scores_was};
+ghost use Rattle.doubles.specs.Units.{units, scores_is, scores_was, scores_had};
 ghost use Rattle.rows.specs.declared.Kind.TheVariants.{Unigram};
 ghost use Rattle.rows.specs.Scores.{lowest, lowest_of, unknown_score};
 ghost use Rattle.build.specs.Rules.{scores_of};
@@ -69,7 +69,7 @@ fn score_of(bytes: &[u8], rows: usize, row: u32) -> f64
 pub fn fill(bytes: &[u8], rows: usize, node_id: &[u32], n: usize, node_score: &mut [f64])
     requires { FiniteRows bytes.now rows × ((n ≤ length node_id.now) × (n ≤ length node_score.old)) }
     ensures { scores_is node_score ≡ filled_scores (scores_of (rows_from Unigram (was bytes) 36 rows))
-        (take n (was node_id)) (scores_was node_score) }
+        (take n (was node_id)) (scores_had node_score) }
 {
     scored::scores::zero(node_score);
     let mut k: usize = 0;

@@ -4,7 +4,7 @@ ghost use Rattle.std.proofs.Math.Option.{none};
 ghost use Rattle.rows.specs.declared.Kind.TheVariants.{Unigram};
 ghost use Rattle.rows.specs.Columns.{columns_fault};
 ghost use Rattle.rows.specs.Answers.{scored_columns, scored_was};
-ghost use Rattle.build.specs.Memory.{memory_was, scored_memory_is, scored_memory_was};
+ghost use Rattle.build.specs.Memory.{memory, scored_memory_is, scored_memory_was};
 ghost use Rattle.build.specs.Checked.{room_of};
 ghost use Rattle.scored.specs.Build as promise;
 ghost use Rattle.refusal.specs.Lent.{was};
@@ -24,7 +24,8 @@ pub fn room(
     to: &[u32],
     work: &[u32],
 ) -> usize
-    ensures { result ≡ min (room_of (memory_was edge_at edge_n node_id byte to work)) (length (was node_score)) }
+    ensures { result ≡ min (room_of (memory (was edge_at) (was edge_n) (was node_id) (was byte) (was to) (was work)))
+        (length (was node_score)) }
 {
     let room = build::checked::room(edge_at, edge_n, node_id, byte, to, work);
     if node_score.len() < room {

@@ -3,7 +3,7 @@ use Rattle.std.specs.Prelude.{◌≡◌, ℕ, Bool, ◌||◌, List, [], ◌∷�
 use Rattle.std.proofs.Math.Option.{Option}
 use Rattle.doubles.specs.Double.{Double}
 use Rattle.doubles.specs.Units.{units}
-use Rattle.refusal.specs.Lent.{Lent, was, is}
+use Rattle.refusal.specs.Lent.{LentMut, had, is}
 use Rattle.refusal.specs.declared.Fault.TheVariants as fault
 use Rattle.refusal.specs.declared.Reason.{Reason}
 use Rattle.refusal.specs.declared.Reason.TheVariants as reason
@@ -28,10 +28,10 @@ abbrev pub row_places : List ℕ → List ℕ → List Float → RowPlaces
 row_places off len score = record { off = off; len = len; score = map units score }
 
 -- the same as a contract names the columns: as the call found them, and as it left them
-abbrev pub places_was : Lent ℕ → Lent ℕ → Lent Float → RowPlaces
-places_was off len score = row_places (was off) (was len) (was score)
+abbrev pub places_was : LentMut ℕ → LentMut ℕ → LentMut Float → RowPlaces
+places_was off len score = row_places (had off) (had len) (had score)
 
-abbrev pub places_is : Lent ℕ → Lent ℕ → Lent Float → RowPlaces
+abbrev pub places_is : LentMut ℕ → LentMut ℕ → LentMut Float → RowPlaces
 places_is off len score = row_places (is off) (is len) (is score)
 
 -- every place zero

@@ -2,7 +2,7 @@
 // holds the slice: each turn over it is a call on one row.
 ghost use Rattle.std.specs.Prelude.{◌≡◌, false, [], ◌∷◌, ◌+◌, ◌<◌, ◌≤◌, length};
 ghost use Rattle.std.proofs.Math.Option.{none};
-ghost use Rattle.doubles.specs.Units.{units, scores_is, scores_was};
+ghost use Rattle.doubles.specs.Units.{units, scores_is, scores_was, scores_had};
 ghost use Rattle.refusal.specs.declared.Fault.TheVariants as fault;
 ghost use Rattle.refusal.specs.declared.Reason.TheVariants as reason;
 ghost use Rattle.refusal.specs.Refusal.{refuse};
@@ -188,7 +188,7 @@ fn refuse_short(
     ensures { (result ≡ BuildAnswer.Refused (reason.Call fault.Room)) ×
         (places_is off len score ≡ zero_rows (places_was off len score)) × (memory_is edge_at edge_n node_id byte to
         work ≡ cleared (memory_was edge_at edge_n node_id byte to work)) ×
-        (scores_is node_score ≡ zero_scores (scores_was node_score)) }
+        (scores_is node_score ≡ zero_scores (scores_had node_score)) }
 {
     clear_rows(off, len, score);
     build::zero::clear(edge_at, edge_n, node_id, byte, to, work);
@@ -214,7 +214,7 @@ pub(crate) fn build_copied(
     work: &mut [u32],
 ) -> BuildAnswer
     requires { RowsCopied (reason_in found) n tab.now off.old len.old score.old }
-    ensures { PlacesBuilt (reason_in found) n (was tab) (rows_of (first_places n (was off) (was len) (was score)))
+    ensures { PlacesBuilt (reason_in found) n (was tab) (rows_of (first_places n off.old len.old score.old))
         (places_was off len score) (scored_memory_was edge_at edge_n node_id node_score byte to work) result
         (places_is off len score) (scored_memory_is edge_at edge_n node_id node_score byte to work) }
 {

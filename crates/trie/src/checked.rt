@@ -5,7 +5,7 @@ ghost use Rattle.refusal.specs.Sizes.{no_id};
 ghost use Rattle.trie.specs.Trie.{Trie, parts_of, seek, step, walk, id_at, id_of, parts, parts_now};
 ghost use Rattle.trie.specs.Sound.{rises, sound};
 ghost use Rattle.trie.specs.Walks.{Stands, next_of, id_in, marked, Leads};
-ghost use Rattle.refusal.specs.Lent.{is, was};
+ghost use Rattle.refusal.specs.Lent.{was};
 
 use refusal::NO_ID;
 
@@ -98,7 +98,7 @@ fn first_step(first: &[u32], b: u8) -> Step
 // two with one byte, a search would find the first, and so would the table.
 pub fn fill_first(edge_at: &[u32], edge_n: &[u16], byte: &[u8], to: &[u32], first: &mut [u32])
     requires { Stands edge_at.now edge_n.now byte.now to.now 0 × (first.old ≡ replicate 256 no_id) }
-    ensures { Leads (was byte) (was to) (get_or (was edge_at) 0 0) (get_or (was edge_n) 0 0) (is first) }
+    ensures { Leads (was byte) (was to) (get_or (was edge_at) 0 0) (get_or (was edge_n) 0 0) first.new }
 {
     let at = edge_at[0] as usize;
     let mut left = edge_n[0] as usize;

@@ -6,7 +6,7 @@ ghost use Rattle.unigram.specs.Pieces.{Model};
 ghost use Rattle.cutting.specs.Slots.{Inside, slots_is, slots_now, slots_was};
 ghost use Rattle.unigram.specs.Work.{Ended, Walkable, KnownOffered, Ready, Come, Recorded, BestCutting};
 ghost use Rattle.unigram.specs.Work.{model, model_now};
-ghost use Rattle.refusal.specs.Lent.{is, was};
+ghost use Rattle.refusal.specs.Lent.{was};
 ghost use Rattle.text.specs.Text.{characters, next};
 
 use cutting::slots::Slot;
@@ -206,7 +206,7 @@ pub(crate) fn best_cutting(
     requires { Ready (model_now edge_at edge_n id score byte to unknown unknown_score) text.now × Inside
         start.old slot_id.old slot_score.old (length text.now) × (characters text.now ≤ length path.old) }
     ensures { BestCutting (model edge_at edge_n id score byte to unknown unknown_score) (was text)
-        (slots_was start slot_id slot_score) (was path) (slots_is start slot_id slot_score) (is path) result }
+        (slots_was start slot_id slot_score) path.old (slots_is start slot_id slot_score) path.new result }
 {
     fill(
         edge_at,

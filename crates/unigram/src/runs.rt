@@ -7,7 +7,7 @@ ghost use Rattle.unigram.specs.Runs.{run_id, merged};
 ghost use Rattle.unigram.specs.Pieces.{part_id};
 ghost use Rattle.unigram.specs.Merge.{run_ids, closing, Placed, Run, Mergeable};
 ghost use Rattle.cutting.specs.Tracing.{steps_at};
-ghost use Rattle.refusal.specs.Lent.{is, was};
+ghost use Rattle.refusal.specs.Lent.{was};
 ghost use Rattle.refusal.specs.Places.{overlay};
 
 use trie::checked::NodeId;
@@ -48,7 +48,7 @@ fn close_run(
     ids: &mut [u32],
 ) -> usize
     requires { Run (parts_now edge_at edge_n id byte to) text.now run at × ((run < at) → n < length ids.old) }
-    ensures { Placed (run_ids (part_id (parts edge_at edge_n id byte to) (was text)) unknown run at) (was ids) n (is ids) result }
+    ensures { Placed (run_ids (part_id (parts edge_at edge_n id byte to) (was text)) unknown run at) ids.old n ids.new result }
 {
     if at <= run {
         return n;
@@ -75,7 +75,7 @@ fn stand(
 ) -> usize
     requires { Run (parts_now edge_at edge_n id byte to) text.now run at ×
         (n + length (run_ids (part_id (parts_now edge_at edge_n id byte to) text.now) unknown run at) < length ids.old) }
-    ensures { Placed (closing (part_id (parts edge_at edge_n id byte to) (was text)) unknown run at x) (was ids) n (is ids)
+    ensures { Placed (closing (part_id (parts edge_at edge_n id byte to) (was text)) unknown run at x) ids.old n ids.new
         result }
 {
     if x == unknown {
@@ -113,7 +113,7 @@ pub(crate) fn merge(
 ) -> usize
     requires { Mergeable (parts_now edge_at edge_n id byte to) text.now slot_id.now path.now ids.old }
     ensures { let all = merged (part_id (parts edge_at edge_n id byte to) (was text)) unknown none 0
-        (steps_at (was slot_id) (was path)) in (result ≡ length all) × (is ids ≡ overlay all (was ids)) }
+        (steps_at (was slot_id) (was path)) in (result ≡ length all) × (ids.new ≡ overlay all ids.old) }
 {
     let mut n: usize = 0;
     let mut run: usize = 0;

@@ -12,7 +12,7 @@ ghost use Rattle.trie.specs.Sound as soundness;
 ghost use Rattle.wordpiece.specs.Pieces.{longest_to, pieces_of, ids_of};
 ghost use Rattle.wordpiece.specs.Encode.{encode_fault, Encoded};
 ghost use Rattle.wordpiece.specs.Checked.{found_in, found_since, rest_from, Walked, Fitting, Encodable};
-ghost use Rattle.refusal.specs.Lent.{is, was};
+ghost use Rattle.refusal.specs.Lent.{was};
 
 use refusal::{CodeAnswer, Fault, Judged, MAX_PREFIX, MAX_TEXT};
 use trie::checked::{NodeId, Step, Walk};
@@ -104,7 +104,7 @@ pub(crate) fn longest(
 
 // x in place n, where there is such a place.
 fn hold(held: &mut [u32], n: usize, x: u32)
-    ensures { is held ≡ set (was held) n x }
+    ensures { held.new ≡ set held.old n x }
 {
     if n < held.len() {
         held[n] = x;
@@ -126,7 +126,7 @@ fn count_rest(
     requires to_value { soundness.sound (parts_now edge_at edge_n id byte to) ≡ true }
     requires node_in_bounds { rest.node < length edge_at.now }
     requires i_in_bounds { i ≤ length w.now }
-    ensures { Walked (rest_from (id_from (parts edge_at edge_n id byte to) rest.node) (was w) i) (was held) result (is held) }
+    ensures { Walked (rest_from (id_from (parts edge_at edge_n id byte to) rest.node) (was w) i) held.old result held.new }
 {
     let mut at = i;
     let mut n: usize = 0;
@@ -157,7 +157,7 @@ fn write_rest(
     requires node_in_bounds { rest.node < length edge_at.now }
     requires fitting { Fitting (id_from (parts_now edge_at edge_n id byte to) rest.node) w.now i ids.old }
     ensures { (xs : List ℕ) → rest_from (id_from (parts edge_at edge_n id byte to) rest.node) (was w) i ≡ some xs →
-        (result ≡ 1 + length xs) × (is ids ≡ sets (was ids) 1 xs) }
+        (result ≡ 1 + length xs) × (ids.new ≡ sets ids.old 1 xs) }
 {
     let mut at = i;
     let mut n: usize = 1;
@@ -187,7 +187,7 @@ fn too_long(w: &[u8], limit: u32) -> bool
 // One id in the first place.
 fn put(ids: &mut [u32], x: u32) -> usize
     requires { 1 ≤ length ids.old }
-    ensures { (result ≡ 1) × (is ids ≡ overlay (x ∷ []) (was ids)) }
+    ensures { (result ≡ 1) × (ids.new ≡ overlay (x ∷ []) ids.old) }
 {
     ids[0] = x;
     1
@@ -197,7 +197,7 @@ fn put(ids: &mut [u32], x: u32) -> usize
 fn put_held(held: &[u32], n: usize, ids: &mut [u32]) -> usize
     requires n_in_bounds { n ≤ length held.now }
     requires n_in_bounds_2 { n < length ids.old }
-    ensures { (result ≡ 1 + n) × (is ids ≡ sets (was ids) 1 (take n (was held))) }
+    ensures { (result ≡ 1 + n) × (ids.new ≡ sets ids.old 1 (take n (was held))) }
 {
     let mut k: usize = 0;
     while k < n {
@@ -229,7 +229,7 @@ fn put_all(
     requires by_index { (xs : List ℕ) → rest_from (id_from (parts_now edge_at edge_n id byte to) rest.node) w.now
         first.end ≡ some xs → (n ≡ length xs) × (n ≤ length held.now → take n held.now ≡ xs) }
     ensures { (xs : List ℕ) → rest_from (id_from (parts edge_at edge_n id byte to) rest.node) (was w) first.end
-        ≡ some xs → (result ≡ 1 + length xs) × (is ids ≡ overlay (first.id ∷ xs) (was ids)) }
+        ≡ some xs → (result ≡ 1 + length xs) × (ids.new ≡ overlay (first.id ∷ xs) ids.old) }
 {
     let end = first.end;
     ids[0] = first.id;
@@ -258,7 +258,7 @@ fn encode_rest(
         (record { end = first.end; id = first.id }) }
     requires end_in_bounds { first.end < length w.now }
     ensures { let pieces = pieces_of (id_of (parts edge_at edge_n id byte to)) (was prefix) (was w) in
-        let all = Option.get_or pieces (unknown ∷ []) in (result ≡ length all) × (is ids ≡ overlay all (was ids)) }
+        let all = Option.get_or pieces (unknown ∷ []) in (result ≡ length all) × (ids.new ≡ overlay all ids.old) }
 {
     let Step::To(rest) = Walk::root().over(edge_at, edge_n, byte, to, prefix) else {
         return put(ids, unknown);
@@ -286,7 +286,7 @@ pub fn encode(
 ) -> usize
     requires { Encodable (parts_now edge_at edge_n id byte to) w.now ids.old }
     ensures { let all = ids_of (id_of (parts edge_at edge_n id byte to)) unknown max_chars (was prefix) (was w) in
-        (result ≡ length all) × (is ids ≡ overlay all (was ids)) }
+        (result ≡ length all) × (ids.new ≡ overlay all ids.old) }
 {
     if w.len() == 0 {
         return 0;
@@ -347,7 +347,7 @@ pub fn encode_tested(
     ids: &mut [u32],
 ) -> CodeAnswer
     requires { sound ≡ soundness.sound (parts_now edge_at edge_n id byte to) }
-    ensures { Encoded (parts edge_at edge_n id byte to) unknown max_chars (was prefix) (was word) (was ids) result (is ids) }
+    ensures { Encoded (parts edge_at edge_n id byte to) unknown max_chars (was prefix) (was word) ids.old result ids.new }
 {
     let judged = judge(sound, prefix, word, ids.len());
     match judged {

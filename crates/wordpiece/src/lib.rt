@@ -12,7 +12,7 @@ ghost use Rattle.rows.specs.Answers.{columns_was};
 ghost use Rattle.build.specs.Memory.{memory_is, memory_was};
 ghost use Rattle.wordpiece.specs.Build as promise;
 ghost use Rattle.wordpiece.specs.Encode.{Encoded};
-ghost use Rattle.refusal.specs.Lent.{is, was};
+ghost use Rattle.refusal.specs.Lent.{was};
 
 // What `from_rows` answers: how many nodes the trie has, or why nothing was built.
 #[derive(Drop)]
@@ -81,7 +81,7 @@ pub fn encode(
     word: &[u8],
     ids: &mut [u32],
 ) -> CodeAnswer
-    ensures { Encoded (parts edge_at edge_n id byte to) unknown max_chars (was prefix) (was word) (was ids) result (is ids) }
+    ensures { Encoded (parts edge_at edge_n id byte to) unknown max_chars (was prefix) (was word) ids.old result ids.new }
 {
     let sound = trie::soundness::sound(edge_at, edge_n, id, byte, to);
     checked::encode_tested(
