@@ -9,7 +9,7 @@ mod vocabulary;
 pub mod zero;
 
 // What a build of judged rows answers: how many nodes the trie has, or that the lent columns have no room for them.
-#[derive(Drop)]
+#[derive(Clone, Copy)]
 pub enum Built {
     Nodes(usize),
     NoRoom,

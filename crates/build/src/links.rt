@@ -42,7 +42,7 @@ pub fn link(edge_n: &mut [u16], id: &mut [u32], work: &mut [u32], at: usize, n: 
 }
 
 // Where a token has come to, and how many nodes there are.
-#[derive(Drop)]
+#[derive(Clone, Copy)]
 pub struct Reached {
     pub node: usize,
     pub n: usize,

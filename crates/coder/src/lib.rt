@@ -8,7 +8,7 @@ ghost use Rattle.coder.specs.Columns.{vocabulary_of};
 ghost use Rattle.refusal.specs.Lent.{was};
 
 // How a vocabulary is coded with, beside the columns of its trie. A WordPiece vocabulary also has a prefix, which is lent.
-#[derive(Drop)]
+#[derive(Clone, Copy)]
 pub enum Coder {
     Unigram { unknown: u32, unknown_score: f64 },
     WordPiece { unknown: u32, max_chars: u32 },

@@ -8,7 +8,7 @@ ghost use Rattle.refusal.specs.Lent.{was};
 use refusal::NO_ID;
 
 // Where the last piece starts, its id, and the score of the cutting that it ends.
-#[derive(Drop)]
+#[derive(Clone, Copy)]
 pub struct Slot {
     pub start: u32,
     pub id: u32,

@@ -55,7 +55,7 @@ const LEAD: u64 = 4503599627370496;
 const ALL_ONES: u64 = 2047;
 
 // What a pattern stands for.
-#[derive(Drop)]
+#[derive(Clone, Copy)]
 pub enum Pattern {
     Finite(f64),
     // whether it is negative
@@ -78,7 +78,7 @@ pub fn from_bits(n: u64) -> Pattern
 }
 
 // A double's bit pattern. A NaN has many, so none is given.
-#[derive(Drop)]
+#[derive(Clone, Copy)]
 pub enum Bits {
     Of(u64),
     NotANumber,

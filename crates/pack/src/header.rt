@@ -13,7 +13,7 @@ pub const HEADER: usize = 36;
 pub const ROW: usize = 16;
 
 // The header, word by word.
-#[derive(Drop)]
+#[derive(Clone, Copy)]
 pub struct Header {
     pub kind: u32,
     pub rows: u32,
@@ -27,7 +27,7 @@ pub struct Header {
 }
 
 // The kind of a pack that is laid out rightly.
-#[derive(Drop)]
+#[derive(Clone, Copy)]
 pub enum Layout {
     Of(Kind),
     Wrong,

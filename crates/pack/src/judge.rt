@@ -13,7 +13,7 @@ use rows::Kind;
 use rows::columns::RowsAnswer;
 
 // What is found of a pack: why it is refused, or its kind and header.
-#[derive(Drop)]
+#[derive(Clone, Copy)]
 pub enum Found {
     Refused(Reason),
     Fine(Kind, Header),

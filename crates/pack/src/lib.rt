@@ -16,7 +16,7 @@ ghost use Rattle.refusal.specs.Lent.{was};
 
 // What `build` answers: the kind with what `segment` or `encode` is to be given, or why nothing was built.
 // The prefix is the `prefix_len` bytes of the strings from `prefix_off` on.
-#[derive(Drop)]
+#[derive(Clone, Copy)]
 pub enum PackAnswer {
     Unigram {
         nodes: u32,

@@ -18,7 +18,7 @@ pub const MAX_PREFIX: usize = 64;
 pub const NO_ID: u32 = 4_294_967_295;
 
 // What is wrong, in the order of the paper's numbers, 1 to 11.
-#[derive(Drop)]
+#[derive(Clone, Copy)]
 pub enum Fault {
     Size,
     Span,
@@ -53,7 +53,7 @@ pub fn number(f: Fault) -> u32
 }
 
 // The reason of a refused build: what is wrong with the call, or with a row of the list and which row.
-#[derive(Drop)]
+#[derive(Clone, Copy)]
 pub enum Reason {
     Call(Fault),
     Row(Fault, u32),
@@ -70,14 +70,14 @@ pub fn fault_of(r: Reason) -> Fault
 }
 
 // What is found of an input: nothing that is wrong, or what is.
-#[derive(Drop)]
+#[derive(Clone, Copy)]
 pub enum Judged {
     Fine,
     Bad(Fault),
 }
 
 // What the coding of a text or word answers: how many ids it wrote, or why it wrote nothing.
-#[derive(Drop)]
+#[derive(Clone, Copy)]
 pub enum CodeAnswer {
     Ids(usize),
     Refused(Fault),

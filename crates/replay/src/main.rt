@@ -42,7 +42,7 @@ fn read_part(part: &mut [u8], n: usize) -> usize
 }
 
 // What one case comes to. A case that is cut short differs.
-#[derive(Drop)]
+#[derive(Clone, Copy)]
 enum Turn {
     Agrees,
     Differs,
@@ -87,7 +87,7 @@ fn next_case() -> Turn {
     Turn::Differs
 }
 
-#[derive(Drop)]
+#[derive(Clone, Copy)]
 struct Tally {
     agree: u64,
     differ: u64,

@@ -8,7 +8,7 @@ use crate::{Kind, checked};
 use refusal::{Fault, MAX_ROWS, MAX_TABLE, Reason};
 
 // What is found of a row list.
-#[derive(Drop)]
+#[derive(Clone, Copy)]
 pub enum RowsAnswer {
     Fine,
     Refused(Reason),

@@ -13,21 +13,21 @@ ghost use Rattle.rows.specs.declared.Kind.TheVariants.{Unigram, WordPiece};
 ghost use Rattle.refusal.specs.Lent.{was};
 
 // Which of the two a vocabulary is for.
-#[derive(Drop)]
+#[derive(Clone, Copy)]
 pub enum Kind {
     Unigram,
     WordPiece,
 }
 
 // What a row gives its token: a score, or an id.
-#[derive(Drop)]
+#[derive(Clone, Copy)]
 pub enum Worth {
     Score(f64),
     Id(u32),
 }
 
 // A token is the `len` bytes of the string table from `off` on.
-#[derive(Drop)]
+#[derive(Clone, Copy)]
 pub struct Row {
     pub off: u32,
     pub len: u32,

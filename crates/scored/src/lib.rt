@@ -13,14 +13,14 @@ ghost use Rattle.scored.specs.Build as promise;
 ghost use Rattle.refusal.specs.Lent.{was};
 
 // What an accepted build reports: how many nodes the trie has, and the score of an unknown character.
-#[derive(Drop)]
+#[derive(Clone, Copy)]
 pub struct Summary {
     pub nodes: u32,
     pub unknown_score: f64,
 }
 
 // What `build` answers.
-#[derive(Drop)]
+#[derive(Clone, Copy)]
 pub enum BuildAnswer {
     Built(Summary),
     Refused(Reason),

@@ -66,7 +66,7 @@ fn agrees(line: &[u8; 53]) -> bool {
 }
 
 // What one line of the input comes to. A line that is cut short differs.
-#[derive(Drop)]
+#[derive(Clone, Copy)]
 enum Turn {
     Agrees,
     Differs,
@@ -88,7 +88,7 @@ fn read_line() -> Turn {
     Turn::Differs
 }
 
-#[derive(Drop)]
+#[derive(Clone, Copy)]
 struct Counts {
     agree: u64,
     differ: u64,

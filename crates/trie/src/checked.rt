@@ -10,20 +10,20 @@ ghost use Rattle.refusal.specs.Lent.{was};
 use refusal::NO_ID;
 
 // A position in the trie: the node that the bytes so far lead to.
-#[derive(Drop)]
+#[derive(Clone, Copy)]
 pub struct Walk {
     pub node: u32,
 }
 
 // Where a step leads.
-#[derive(Drop)]
+#[derive(Clone, Copy)]
 pub enum Step {
     To(Walk),
     Stop,
 }
 
 // The id of a node, if it ends a token.
-#[derive(Drop)]
+#[derive(Clone, Copy)]
 pub enum NodeId {
     Is(u32),
     Missing,

@@ -14,7 +14,7 @@ ghost use Rattle.trie.specs.Lookup.{LookedUp};
 ghost use Rattle.refusal.specs.Lent.{was};
 
 // What a look-up answers.
-#[derive(Drop)]
+#[derive(Clone, Copy)]
 pub enum LookupAnswer {
     Found(u32),
     Absent,

@@ -18,21 +18,21 @@ use refusal::{CodeAnswer, Fault, Judged, MAX_PREFIX, MAX_TEXT};
 use trie::checked::{NodeId, Step, Walk};
 
 // A piece that was found: where it ends, and its id.
-#[derive(Drop)]
+#[derive(Clone, Copy)]
 pub struct Piece {
     pub end: usize,
     pub id: u32,
 }
 
 // The longest piece, if there is one.
-#[derive(Drop)]
+#[derive(Clone, Copy)]
 pub enum Match {
     Is(Piece),
     Missing,
 }
 
 // How many pieces the rest of a word has.
-#[derive(Drop)]
+#[derive(Clone, Copy)]
 pub enum Count {
     Pieces(usize),
     Miss,

@@ -15,7 +15,7 @@ ghost use Rattle.wordpiece.specs.Encode.{Encoded};
 ghost use Rattle.refusal.specs.Lent.{was};
 
 // What `from_rows` answers: how many nodes the trie has, or why nothing was built.
-#[derive(Drop)]
+#[derive(Clone, Copy)]
 pub enum BuildAnswer {
     Built(u32),
     Refused(Reason),

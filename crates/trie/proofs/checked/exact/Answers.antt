@@ -1,0 +1,35 @@
+-- `trie::checked::exact` meets its contract: the string's id is that of the node its walk from the root ends in. Assumes
+-- nothing.
+use mathlib.Core.Path.{◌≡◌, refl, sym, ap, ◌∙◌}
+use mathlib.Core.Option.{some}
+use Prim.Native.Nat.{ℕ}
+use native.Mathlib.Omega.{arith}
+use Rattle.trie.specs.Trie.{parts_of, walk}
+use Rattle.trie.specs.Walks.{next_of}
+use Rattle.trie.proofs.SoundParts.{sound-of}
+use Rattle.trie.proofs.Walking.{id-of, from-none, from_some, walk_inside}
+use Rattle.trie.proofs.checked.exact.Goals as goal
+
+pub over-requires : goal.over-requires
+over-requires c = record { ids = c.args.id.now; parts = c.requires; inside = omega (arith, c.root.ensures, (sound-of (let a = c.args in parts_of a.edge_at.now a.edge_n.now a.id.now a.byte.now a.to.now) c.requires).some-node) }
+
+pub id_at-requires : goal.id_at-requires
+id_at-requires c =
+    let walked : walk (let a = c.args in parts_of a.edge_at.now a.edge_n.now a.id.now a.byte.now a.to.now) 0 c.args.s.now ≡ next_of c.over.result = sym (c.over.ensures c.args.id.now ∙ ap (λ (k : ℕ). walk (let a = c.args in parts_of a.edge_at.now a.edge_n.now a.id.now a.byte.now a.to.now) k c.args.s.now) c.root.ensures) in
+    let ended : walk (let a = c.args in parts_of a.edge_at.now a.edge_n.now a.id.now a.byte.now a.to.now) 0 c.args.s.now ≡ some c.end-1.given.0.0.node = walked ∙ ap next_of c.end-1.given.1 in
+    let facts = sound-of (let a = c.args in parts_of a.edge_at.now a.edge_n.now a.id.now a.byte.now a.to.now) c.requires in
+    omega (arith, walk_inside (let a = c.args in parts_of a.edge_at.now a.edge_n.now a.id.now a.byte.now a.to.now) c.requires 0 c.args.s.now facts.some-node (ended), facts.level-id)
+
+pub returns-in-To : goal.returns-in-To
+returns-in-To c =
+    let walked : walk (let a = c.args in parts_of a.edge_at.now a.edge_n.now a.id.now a.byte.now a.to.now) 0 c.args.s.now ≡ next_of c.over.result = sym (c.over.ensures c.args.id.now ∙ ap (λ (k : ℕ). walk (let a = c.args in parts_of a.edge_at.now a.edge_n.now a.id.now a.byte.now a.to.now) k c.args.s.now) c.root.ensures) in
+    let ended : walk (let a = c.args in parts_of a.edge_at.now a.edge_n.now a.id.now a.byte.now a.to.now) 0 c.args.s.now ≡ some c.end-1.given.0.0.node = walked ∙ ap next_of c.end-1.given.1 in
+    c.id_at.ensures (let a = c.args in parts_of a.edge_at.now a.edge_n.now a.id.now a.byte.now a.to.now) refl
+    ∙ sym (id-of (let a = c.args in parts_of a.edge_at.now a.edge_n.now a.id.now a.byte.now a.to.now) c.args.s.now ∙ from_some (let a = c.args in parts_of a.edge_at.now a.edge_n.now a.id.now a.byte.now a.to.now) 0 c.args.s.now (ended))
+
+pub returns-in-Stop : goal.returns-in-Stop
+returns-in-Stop c =
+    let walked : walk (let a = c.args in parts_of a.edge_at.now a.edge_n.now a.id.now a.byte.now a.to.now) 0 c.args.s.now ≡ next_of c.over.result = sym (c.over.ensures c.args.id.now ∙ ap (λ (k : ℕ). walk (let a = c.args in parts_of a.edge_at.now a.edge_n.now a.id.now a.byte.now a.to.now) k c.args.s.now) c.root.ensures) in
+    sym
+    (id-of (let a = c.args in parts_of a.edge_at.now a.edge_n.now a.id.now a.byte.now a.to.now) c.args.s.now
+    ∙ from-none (let a = c.args in parts_of a.edge_at.now a.edge_n.now a.id.now a.byte.now a.to.now) 0 c.args.s.now (walked ∙ ap next_of c.in-Stop.is))

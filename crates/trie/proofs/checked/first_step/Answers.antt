@@ -1,0 +1,15 @@
+-- `trie::checked::first_step` meets its contract: the place of the byte is a node or the mark. Assumes nothing.
+use mathlib.Core.Path.{◌≡◌, refl, ◌∙◌}
+use mathlib.Core.List.{List, [], ◌∷◌}
+use Prim.Native.Nat.{ℕ, zero, suc, ◌<◌}
+use native.Mathlib.Omega.{arith}
+use lib.ListN.{length, get_or}
+use Rattle.refusal.specs.Sizes.{no_id}
+use Rattle.trie.proofs.checked.first_step.Goals as goal
+
+-- a place inside, whatever is read outside
+-- the function's start, and that the byte has a place
+place_is : (xs : List ℕ) (k : ℕ) → k < length xs → get_or xs k 0 ≡ get_or xs k no_id
+place_is [] k l = absurd (omega arith)
+place_is (x ∷ xs) zero l = refl
+place_is (x ∷ xs) (suc k) l = place_is xs k (omega arith)
