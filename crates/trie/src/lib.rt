@@ -1,5 +1,6 @@
 // Trie parts in lent columns: soundness, steps and walks, and looking a string up.
 #![tactic(auto)]
+
 use checked::NodeId;
 use refusal::{Fault, Judged, MAX_TEXT};
 

@@ -12,14 +12,14 @@ use Rattle.trie.proofs.look_up.Goals as goal
 pub returns-in-Bad : goal.returns-in-Bad
 returns-in-Bad c =
     let found-text : lookup_fault true c.args.s.now ≡ fault_in c.judge.result = fault-text c.args.s.now c.requires.1 ∙ sym c.judge.ensures in
-    refused-for (found-text ∙ ap fault_in c.f-1.given.1)
+    refused-for (found-text ∙ ap fault_in c.in-Bad.is)
 
 pub returns-in-Is : goal.returns-in-Is
 unfolding found
 returns-in-Is c =
     let found-text : lookup_fault true c.args.s.now ≡ fault_in c.judge.result = fault-text c.args.s.now c.requires.1 ∙ sym c.judge.ensures in
     let accepted : lookup_fault true c.args.s.now ≡ none = found-text ∙ ap fault_in c.in_default.is in
-    found-for (accepted) (sym c.exact.ensures ∙ ap id_in c.i-1.given.1)
+    found-for (accepted) (sym c.exact.ensures ∙ ap id_in c.in-Is.is)
 
 pub returns-in-Missing : goal.returns-in-Missing
 unfolding found

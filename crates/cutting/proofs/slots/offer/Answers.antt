@@ -10,19 +10,19 @@ use Rattle.cutting.proofs.slots.offer.Goals as goal
 
 pub returns-then-standing : goal.returns-then-standing
 returns-then-standing c =
-    let read : held c.slot_at-standing.result ≡ (slot_at (let a = c.args in slots_of a.start-1.now a.slot_id-1.now a.slot_score-1.now) c.args.j) = c.slot_at-standing.ensures in
-    put_as c.put.ensures (sym (taken-empty ((slot_at (let a = c.args in slots_of a.start-1.now a.slot_id-1.now a.slot_score-1.now) c.args.j)) (held c.args.q) (ap (λ (r : Slot). r.start-1) (sym (read)) ∙ c.if-standing.true)))
+    let read : held c.slot_at-standing.result ≡ (slot_at (let a = c.args in slots_of a.start.now a.slot_id.now a.slot_score.now) c.args.j) = c.slot_at-standing.ensures in
+    put_as c.put.ensures (sym (taken-empty ((slot_at (let a = c.args in slots_of a.start.now a.slot_id.now a.slot_score.now) c.args.j)) (held c.args.q) (ap (λ (r : Slot). r.start) (sym (read)) ∙ c.if-standing.true)))
 
 pub returns-then-better : goal.returns-then-better
 returns-then-better c =
-    let read : held c.slot_at-standing.result ≡ (slot_at (let a = c.args in slots_of a.start-1.now a.slot_id-1.now a.slot_score-1.now) c.args.j) = c.slot_at-standing.ensures in
-    let full : ((slot_at (let a = c.args in slots_of a.start-1.now a.slot_id-1.now a.slot_score-1.now) c.args.j)).start-1 ≡ no_id → ⊥ = λ e. c.if-standing.false (ap (λ (r : Slot). r.start-1) (read) ∙ e) in
-    let better : less ((slot_at (let a = c.args in slots_of a.start-1.now a.slot_id-1.now a.slot_score-1.now) c.args.j)).score (held c.args.q).score ≡ c.better.result = ap (λ (r : Slot). less r.score (held c.args.q).score) (sym (read)) ∙ sym c.better.ensures in
-    put_as c.put-then-better.ensures (sym (taken-better ((slot_at (let a = c.args in slots_of a.start-1.now a.slot_id-1.now a.slot_score-1.now) c.args.j)) (held c.args.q) (full) (better ∙ c.if-better.true)))
+    let read : held c.slot_at-standing.result ≡ (slot_at (let a = c.args in slots_of a.start.now a.slot_id.now a.slot_score.now) c.args.j) = c.slot_at-standing.ensures in
+    let full : ((slot_at (let a = c.args in slots_of a.start.now a.slot_id.now a.slot_score.now) c.args.j)).start ≡ no_id → ⊥ = λ e. c.if-standing.false (ap (λ (r : Slot). r.start) (read) ∙ e) in
+    let better : less ((slot_at (let a = c.args in slots_of a.start.now a.slot_id.now a.slot_score.now) c.args.j)).score (held c.args.q).score ≡ c.better.result = ap (λ (r : Slot). less r.score (held c.args.q).score) (sym (read)) ∙ sym c.better.ensures in
+    put_as c.put-then-better.ensures (sym (taken-better ((slot_at (let a = c.args in slots_of a.start.now a.slot_id.now a.slot_score.now) c.args.j)) (held c.args.q) (full) (better ∙ c.if-better.true)))
 
 pub returns-else-better : goal.returns-else-better
 returns-else-better c =
-    let read : held c.slot_at-standing.result ≡ (slot_at (let a = c.args in slots_of a.start-1.now a.slot_id-1.now a.slot_score-1.now) c.args.j) = c.slot_at-standing.ensures in
-    let full : ((slot_at (let a = c.args in slots_of a.start-1.now a.slot_id-1.now a.slot_score-1.now) c.args.j)).start-1 ≡ no_id → ⊥ = λ e. c.if-standing.false (ap (λ (r : Slot). r.start-1) (read) ∙ e) in
-    let better : less ((slot_at (let a = c.args in slots_of a.start-1.now a.slot_id-1.now a.slot_score-1.now) c.args.j)).score (held c.args.q).score ≡ c.better.result = ap (λ (r : Slot). less r.score (held c.args.q).score) (sym (read)) ∙ sym c.better.ensures in
-    put_back (let a = c.args in slots_of a.start-1.now a.slot_id-1.now a.slot_score-1.now) c.args.j (taken-kept ((slot_at (let a = c.args in slots_of a.start-1.now a.slot_id-1.now a.slot_score-1.now) c.args.j)) (held c.args.q) (full) (better ∙ c.if-better.false))
+    let read : held c.slot_at-standing.result ≡ (slot_at (let a = c.args in slots_of a.start.now a.slot_id.now a.slot_score.now) c.args.j) = c.slot_at-standing.ensures in
+    let full : ((slot_at (let a = c.args in slots_of a.start.now a.slot_id.now a.slot_score.now) c.args.j)).start ≡ no_id → ⊥ = λ e. c.if-standing.false (ap (λ (r : Slot). r.start) (read) ∙ e) in
+    let better : less ((slot_at (let a = c.args in slots_of a.start.now a.slot_id.now a.slot_score.now) c.args.j)).score (held c.args.q).score ≡ c.better.result = ap (λ (r : Slot). less r.score (held c.args.q).score) (sym (read)) ∙ sym c.better.ensures in
+    put_back (let a = c.args in slots_of a.start.now a.slot_id.now a.slot_score.now) c.args.j (taken-kept ((slot_at (let a = c.args in slots_of a.start.now a.slot_id.now a.slot_score.now) c.args.j)) (held c.args.q) (full) (better ∙ c.if-better.false))

@@ -15,12 +15,12 @@ use Rattle.trie.proofs.soundness.all_finite.Goals as goal
 pub returns-then-not-is_finite : goal.returns-then-not-is_finite
 returns-then-not-is_finite c =
     let turn : all_finite (map units c.args.score.now) ≡ c.is_finite.result && all_finite (map units (drop (c.loop-k.k + 1) c.args.score.now)) = c.loop-k.invariant.1 ∙ finite-turn c.args.score.now c.loop-k.k _ (omega arith) ∙ ap (λ (b : Bool). b && all_finite (map units (drop (c.loop-k.k + 1) c.args.score.now))) (sym c.is_finite.ensures) in
-    sym (stopped c.is_finite.result _ (turn) c.if-not-is_finite.true)
+    sym (stopped c.is_finite.result _ (turn) c.if-not-is_finite.true-raw)
 
 pub loop-k-preserved : goal.loop-k-preserved
 loop-k-preserved c =
     let turn : all_finite (map units c.args.score.now) ≡ c.is_finite.result && all_finite (map units (drop (c.loop-k.k + 1) c.args.score.now)) = c.loop-k.invariant.1 ∙ finite-turn c.args.score.now c.loop-k.k _ (omega arith) ∙ ap (λ (b : Bool). b && all_finite (map units (drop (c.loop-k.k + 1) c.args.score.now))) (sym c.is_finite.ensures) in
-    (omega arith, passed c.is_finite.result _ (turn) c.if-not-is_finite.false)
+    (omega arith, passed c.is_finite.result _ (turn) c.if-not-is_finite.false-raw)
 
 pub returns : goal.returns
 returns c = sym (c.loop-k.invariant.1 ∙ finite-past c.args.score.now c.loop-k.k (omega arith))

@@ -23,8 +23,7 @@ returns-then-not-edges_sound c =
 
 pub loop-k-preserved : goal.loop-k-preserved
 loop-k-preserved c =
-    let node : ℕ → Bool = test c.args.edge_at.now c.args.edge_n.now c.args.byte.now in
-    (
+    let node : ℕ → Bool = test c.args.edge_at.now c.args.edge_n.now c.args.byte.now in (
       omega arith,
       every_more (node) c.loop-k.k c.loop-k.invariant.1
           (sym c.edges_sound.ensures ∙ c.if-not-edges_sound.false),

@@ -15,7 +15,7 @@ returns-then-byte-at c = let a = c.args in
 
 pub loop-i-preserved : goal.loop-i-preserved
 loop-i-preserved c = let a = c.args in (
-      omega arith,
-      omega arith,
-      rises-more a.byte.now a.at a.n c.loop-i.i (omega arith) c.loop-i.invariant.2 (omega arith),
-    )
+  omega arith,
+  omega arith,
+  rises-more a.byte.now a.at a.n c.loop-i.i (omega arith) c.loop-i.invariant.2 (omega arith),
+)

@@ -32,7 +32,7 @@ pub returns-then-not-nodes_sound : goal.returns-then-not-nodes_sound
 unfolding sound_node
 returns-then-not-nodes_sound c =
     let level : let t = (let a = c.args in parts_of a.edge_at.now a.edge_n.now a.id.now a.byte.now a.to.now) in sound t ≡ c.nodes_sound.result && every (length t.byte) (λ e. ltb (get_or t.to e 0) (length t.edge_at)) = let t = (let a = c.args in parts_of a.edge_at.now a.edge_n.now a.id.now a.byte.now a.to.now) in sound-level t (omega arith) (omega arith) (omega arith) (omega arith) (omega arith) ∙ ap (λ (b : Bool). b && every (length t.byte) (λ e. ltb (get_or t.to e 0) (length t.edge_at))) (sym c.nodes_sound.ensures) in
-    sym (stopped c.nodes_sound.result _ (level) c.if-not-nodes_sound.true)
+    sym (stopped c.nodes_sound.result _ (level) c.if-not-nodes_sound.true-raw)
 
 pub returns : goal.returns
 unfolding sound_node
@@ -41,4 +41,4 @@ returns c =
     let t = (let a = c.args in parts_of a.edge_at.now a.edge_n.now a.id.now a.byte.now a.to.now) in
     c.targets_inside.ensures
     ∙ ap (λ (n : ℕ). every n (λ e. ltb (get_or t.to e 0) (length t.edge_at))) c.if-to-byte.false
-    ∙ sym (passed c.nodes_sound.result _ (level) c.if-not-nodes_sound.false)
+    ∙ sym (passed c.nodes_sound.result _ (level) c.if-not-nodes_sound.false-raw)

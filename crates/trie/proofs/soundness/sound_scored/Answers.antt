@@ -27,10 +27,10 @@ pub returns-then-not-sound : goal.returns-then-not-sound
 returns-then-not-sound c =
     let finite-unknown : is_finite (units c.args.unknown_score) ≡ true = sym c.is_finite.ensures ∙ c.if-not-is_finite.false in
     let level : sound_scored (let a = c.args in parts_of a.edge_at.now a.edge_n.now a.id.now a.byte.now a.to.now) (map units c.args.score.now) (units c.args.unknown_score) ≡ c.sound.result && all_finite (map units c.args.score.now) = scored-level (let a = c.args in parts_of a.edge_at.now a.edge_n.now a.id.now a.byte.now a.to.now) (map units c.args.score.now) (units c.args.unknown_score) (finite-unknown) (length-map c.args.score.now units ∙ c.if-score-edge_at.false) ∙ ap (λ (b : Bool). b && all_finite (map units c.args.score.now)) (sym c.sound.ensures) in
-    sym (stopped c.sound.result _ (level) c.if-not-sound.true)
+    sym (stopped c.sound.result _ (level) c.if-not-sound.true-raw)
 
 pub returns : goal.returns
 returns c =
     let finite-unknown : is_finite (units c.args.unknown_score) ≡ true = sym c.is_finite.ensures ∙ c.if-not-is_finite.false in
     let level : sound_scored (let a = c.args in parts_of a.edge_at.now a.edge_n.now a.id.now a.byte.now a.to.now) (map units c.args.score.now) (units c.args.unknown_score) ≡ c.sound.result && all_finite (map units c.args.score.now) = scored-level (let a = c.args in parts_of a.edge_at.now a.edge_n.now a.id.now a.byte.now a.to.now) (map units c.args.score.now) (units c.args.unknown_score) (finite-unknown) (length-map c.args.score.now units ∙ c.if-score-edge_at.false) ∙ ap (λ (b : Bool). b && all_finite (map units c.args.score.now)) (sym c.sound.ensures) in
-    c.all_finite.ensures ∙ sym (passed c.sound.result _ (level) c.if-not-sound.false)
+    c.all_finite.ensures ∙ sym (passed c.sound.result _ (level) c.if-not-sound.false-raw)

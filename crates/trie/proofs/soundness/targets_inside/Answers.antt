@@ -20,7 +20,7 @@ returns-then-nodes-to c = let a = c.args in
 
 pub loop-e-preserved : goal.loop-e-preserved
 loop-e-preserved c = let a = c.args in (
-      omega arith,
-      every_more (test a.to.now a.nodes) c.loop-e.e c.loop-e.invariant.1
-          (lt-ltb (get_or a.to.now c.loop-e.e 0) a.nodes (omega arith)),
-    )
+  omega arith,
+  every_more (test a.to.now a.nodes) c.loop-e.e c.loop-e.invariant.1
+      (lt-ltb (get_or a.to.now c.loop-e.e 0) a.nodes (omega arith)),
+)

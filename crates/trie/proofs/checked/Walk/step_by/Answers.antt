@@ -10,5 +10,5 @@ pub returns-then-self-eq0 : goal.returns-then-self-eq0
 unfolding step
 returns-then-self-eq0 c ids = let a = c.args in
     c.first_step.ensures
-    ∙ c.requires.1.led a.b (omega arith)
+    ∙ c.requires.leads.led a.b (omega arith)
     ∙ ap (λ (k : ℕ). step (parts_of a.edge_at.now a.edge_n.now ids a.byte.now a.to.now) k a.b) (sym c.if-self-eq0.true)
