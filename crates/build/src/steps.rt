@@ -7,7 +7,6 @@ ghost use Rattle.build.specs.Held.{Roomy, RowDone};
 ghost use Rattle.build.specs.Memory.{memory_is, memory_now, memory_was};
 ghost use Rattle.build.specs.Checked.{Finishable, Finished};
 
-
 use crate::Built;
 use crate::lay::lay_out;
 use crate::zero::{clear, zero16, zero32};

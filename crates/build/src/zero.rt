@@ -3,7 +3,6 @@ ghost use Rattle.std.specs.Prelude.{◌≡◌};
 ghost use Rattle.refusal.specs.Places.{zeroed};
 ghost use Rattle.build.specs.Memory.{cleared, memory_is, memory_was};
 
-
 pub fn zero8(s: &mut [u8])
     ensures { s.new ≡ zeroed 0 s.old }
 {
