@@ -1,5 +1,6 @@
 // A Unigram trie from rows: `build`.
 #![tactic(auto)]
+
 use refusal::Reason;
 use rows::Kind;
 use rows::columns::RowsAnswer;

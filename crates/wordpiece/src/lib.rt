@@ -1,5 +1,6 @@
 // WordPiece: `from_rows`, a trie from rows; `encode`, the longest token first.
 #![tactic(auto)]
+
 use build::Built;
 use refusal::{CodeAnswer, Fault, Reason};
 use rows::Kind;
