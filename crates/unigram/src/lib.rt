@@ -1,5 +1,6 @@
 // Unigram: `segment`, the cutting of a text with the highest sum of scores.
 #![tactic(auto)]
+
 use refusal::CodeAnswer;
 
 pub mod checked;

@@ -1,6 +1,3 @@
--- `unigram::lattice::fill` meets its contract. The loop's invariant: the slots hold the records as they are when the starts
--- before `at` have been worked, and `at` is a boundary. The next boundary is above it, so what is left of the text falls.
--- Assumes nothing.
 use mathlib.Core.Path.{◌≡◌, ◌∙◌}
 use mathlib.Core.Bool.{true}
 use Prim.Native.Nat.{ℕ, ◌-◌, ◌≤◌, ◌<◌}

@@ -1,5 +1,3 @@
--- `unigram::lattice::offer_known` meets its contract. The loop's invariant: the walk over the bytes from `at` up to i has come
--- to the node, and each string that ends by i has been offered. What is left of the text falls. Assumes nothing.
 use mathlib.Core.Path.{◌≡◌, ◌∙◌}
 use mathlib.Core.Option.{some}
 use Prim.Native.Nat.{ℕ, ◌+◌, ◌-◌, ◌≤◌, ◌<◌}

@@ -106,6 +106,7 @@ use Rattle.sliced.specs.contracts.build_rows as build-rows
 use Rattle.sliced.proofs.build_rows.Statement as stated
 use Rattle.sliced.proofs.build_rows.Code as code
 use Rattle.sliced.proofs.build_rows.Code.Mir as body
+use Rattle.sliced.proofs.build_rows.Goals as goal
 
 abbrev τs : List Ty
 τs = tys (code.function).locals
