@@ -1,5 +1,6 @@
 // A Unigram trie from a slice of rows: `build_rows`, over the build on columns.
 #![tactic(auto)]
+
 use rows::Row;
 use scored::BuildAnswer;
 
