@@ -1,5 +1,6 @@
 // What the program prints, as bytes in a lent buffer.
 #![tactic(auto)]
+
 use coder::Coder;
 use pack::PackAnswer;
 use refusal::Fault;
