@@ -4,7 +4,6 @@ use mathlib.Core.Path.{◌≡◌, sym, ap, ◌∙◌}
 use mathlib.Core.Bool.{Bool, true, false, cond}
 use mathlib.Core.List.{List}
 use Prim.Native.Nat.{ℕ, ◌^◌, ◌≤◌, ◌<◌}
-use borrow.Author.Rules.{rules}
 use borrow.Author.Tests.{lt-ltb, le-ltb}
 use lib.Dec.{ltb}
 use lib.ListN.{length}
@@ -13,8 +12,7 @@ use Rattle.output.specs.Output.{max_output, output}
 use Rattle.output.specs.Put.{Put}
 use Rattle.output.proofs.Putting.{put-over}
 use Rattle.exports.specs.Flat.{PrintedAs}
-use Rattle.exports.proofs.packs.sk_print.Statement.{statement}
-use Rattle.exports.proofs.packs.sk_print.Tie as tie
+use Rattle.exports.proofs.packs.sk_print.Goals as goal
 
 module _ (bytes input before : List ℕ) where
   abbrev text : List ℕ
@@ -38,12 +36,3 @@ module _ (bytes input before : List ℕ) where
         answered = o.0 ∙ sym (ap (λ (b : Bool). cond b (2 ^ 32) (length text)) e);
         left = o.1 ∙ sym (ap (λ (b : Bool). cond b before (overlay text before)) e);
       }
-
-returns : tie.Need-returns
-returns c = short _ _ _ c.if1.true
-
-returns-2 : tie.Need-returns-2
-returns-2 c = let p = c.before.before in enough _ _ _ p.before.before.if1.false p.print.ensures
-
-pub sk-print-spec : {M : Type 1} → statement M
-sk-print-spec = tie.close (tie.spec returns (λ c κs. search rules) (λ c. search rules) returns-2)

@@ -1,0 +1,21 @@
+-- `exports::builds::built_number` meets its contract: each answer has its number, and a build its score. Assumes nothing.
+use mathlib.Core.Path.{sym, ap, ◌∙◌}
+use mathlib.Core.List.{map}
+use Rattle.doubles.specs.Units.{units}
+use Rattle.scored.specs.Build.{told}
+use Rattle.exports.specs.Flat.{told_number, told_score}
+use Rattle.exports.proofs.builds.built_number.Goals as goal
+
+pub returns-in-Built : goal.returns-in-Built
+unfolding told
+returns-in-Built c = (
+      sym (ap (λ x. told_number (told x)) c.in-Built.is),
+      c.put_score.ensures ∙ sym (ap (λ x. told_score (told x) (map units c.args.unknown_score.now)) c.in-Built.is),
+    )
+
+pub returns-in-Refused : goal.returns-in-Refused
+unfolding told
+returns-in-Refused c = (
+      c.reason_number.ensures ∙ sym (ap (λ x. told_number (told x)) c.in-Refused.is),
+      sym (ap (λ x. told_score (told x) (map units c.args.unknown_score.now)) c.in-Refused.is),
+    )
