@@ -2,29 +2,32 @@
 // prints is what `output::print` puts into a buffer; this file only reads and writes. It reads one byte more than may be there,
 // so that too much shows.
 #![tactic(auto)]
-ghost use Rattle.io.specs.Counts.{IsPrefixLen};
 
-use libc::{STDIN_FILENO, STDOUT_FILENO};
+ghost use Rattle.std.specs.Counts.{IsPrefixLen};
 
-// The bytes of the pack; none where the file can't be opened.
-fn read_pack(pack: &mut [u8]) -> usize
+use std::fs;
+use std::io::{self, Write};
+use std::rt::Files;
+
+// The bytes of the pack; none where the file can't be opened or read.
+fn read_pack<R: Files>(rt: &R, pack: &mut [u8]) -> usize
     ensures { IsPrefixLen result pack.new }
 {
-    let file = os::open_read(b"vocab.pack");
-    if file < 0 {
+    let Ok(mut file) = fs::open(rt, "vocab.pack") else {
         return 0;
-    }
-    let n = io::read_full(file, pack);
-    libc::close(file);
+    };
+    let Ok(n) = streams::read_full(&mut file, pack) else {
+        return 0;
+    };
     n
 }
 
-fn main() {
+fn main(rt: HostRuntime) -> io::Result<()> {
     let mut pack = [0u8; 65_537];
-    let p = read_pack(&mut pack);
+    let p = read_pack(&rt, &mut pack);
     let mut input = [0u8; 32_769];
-    let n = io::read_full(STDIN_FILENO, &mut input);
+    let n = streams::read_full(&mut rt.reader(), &mut input)?;
     let mut out = [0u8; output::MAX_OUTPUT];
     let end = output::print(&pack[..p], &input[..n], &mut out);
-    io::write_all(STDOUT_FILENO, &out[..end]);
+    io::writer(&rt).write_all(&out[..end])
 }

@@ -3,9 +3,11 @@
 // the Rust and the paper give: they are made by compare/src/packs.rs from a fixed seed, small packs of both kinds with lines
 // over them, every fourth pack damaged.
 #![tactic(auto)]
-ghost use Rattle.io.specs.Counts.{IsPrefixLen};
 
-use libc::{STDIN_FILENO, STDOUT_FILENO};
+ghost use Rattle.std.specs.Counts.{IsPrefixLen};
+ghost use Rattle.std.specs.Result.{IfOk};
+
+use std::io::{self, Read};
 
 // Whether two texts are the same.
 fn is_same(a: &[u8], b: &[u8]) -> bool {
@@ -32,13 +34,13 @@ fn agrees(pack: &[u8], input: &[u8], right: &[u8]) -> bool {
 }
 
 // Reads so many bytes into the front of the buffer, and answers how many came; none where they are too many.
-fn read_part(part: &mut [u8], n: usize) -> usize
-    ensures { IsPrefixLen result part.new }
+fn read_part<R: Read>(input: &mut R, part: &mut [u8], n: usize) -> io::Result<usize>
+    ensures { IfOk result (λ n. IsPrefixLen n part.new) }
 {
     if part.len() < n {
-        return 0;
+        return Ok(0);
     }
-    io::read_full(STDIN_FILENO, &mut part[..n])
+    streams::read_full(input, &mut part[..n])
 }
 
 // What one case comes to. A case that is cut short differs.
@@ -50,41 +52,41 @@ enum Turn {
 }
 
 // Whether the case of these lengths is there and agrees.
-fn read_case(p: usize, i: usize, r: usize) -> bool {
+fn read_case<R: Read>(from: &mut R, p: usize, i: usize, r: usize) -> io::Result<bool> {
     let mut pack = [0u8; 4_096];
-    let a = read_part(&mut pack, p);
+    let a = read_part(from, &mut pack, p)?;
     let mut input = [0u8; 4_096];
-    let b = read_part(&mut input, i);
+    let b = read_part(from, &mut input, i)?;
     let mut right = [0u8; 4_096];
-    let c = read_part(&mut right, r);
+    let c = read_part(from, &mut right, r)?;
     if a != p {
-        return false;
+        return Ok(false);
     }
     if b != i {
-        return false;
+        return Ok(false);
     }
     if c != r {
-        return false;
+        return Ok(false);
     }
-    agrees(&pack[..a], &input[..b], &right[..c])
+    Ok(agrees(&pack[..a], &input[..b], &right[..c]))
 }
 
-fn next_case() -> Turn {
+fn next_case<R: Read>(input: &mut R) -> io::Result<Turn> {
     let mut head = [0u8; 12];
-    let n = io::read_full(STDIN_FILENO, &mut head);
+    let n = streams::read_full(input, &mut head)?;
     if n == 0 {
-        return Turn::Done;
+        return Ok(Turn::Done);
     }
     if n < 12 {
-        return Turn::Differs;
+        return Ok(Turn::Differs);
     }
     let p = pack::header::word(&head, 0) as usize;
     let i = pack::header::word(&head, 4) as usize;
     let r = pack::header::word(&head, 8) as usize;
-    if read_case(p, i, r) {
-        return Turn::Agrees;
+    if read_case(input, p, i, r)? {
+        return Ok(Turn::Agrees);
     }
-    Turn::Differs
+    Ok(Turn::Differs)
 }
 
 #[derive(Clone, Copy)]
@@ -94,13 +96,13 @@ struct Tally {
 }
 
 // All cases, up to a number that no run uses up.
-fn counted() -> Tally {
+fn counted<R: Read>(input: &mut R) -> io::Result<Tally> {
     let mut agree: u64 = 0;
     let mut differ: u64 = 0;
     let mut left: u64 = 1_000_000;
     while left > 0 {
         left -= 1;
-        match next_case() {
+        match next_case(input)? {
             Turn::Agrees => {
                 agree += 1;
             }
@@ -108,17 +110,15 @@ fn counted() -> Tally {
                 differ += 1;
             }
             Turn::Done => {
-                return Tally { agree, differ };
+                return Ok(Tally { agree, differ });
             }
         }
     }
-    Tally { agree, differ }
+    Ok(Tally { agree, differ })
 }
 
-fn main() {
-    let counts = counted();
-    io::print_decimal(STDOUT_FILENO, counts.agree);
-    io::write_all(STDOUT_FILENO, b" agree\n");
-    io::print_decimal(STDOUT_FILENO, counts.differ);
-    io::write_all(STDOUT_FILENO, b" differ\n");
+fn main(rt: HostRuntime) -> io::Result<()> {
+    let counts = counted(&mut rt.reader())?;
+    println!(rt; "{} agree", counts.agree)?;
+    println!(rt; "{} differ", counts.differ)
 }

@@ -4,10 +4,11 @@
 // exponents, ties and their neighbours, near cancellations, subnormals, sums around the largest double, and numbers such as a
 // vocabulary's scores.
 #![tactic(auto)]
+
 ghost use Rattle.std.specs.Prelude.{◌≤◌};
 
 use doubles::{Bits, Pattern};
-use libc::{STDIN_FILENO, STDOUT_FILENO};
+use std::io::{self, Read};
 
 // What a hexadecimal digit stands for.
 fn digit(b: u8) -> u64 {
@@ -73,19 +74,19 @@ enum Turn {
     Done,
 }
 
-fn read_line() -> Turn {
+fn read_line<R: Read>(input: &mut R) -> io::Result<Turn> {
     let mut line = [0u8; 53];
-    let n = io::read_full(STDIN_FILENO, &mut line);
+    let n = streams::read_full(input, &mut line)?;
     if n == 0 {
-        return Turn::Done;
+        return Ok(Turn::Done);
     }
     if n < 53 {
-        return Turn::Differs;
+        return Ok(Turn::Differs);
     }
     if agrees(&line) {
-        return Turn::Agrees;
+        return Ok(Turn::Agrees);
     }
-    Turn::Differs
+    Ok(Turn::Differs)
 }
 
 #[derive(Clone, Copy)]
@@ -95,13 +96,13 @@ struct Counts {
 }
 
 // All lines, up to a number that no run uses up.
-fn counted() -> Counts {
+fn counted<R: Read>(input: &mut R) -> io::Result<Counts> {
     let mut agree: u64 = 0;
     let mut differ: u64 = 0;
     let mut left: u64 = 1000000;
     while left > 0 {
         left -= 1;
-        match read_line() {
+        match read_line(input)? {
             Turn::Agrees => {
                 agree += 1;
             }
@@ -109,17 +110,15 @@ fn counted() -> Counts {
                 differ += 1;
             }
             Turn::Done => {
-                return Counts { agree, differ };
+                return Ok(Counts { agree, differ });
             }
         }
     }
-    Counts { agree, differ }
+    Ok(Counts { agree, differ })
 }
 
-fn main() {
-    let counts = counted();
-    io::print_decimal(STDOUT_FILENO, counts.agree);
-    io::write_all(STDOUT_FILENO, b" agree\n");
-    io::print_decimal(STDOUT_FILENO, counts.differ);
-    io::write_all(STDOUT_FILENO, b" differ\n");
+fn main(rt: HostRuntime) -> io::Result<()> {
+    let counts = counted(&mut rt.reader())?;
+    println!(rt; "{} agree", counts.agree)?;
+    println!(rt; "{} differ", counts.differ)
 }

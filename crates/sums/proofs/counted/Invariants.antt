@@ -1,0 +1,10 @@
+-- `sums::counted` is safe and ends: each line counts once, so the counts with the lines left are at most a million. The measure
+-- is the lines left.
+use Rattle.std.proofs.Common.{◌+◌, ◌≤◌}
+use Rattle.sums.proofs.counted.Given as goal
+
+abbrev pub invariant-loop-left : goal.invariant-loop-left
+invariant-loop-left g l = l.agree + l.differ + l.left ≤ 1000000
+
+abbrev pub decreases-loop-left : goal.decreases-loop-left
+decreases-loop-left g l = l.left
