@@ -1,5 +1,6 @@
 // What codes a text of either kind: one call, with one answer.
 #![tactic(auto)]
+
 pub mod checked;
 
 ghost use Rattle.std.specs.Prelude.{◌≡◌, List, ℕ};

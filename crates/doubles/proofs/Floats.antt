@@ -16,7 +16,6 @@ use lib.Ieee.Fits as KitFits
 use lib.Ieee.Exact.{HasValue, odd_sign}
 use lib.Ieee.Nearest.{closest, closest_same}
 use lib.Ieee.Bits.{of_bits-to_bits}
-use lib.Ieee.Scale
 use borrow.Author.Tests.{lt-ltb}
 use Rattle.doubles.specs.Double.{Double, not_a_number, infinite, finite, one, rounded, round, sum_finite, sum, less, same, at_most, is_number}
 use Rattle.doubles.specs.Units.{units}

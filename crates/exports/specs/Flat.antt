@@ -15,8 +15,7 @@ use Rattle.build.specs.Promise.{Told, built, refused}
 use Rattle.text.specs.Text.{text_fault}
 use Rattle.trie.specs.declared.LookupAnswer.{LookupAnswer}
 use Rattle.trie.specs.declared.LookupAnswer.TheVariants.{Found, Absent, Refused}
-use Rattle.scored.specs.declared.BuildAnswer.{BuildAnswer}
-use Rattle.scored.specs.Build.{Report, Built}
+use Rattle.scored.specs.Build.{Report}
 use Rattle.wordpiece.specs.declared.BuildAnswer as wordpiece
 use Rattle.wordpiece.specs.declared.BuildAnswer.TheVariants as wordpiece-is
 use Rattle.pack.specs.Build as pack

@@ -1,6 +1,7 @@
 // The calls for other languages. A slice passes as a pointer and a length, an answer as numbers. A caller outside Rattle is
 // checked by nothing: it passes what the parameters' types say.
 #![tactic(auto)]
+
 use refusal::{CodeAnswer, Fault, Judged, MAX_TEXT};
 use trie::LookupAnswer;
 use trie::checked::NodeId;

@@ -21,7 +21,6 @@ use Rattle.refusal.specs.declared.Fault.TheVariants as fault
 use Rattle.refusal.specs.declared.Reason.TheVariants as reason
 use Rattle.text.specs.Text.{well_formed}
 use Rattle.text.specs.Span.{span_of}
-use Rattle.trie.specs.Trie.{Trie}
 use Rattle.trie.specs.Sound.{sound, sound_scored}
 use Rattle.rows.specs.declared.Kind.{Kind}
 use Rattle.rows.specs.declared.Kind.TheVariants.{Unigram, WordPiece}

@@ -1,5 +1,6 @@
 // The pack file: a vocabulary's header, rows and strings, and the build from it.
 #![tactic(auto)]
+
 use crate::judge::Found;
 use refusal::Reason;
 

@@ -1,5 +1,6 @@
 // The paper's sizes, why a call refuses, and the paper's number of each fault.
 #![tactic(auto)]
+
 ghost use Rattle.std.specs.Prelude.{◌≡◌};
 ghost use Rattle.refusal.specs.Refusal.{number, fault_of};
 

@@ -1,5 +1,6 @@
 // The rows of a vocabulary: a token's span in the string table and its worth, and which row is the first bad one.
 #![tactic(auto)]
+
 use refusal::{Fault, Judged, MAX_TOKEN, NO_ID};
 
 mod checked;

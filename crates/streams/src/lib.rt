@@ -1,5 +1,6 @@
 // Reading for the programs: a buffer is filled as far as the input goes.
 #![tactic(auto)]
+
 ghost use Rattle.std.specs.Counts.{IsPrefixLen};
 ghost use Rattle.std.specs.Result.{IfOk};
 

@@ -1,7 +1,7 @@
 -- `output::print_lines` meets its contract: too much input is refused, and else the lines are printed in the first places of
 -- the columns. Assumes nothing.
 use mathlib.Core.List.{List}
-use Prim.Native.Nat.{ℕ, ◌-◌}
+use Prim.Native.Nat.{ℕ}
 use Rattle.text.specs.Ascii.{ascii}
 use Rattle.output.specs.Output.{coded_line}
 use Rattle.output.specs.Cut.{cut_to}

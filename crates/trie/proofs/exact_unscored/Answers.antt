@@ -1,9 +1,7 @@
 -- `trie::exact_unscored` meets its contract: the size is tested, then soundness, and `look_up` answers the rest. Assumes
 -- nothing.
-use mathlib.Core.Path.{◌≡◌, sym, ◌∙◌}
-use mathlib.Core.Bool.{true}
+use mathlib.Core.Path.{sym, ◌∙◌}
 use native.Mathlib.Omega.{arith}
-use Rattle.trie.specs.Sound.{sound}
 use Rattle.trie.proofs.Lookups.{fault-size, refused-for, refused-unsound}
 use Rattle.trie.proofs.exact_unscored.Goals as goal
 

@@ -1,9 +1,9 @@
 -- `build::lay::lay_children` meets its contract. The loop's invariant: the edges written so far and those from `low` on are the
 -- node's edges, and k is the first child by a byte from `low` on. Each child takes a byte of its own, so at most 256 are
 -- written. Assumes nothing.
-use mathlib.Core.Path.{◌≡◌, refl, ◌∙◌}
+use mathlib.Core.Path.{refl, ◌∙◌}
 use mathlib.Core.List.{List}
-use Prim.Native.Nat.{ℕ, ◌+◌, ◌-◌, ◌*◌, ◌<◌}
+use Prim.Native.Nat.{ℕ, ◌+◌, ◌*◌, ◌<◌}
 use native.Mathlib.Omega.{arith}
 use lib.ListN.{length, get_or, length-set}
 use Rattle.build.proofs.Places.{place-below}

@@ -1,8 +1,8 @@
 -- `build::lay::lay_out` meets its contract: the columns are made zero, the nodes laid out, the work places made zero. The
 -- loop's invariant: the first k nodes are laid out, and `at` is the number of their edges. The measure is what is left of the
 -- nodes. Assumes nothing.
-use mathlib.Core.Path.{◌≡◌, ◌∙◌}
-use Prim.Native.Nat.{◌-◌, ◌≤◌, ◌<◌}
+use mathlib.Core.Path.{◌∙◌}
+use Prim.Native.Nat.{◌<◌}
 use native.Mathlib.Omega.{arith}
 use lib.ListN.{length}
 use Rattle.build.specs.Laying.{AllReady}

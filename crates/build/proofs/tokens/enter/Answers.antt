@@ -1,7 +1,6 @@
 -- `build::tokens::enter` meets its contract. The loop's invariant: the first i bytes are entered. The measure is what is left
 -- of the token. Assumes nothing.
-use mathlib.Core.Path.{◌≡◌, refl}
-use Prim.Native.Nat.{◌-◌, ◌≤◌}
+use mathlib.Core.Path.{refl}
 use native.Mathlib.Omega.{arith}
 use Rattle.build.proofs.Entering.{roomy-kept, kept_on, along-start, along-fits, along-turn}
 use Rattle.build.proofs.Entering.{along-full, along-end, along-enterable}

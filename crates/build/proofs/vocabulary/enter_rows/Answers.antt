@@ -1,6 +1,5 @@
 -- `build::vocabulary::enter_rows` meets its contract. The loop's invariant: the first i rows are entered, or there was no room
 -- for them. The measure is what is left of them. Assumes nothing.
-use Prim.Native.Nat.{◌-◌, ◌≤◌}
 use native.Mathlib.Omega.{arith}
 use Rattle.build.specs.Held.{Roomy}
 use Rattle.build.proofs.Entering.{roomy-kept}

@@ -1,7 +1,7 @@
 -- `cutting::path::count` meets its contract. The loop's invariant: the pieces counted and those before `at` are all. The start
 -- of a record lies below it, so `at` falls. Assumes nothing.
 use mathlib.Core.Path.{◌≡◌, ap}
-use Prim.Native.Nat.{ℕ, ◌+◌}
+use Prim.Native.Nat.{ℕ}
 use native.Mathlib.Omega.{arith}
 use lib.ListN.{length, get_or}
 use Rattle.cutting.specs.Tracing.{ends_from}

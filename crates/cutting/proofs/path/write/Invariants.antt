@@ -1,6 +1,6 @@
-use mathlib.Core.Path.{◌≡◌, ◌∙◌}
-use mathlib.Core.List.{◌∷◌, ◌++◌}
-use Prim.Native.Nat.{◌+◌, ◌-◌, ◌<◌}
+use mathlib.Core.Path.{◌≡◌}
+use mathlib.Core.List.{◌++◌}
+use Prim.Native.Nat.{◌+◌}
 use lib.ListN.{length, drop}
 use Rattle.refusal.specs.Places.{overlay}
 use Rattle.cutting.specs.Tracing.{ends_from}

@@ -9,13 +9,13 @@ use Rattle.exports.proofs.builds.built_number.Goals as goal
 pub returns-in-Built : goal.returns-in-Built
 unfolding told
 returns-in-Built c = (
-      sym (ap (λ x. told_number (told x)) c.in-Built.is),
-      c.put_score.ensures ∙ sym (ap (λ x. told_score (told x) (map units c.args.unknown_score.now)) c.in-Built.is),
-    )
+  sym (ap (λ x. told_number (told x)) c.in-Built.is),
+  c.put_score.ensures ∙ sym (ap (λ x. told_score (told x) (map units c.args.unknown_score.now)) c.in-Built.is),
+)
 
 pub returns-in-Refused : goal.returns-in-Refused
 unfolding told
 returns-in-Refused c = (
-      c.reason_number.ensures ∙ sym (ap (λ x. told_number (told x)) c.in-Refused.is),
-      sym (ap (λ x. told_score (told x) (map units c.args.unknown_score.now)) c.in-Refused.is),
-    )
+  c.reason_number.ensures ∙ sym (ap (λ x. told_number (told x)) c.in-Refused.is),
+  sym (ap (λ x. told_score (told x) (map units c.args.unknown_score.now)) c.in-Refused.is),
+)

@@ -12,7 +12,6 @@ use Rattle.output.specs.Output.{max_output, output}
 use Rattle.output.specs.Put.{Put}
 use Rattle.output.proofs.Putting.{put-over}
 use Rattle.exports.specs.Flat.{PrintedAs}
-use Rattle.exports.proofs.packs.sk_print.Goals as goal
 
 module _ (bytes input before : List ℕ) where
   abbrev text : List ℕ

@@ -1,7 +1,7 @@
 -- `output::coded::put_lines` meets its contract. The loop's invariant: the lines before `from` are printed, and the scratch
 -- is as long as it was lent. The measure is what is left of the input, and one for an LF that it may lack. Assumes nothing.
 use mathlib.Core.List.{List}
-use Prim.Native.Nat.{ℕ, ◌+◌, ◌-◌, ◌≤◌}
+use Prim.Native.Nat.{ℕ, ◌≤◌}
 use native.Mathlib.Omega.{arith}
 use lib.ListN.{length}
 use Rattle.coder.specs.Columns.{vocabulary_of}

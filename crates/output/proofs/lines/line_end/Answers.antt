@@ -1,7 +1,6 @@
 -- `output::lines::line_end` meets its contract. The loop's invariant: the line that begins at `from` ends where what is left of
 -- it ends. The measure is what is left. Assumes nothing.
-use mathlib.Core.Path.{◌≡◌, ◌∙◌}
-use Prim.Native.Nat.{◌+◌, ◌-◌, ◌≤◌}
+use mathlib.Core.Path.{◌∙◌}
 use native.Mathlib.Omega.{arith}
 use Rattle.output.proofs.Ending.{until-here, until-next, until_end}
 use Rattle.output.proofs.lines.line_end.Goals as goal

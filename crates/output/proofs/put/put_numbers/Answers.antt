@@ -1,6 +1,5 @@
 -- `output::put::put_numbers` meets its contract. The loop's invariant: the first i numbers are put, and took at most 11 bytes
 -- each. The measure is what is left. Assumes nothing.
-use Prim.Native.Nat.{◌+◌, ◌-◌, ◌*◌, ◌≤◌}
 use native.Mathlib.Omega.{arith}
 use Rattle.output.specs.Lines.{spaced}
 use Rattle.output.proofs.Putting.{along-start, along-turn}

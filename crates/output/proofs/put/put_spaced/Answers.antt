@@ -1,6 +1,5 @@
 -- `output::put::put_spaced` meets its contract: a space, and the digits after it, of which there are at most ten. Assumes
 -- nothing.
-use mathlib.Core.Path.{◌∙◌}
 use Prim.Native.Nat.{◌≤◌}
 use native.Mathlib.Omega.{arith}
 use lib.ListN.{length, length-set}

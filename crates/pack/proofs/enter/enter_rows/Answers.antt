@@ -1,6 +1,5 @@
 -- `pack::enter::enter_rows` meets its contract. The loop's invariant: the first i rows are entered, or there was no room for
 -- them. The measure is what is left of them. Assumes nothing.
-use Prim.Native.Nat.{◌-◌, ◌≤◌}
 use native.Mathlib.Omega.{arith}
 use Rattle.build.specs.Held.{Roomy}
 use Rattle.build.proofs.Entering.{roomy-kept}
@@ -26,10 +25,10 @@ enter_row-n-requires c =
 
 pub loop-i-preserved : goal.loop-i-preserved
 loop-i-preserved c = (
-      omega (arith, c.loop-i-test.true),
-      rowed-turn c.loop-i.invariant.1 (rest-next c.args.kind c.args.bytes.now c.args.rows c.loop-i.i c.loop-i-test.true)
-          (omega (arith, c.loop-i-test.true, c.requires.0.few)) c.if-room-n.false c.enter_row-n.ensures c.enter_row-n.auto.edge_n c.enter_row-n.auto.id c.enter_row-n.auto.work,
-    )
+  omega (arith, c.loop-i-test.true),
+  rowed-turn c.loop-i.invariant.1 (rest-next c.args.kind c.args.bytes.now c.args.rows c.loop-i.i c.loop-i-test.true)
+      (omega (arith, c.loop-i-test.true, c.requires.0.few)) c.if-room-n.false c.enter_row-n.ensures c.enter_row-n.auto.edge_n c.enter_row-n.auto.id c.enter_row-n.auto.work,
+)
 
 pub returns : goal.returns
 returns c = rowed-end c.loop-i.invariant.1 (rest-none c.args.kind c.args.bytes.now c.args.rows c.loop-i.i c.loop-i-test.false)

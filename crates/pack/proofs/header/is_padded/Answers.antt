@@ -1,12 +1,9 @@
 -- `pack::header::is_padded` meets its contract. The loop's invariant: the rows below i are padded. The measure is what is left
 -- of them. Assumes nothing.
-use mathlib.Core.Path.{◌≡◌, sym, ◌∙◌}
-use mathlib.Core.Bool.{true}
-use Prim.Native.Nat.{◌+◌, ◌-◌, ◌*◌, ◌≤◌}
+use mathlib.Core.Path.{sym, ◌∙◌}
 use native.Mathlib.Omega.{arith}
 use borrow.Author.Tests.{eq-eqb, ne_eqb}
 use Rattle.trie.proofs.Every.{every-none, every_more, every-fails}
-use Rattle.pack.specs.Pack.{word}
 use Rattle.pack.proofs.header.is_padded.Invariants.{padded}
 use Rattle.pack.proofs.header.is_padded.Goals as goal
 
@@ -20,6 +17,6 @@ returns-then-word-ne0 c = sym
 
 pub loop-i-preserved : goal.loop-i-preserved
 loop-i-preserved c = (
-      omega (arith, c.loop-i-test.true),
-      every_more (padded c.args.bytes.now) c.loop-i.i c.loop-i.invariant.1 (eq-eqb _ 0 (sym c.word.ensures ∙ c.if-word-ne0.false)),
-    )
+  omega (arith, c.loop-i-test.true),
+  every_more (padded c.args.bytes.now) c.loop-i.i c.loop-i.invariant.1 (eq-eqb _ 0 (sym c.word.ensures ∙ c.if-word-ne0.false)),
+)

@@ -38,7 +38,7 @@ returns-in-Refused c =
     let sized : c.is_large.result ≡ large_header (header_of c.args.bytes.now) = c.is_large.ensures ∙ ap large_header c.requires.0 in
     let not-large : large_header (header_of c.args.bytes.now) ≡ false = sym (sized) ∙ c.if-is_large.false in
     let start_is : c.args.h.strings_off ≡ (header_of c.args.bytes.now).strings_off = ap (λ (h : Header). h.strings_off) c.requires.0 in
-    let rows_are : (    reason_in c.first_bad-found.result ≡ first_bad c.args.kind (strings_of c.args.bytes.now) 0 (rows_of c.args.kind c.args.bytes.now)) = c.first_bad-found.ensures ∙ ap (λ (tab : List ℕ). first_bad c.args.kind tab 0 (rows_from c.args.kind c.args.bytes.now 36 c.args.h.rows)) (strings-are c.args.bytes.now c.args.h.strings_off (start_is)) ∙ ap (λ (h : Header). first_bad c.args.kind (strings_of c.args.bytes.now) 0 (rows_from c.args.kind c.args.bytes.now 36 h.rows)) c.requires.0 in
+    let rows_are : (reason_in c.first_bad-found.result ≡ first_bad c.args.kind (strings_of c.args.bytes.now) 0 (rows_of c.args.kind c.args.bytes.now)) = c.first_bad-found.ensures ∙ ap (λ (tab : List ℕ). first_bad c.args.kind tab 0 (rows_from c.args.kind c.args.bytes.now 36 c.args.h.rows)) (strings-are c.args.bytes.now c.args.h.strings_off (start_is)) ∙ ap (λ (h : Header). first_bad c.args.kind (strings_of c.args.bytes.now) 0 (rows_from c.args.kind c.args.bytes.now 36 h.rows)) c.requires.0 in
     sym (before-rows c.args.kind c.args.bytes.now (not-large) (sym (rows_are) ∙ ap reason_in c.in-Refused.is))
 
 pub returns-in-Bad : goal.returns-in-Bad
@@ -47,9 +47,9 @@ returns-in-Bad c =
     let sized : c.is_large.result ≡ large_header (header_of c.args.bytes.now) = c.is_large.ensures ∙ ap large_header c.requires.0 in
     let not-large : large_header (header_of c.args.bytes.now) ≡ false = sym (sized) ∙ c.if-is_large.false in
     let start_is : c.args.h.strings_off ≡ (header_of c.args.bytes.now).strings_off = ap (λ (h : Header). h.strings_off) c.requires.0 in
-    let prefix-is : (    let h = header_of c.args.bytes.now in TextAnswered (strings_of c.args.bytes.now) h.prefix_off h.prefix_len c.text_answer-spelled.result) = subst (λ (h : Header). TextAnswered (strings_of c.args.bytes.now) h.prefix_off h.prefix_len c.text_answer-spelled.result) c.requires.0 (subst (λ (tab : List ℕ). TextAnswered tab c.args.h.prefix_off c.args.h.prefix_len c.text_answer-spelled.result) (strings-are c.args.bytes.now c.args.h.strings_off (start_is)) c.text_answer-spelled.ensures) in
-    let rows_are : (    reason_in c.first_bad-found.result ≡ first_bad c.args.kind (strings_of c.args.bytes.now) 0 (rows_of c.args.kind c.args.bytes.now)) = c.first_bad-found.ensures ∙ ap (λ (tab : List ℕ). first_bad c.args.kind tab 0 (rows_from c.args.kind c.args.bytes.now 36 c.args.h.rows)) (strings-are c.args.bytes.now c.args.h.strings_off (start_is)) ∙ ap (λ (h : Header). first_bad c.args.kind (strings_of c.args.bytes.now) 0 (rows_from c.args.kind c.args.bytes.now 36 h.rows)) c.requires.0 in
-    let fine : (    first_bad c.args.kind (strings_of c.args.bytes.now) 0 (rows_of c.args.kind c.args.bytes.now) ≡ none) = sym (rows_are) ∙ ap reason_in c.in_default.is in
+    let prefix-is : (let h = header_of c.args.bytes.now in TextAnswered (strings_of c.args.bytes.now) h.prefix_off h.prefix_len c.text_answer-spelled.result) = subst (λ (h : Header). TextAnswered (strings_of c.args.bytes.now) h.prefix_off h.prefix_len c.text_answer-spelled.result) c.requires.0 (subst (λ (tab : List ℕ). TextAnswered tab c.args.h.prefix_off c.args.h.prefix_len c.text_answer-spelled.result) (strings-are c.args.bytes.now c.args.h.strings_off (start_is)) c.text_answer-spelled.ensures) in
+    let rows_are : (reason_in c.first_bad-found.result ≡ first_bad c.args.kind (strings_of c.args.bytes.now) 0 (rows_of c.args.kind c.args.bytes.now)) = c.first_bad-found.ensures ∙ ap (λ (tab : List ℕ). first_bad c.args.kind tab 0 (rows_from c.args.kind c.args.bytes.now 36 c.args.h.rows)) (strings-are c.args.bytes.now c.args.h.strings_off (start_is)) ∙ ap (λ (h : Header). first_bad c.args.kind (strings_of c.args.bytes.now) 0 (rows_from c.args.kind c.args.bytes.now 36 h.rows)) c.requires.0 in
+    let fine : (first_bad c.args.kind (strings_of c.args.bytes.now) 0 (rows_of c.args.kind c.args.bytes.now) ≡ none) = sym (rows_are) ∙ ap reason_in c.in_default.is in
     let table : length (strings_of c.args.bytes.now) ≤ max_table = omega (arith, strings-length c.args.bytes.now c.requires.1, small-table (header_of c.args.bytes.now) (not-large)) in
     sym (before-prefix c.args.kind c.args.bytes.now (not-large) (fine) (table) ∙ ap called ((refused-exactly (prefix-is) _).0 c.in-Bad.is))
 
@@ -59,9 +59,9 @@ returns-in-Fine c =
     let sized : c.is_large.result ≡ large_header (header_of c.args.bytes.now) = c.is_large.ensures ∙ ap large_header c.requires.0 in
     let not-large : large_header (header_of c.args.bytes.now) ≡ false = sym (sized) ∙ c.if-is_large.false in
     let start_is : c.args.h.strings_off ≡ (header_of c.args.bytes.now).strings_off = ap (λ (h : Header). h.strings_off) c.requires.0 in
-    let prefix-is : (    let h = header_of c.args.bytes.now in TextAnswered (strings_of c.args.bytes.now) h.prefix_off h.prefix_len c.text_answer-spelled.result) = subst (λ (h : Header). TextAnswered (strings_of c.args.bytes.now) h.prefix_off h.prefix_len c.text_answer-spelled.result) c.requires.0 (subst (λ (tab : List ℕ). TextAnswered tab c.args.h.prefix_off c.args.h.prefix_len c.text_answer-spelled.result) (strings-are c.args.bytes.now c.args.h.strings_off (start_is)) c.text_answer-spelled.ensures) in
-    let rows_are : (    reason_in c.first_bad-found.result ≡ first_bad c.args.kind (strings_of c.args.bytes.now) 0 (rows_of c.args.kind c.args.bytes.now)) = c.first_bad-found.ensures ∙ ap (λ (tab : List ℕ). first_bad c.args.kind tab 0 (rows_from c.args.kind c.args.bytes.now 36 c.args.h.rows)) (strings-are c.args.bytes.now c.args.h.strings_off (start_is)) ∙ ap (λ (h : Header). first_bad c.args.kind (strings_of c.args.bytes.now) 0 (rows_from c.args.kind c.args.bytes.now 36 h.rows)) c.requires.0 in
-    let fine : (    first_bad c.args.kind (strings_of c.args.bytes.now) 0 (rows_of c.args.kind c.args.bytes.now) ≡ none) = sym (rows_are) ∙ ap reason_in c.in_default.is in
+    let prefix-is : (let h = header_of c.args.bytes.now in TextAnswered (strings_of c.args.bytes.now) h.prefix_off h.prefix_len c.text_answer-spelled.result) = subst (λ (h : Header). TextAnswered (strings_of c.args.bytes.now) h.prefix_off h.prefix_len c.text_answer-spelled.result) c.requires.0 (subst (λ (tab : List ℕ). TextAnswered tab c.args.h.prefix_off c.args.h.prefix_len c.text_answer-spelled.result) (strings-are c.args.bytes.now c.args.h.strings_off (start_is)) c.text_answer-spelled.ensures) in
+    let rows_are : (reason_in c.first_bad-found.result ≡ first_bad c.args.kind (strings_of c.args.bytes.now) 0 (rows_of c.args.kind c.args.bytes.now)) = c.first_bad-found.ensures ∙ ap (λ (tab : List ℕ). first_bad c.args.kind tab 0 (rows_from c.args.kind c.args.bytes.now 36 c.args.h.rows)) (strings-are c.args.bytes.now c.args.h.strings_off (start_is)) ∙ ap (λ (h : Header). first_bad c.args.kind (strings_of c.args.bytes.now) 0 (rows_from c.args.kind c.args.bytes.now 36 h.rows)) c.requires.0 in
+    let fine : (first_bad c.args.kind (strings_of c.args.bytes.now) 0 (rows_of c.args.kind c.args.bytes.now) ≡ none) = sym (rows_are) ∙ ap reason_in c.in_default.is in
     let table : length (strings_of c.args.bytes.now) ≤ max_table = omega (arith, strings-length c.args.bytes.now c.requires.1, small-table (header_of c.args.bytes.now) (not-large)) in
     sym (before-prefix c.args.kind c.args.bytes.now (not-large) (fine) (table) ∙ ap called ((accepted-exactly (prefix-is)).0 c.in-Fine.is))
 

@@ -1,7 +1,6 @@
 -- `pack::row::first_bad` meets its contract. The loop's invariant: what is first bad of all rows is what is first bad from row
 -- i on. The measure is what is left of the rows. Assumes nothing.
 use mathlib.Core.Path.{◌≡◌, sym, ap, ◌∙◌}
-use Prim.Native.Nat.{◌-◌, ◌≤◌}
 use native.Mathlib.Omega.{arith}
 use Rattle.rows.specs.Rows.{row_fault}
 use Rattle.refusal.specs.Refusal.{fault_in}
@@ -20,8 +19,7 @@ returns-in-Bad c =
 
 pub loop-i-preserved : goal.loop-i-preserved
 loop-i-preserved c =
-    let judged : (fault_in c.row_fault.result ≡ row_fault c.args.kind c.args.strings.now (row_at c.args.kind c.args.bytes.now (row_start c.loop-i.i))) = c.row_fault.ensures ∙ c.row_at-row.ensures.faults c.args.strings.now in
-    (
+    let judged : (fault_in c.row_fault.result ≡ row_fault c.args.kind c.args.strings.now (row_at c.args.kind c.args.bytes.now (row_start c.loop-i.i))) = c.row_fault.ensures ∙ c.row_at-row.ensures.faults c.args.strings.now in (
       omega (arith, c.loop-i-test.true),
       c.loop-i.invariant.1
           ∙ bad-turn c.args.kind c.args.bytes.now c.args.rows c.args.strings.now c.loop-i.i c.loop-i-test.true

@@ -1,8 +1,8 @@
 -- `pack::scores::fill` meets its contract. The loop's invariant: the places below k hold the scores of their nodes, the others
 -- are as they were made, zero. What is left of the n nodes falls. Assumes nothing.
-use mathlib.Core.Path.{◌≡◌, subst, ◌∙◌}
+use mathlib.Core.Path.{◌≡◌, subst}
 use mathlib.Core.List.{List, map}
-use Prim.Native.Nat.{ℕ, ◌-◌, ◌≤◌, ◌<◌}
+use Prim.Native.Nat.{ℕ, ◌<◌}
 use native.Mathlib.Omega.{arith}
 use lib.ListN.{length, length-map}
 use Rattle.doubles.specs.Double.{Double, plus_zero}
@@ -16,8 +16,7 @@ use Rattle.pack.proofs.scores.fill.Goals as goal
 pub loop-k-preserved : goal.loop-k-preserved
 loop-k-preserved c =
     let zeros-kept : length c.zero.new.s ≡ length c.args.node_score.now = c.zero.auto.s in
-    let place : c.loop-k.k < c.args.n → c.loop-k.k < length c.loop-k.node_score = λ l.     omega (arith, l, c.loop-k.invariant.1.kept, length-map c.zero.new.s units, zeros-kept, c.requires.1.1) in
-    (
+    let place : c.loop-k.k < c.args.n → c.loop-k.k < length c.loop-k.node_score = λ l. omega (arith, l, c.loop-k.invariant.1.kept, length-map c.zero.new.s units, zeros-kept, c.requires.1.1) in (
       omega (arith, c.loop-k-test.true),
       stored_more c.loop-k.invariant.1 c.score_of.result (place c.loop-k-test.true) c.score_of.ensures,
     )

@@ -1,5 +1,5 @@
-use mathlib.Core.Path.{◌≡◌, ◌∙◌}
-use Prim.Native.Nat.{◌+◌, ◌-◌, ◌≤◌}
+use mathlib.Core.Path.{◌≡◌}
+use Prim.Native.Nat.{◌-◌, ◌≤◌}
 use Rattle.doubles.specs.Units.{units}
 use Rattle.rows.specs.declared.Kind.TheVariants.{Unigram}
 use Rattle.rows.specs.Scores.{lowest}

@@ -1,7 +1,6 @@
 -- `rows::checked::first_bad` meets its contract. The loop's invariant: what is first bad of all rows is what is first bad from
 -- row i on. The measure is what is left of the rows. Assumes nothing.
 use mathlib.Core.Path.{◌≡◌, sym, ap, ◌∙◌}
-use Prim.Native.Nat.{◌-◌, ◌≤◌}
 use native.Mathlib.Numerals.{add-one}
 use native.Mathlib.Omega.{arith}
 use Rattle.refusal.specs.Refusal.{fault_in}
@@ -23,8 +22,7 @@ returns-in-Bad c =
 
 pub loop-i-preserved : goal.loop-i-preserved
 loop-i-preserved c =
-    let turn : fault_in c.row_fault.result ≡ row_fault c.args.kind c.args.tab.now (row_at (let a = c.args in columns a.off.now a.len.now a.scored.now a.score.now a.id.now) c.loop-i.i) = let a = c.args in c.row_fault.ensures ∙ ap (row_fault a.kind a.tab.now) c.row_at-row.ensures in
-    (
+    let turn : fault_in c.row_fault.result ≡ row_fault c.args.kind c.args.tab.now (row_at (let a = c.args in columns a.off.now a.len.now a.scored.now a.score.now a.id.now) c.loop-i.i) = let a = c.args in c.row_fault.ensures ∙ ap (row_fault a.kind a.tab.now) c.row_at-row.ensures in (
       omega arith,
       c.loop-i.invariant.1
           ∙ bad-turn c.args.kind c.args.tab.now (let a = c.args in columns a.off.now a.len.now a.scored.now a.score.now a.id.now) c.loop-i.i (omega arith) (sym (turn) ∙ ap fault_in c.in_default.is)

@@ -3,7 +3,6 @@
 use mathlib.Core.Path.{◌≡◌}
 use Prim.Native.Nat.{ℕ, ◌≤◌, ◌<◌, min}
 use native.Mathlib.Omega.{arith}
-use Rattle.scored.proofs.checked.room.Goals as goal
 
 right : (a b : ℕ) {r : ℕ} → r ≡ a → b < r → b ≡ min a b
 right a b e h = omega (arith, e, h)

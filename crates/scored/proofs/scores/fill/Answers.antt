@@ -1,8 +1,8 @@
 -- `scored::scores::fill` meets its contract. The loop's invariant: the places below k hold the scores of their nodes, the
 -- others are as they were made, zero. What is left of the n nodes falls. Assumes nothing.
-use mathlib.Core.Path.{◌≡◌, subst, ◌∙◌}
+use mathlib.Core.Path.{◌≡◌, subst}
 use mathlib.Core.List.{List, map}
-use Prim.Native.Nat.{ℕ, ◌-◌, ◌≤◌, ◌<◌}
+use Prim.Native.Nat.{ℕ, ◌<◌}
 use native.Mathlib.Omega.{arith}
 use lib.ListN.{length, length-map}
 use Rattle.doubles.specs.Double.{Double, plus_zero}

@@ -1,7 +1,5 @@
 -- `scored::scores::zero` meets its contract. The loop's invariant: the places below i are zero. The measure is what is left.
 -- Assumes nothing.
-use mathlib.Core.Path.{◌∙◌}
-use Prim.Native.Nat.{◌-◌}
 use Rattle.doubles.proofs.Patterns.{zero-units}
 use Rattle.scored.proofs.Storing.{stored_more, stored-zeros}
 use Rattle.scored.proofs.scores.zero.Goals as goal

@@ -1,4 +1,3 @@
-use mathlib.Core.Path.{◌∙◌}
 use mathlib.Core.List.{map}
 use Prim.Native.Nat.{◌-◌}
 use lib.ListN.{length}

@@ -1,7 +1,7 @@
 -- `text::strides::is_ascii` meets its contract. The loop's invariant: where every byte so far was counted, all are ASCII; a
 -- byte is counted exactly where it is below 128. Assumes nothing.
 use mathlib.Core.Path.{◌≡◌}
-use Prim.Native.Nat.{◌+◌, ◌-◌, ◌≤◌, ◌<◌}
+use Prim.Native.Nat.{◌+◌, ◌-◌, ◌≤◌}
 use Rattle.text.specs.Passing.{Ascii}
 use Rattle.text.proofs.strides.is_ascii.Given as goal
 

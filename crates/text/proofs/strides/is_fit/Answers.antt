@@ -1,11 +1,9 @@
 -- `text::strides::is_fit` meets its contract. The loop's invariant: where every byte so far was counted, each may stand before
 -- the next two. The measure is what is left of the block. Assumes nothing.
-use mathlib.Core.Path.{◌≡◌}
 use mathlib.Core.List.{List}
-use Prim.Native.Nat.{ℕ, ◌+◌, ◌-◌, ◌≤◌}
+use Prim.Native.Nat.{ℕ, ◌+◌}
 use lib.ListN.{get_or}
 use Rattle.text.specs.Passing.{Fits}
-use Rattle.text.proofs.strides.is_fit.Goals as goal
 
 -- the byte at a place may stand before the next two
 -- the way back to the loop's head from after the call

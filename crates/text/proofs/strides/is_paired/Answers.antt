@@ -1,11 +1,9 @@
 -- `text::strides::is_paired` meets its contract. The loop's invariant: where every byte so far was counted, each may stand
 -- before the next. The measure is what is left of the block. Assumes nothing.
-use mathlib.Core.Path.{◌≡◌}
 use mathlib.Core.List.{List}
-use Prim.Native.Nat.{ℕ, ◌+◌, ◌-◌, ◌≤◌}
+use Prim.Native.Nat.{ℕ, ◌+◌}
 use lib.ListN.{get_or}
 use Rattle.text.specs.Passing.{Follows}
-use Rattle.text.proofs.strides.is_paired.Goals as goal
 
 -- the byte at a place may stand before the next
 -- the way back to the loop's head from after the call

@@ -1,6 +1,6 @@
 -- `text::strides::past_ascii` meets its contract. The loop's invariant is the contract's, of what was passed so far; a turn
 -- passes a byte, and then the blocks after it. Assumes nothing.
-use Prim.Native.Nat.{◌+◌, ◌-◌}
+use Prim.Native.Nat.{◌+◌}
 use native.Mathlib.Omega.{arith}
 use Rattle.text.specs.Passing.{Passed}
 use Rattle.text.proofs.Passing.{passed_on, passed-byte}

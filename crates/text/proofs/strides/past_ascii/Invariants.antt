@@ -1,4 +1,4 @@
-use Prim.Native.Nat.{◌+◌, ◌-◌}
+use Prim.Native.Nat.{◌-◌}
 use lib.ListN.{length}
 use Rattle.text.specs.Passing.{Passed}
 use Rattle.text.proofs.strides.past_ascii.Given as goal

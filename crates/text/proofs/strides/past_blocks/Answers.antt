@@ -1,6 +1,6 @@
 -- `text::strides::past_blocks` meets its contract. The loop's invariant is the contract's, of what was passed so far. Assumes
 -- nothing.
-use Prim.Native.Nat.{◌+◌, ◌-◌}
+use Prim.Native.Nat.{◌+◌}
 use native.Mathlib.Omega.{arith}
 use Rattle.text.proofs.Passing.{passed_on, passed-ascii}
 use Rattle.text.proofs.strides.past_blocks.Goals as goal

@@ -1,6 +1,6 @@
 -- `text::strides::past_same` meets its contract. The loop's invariant is the contract's, of what was passed so far; a turn
 -- passes a character. What is left of the length falls. Assumes nothing.
-use Prim.Native.Nat.{◌+◌, ◌-◌}
+use Prim.Native.Nat.{◌+◌}
 use native.Mathlib.Omega.{arith}
 use Rattle.text.proofs.Passing.{passed_on, passed-character}
 use Rattle.text.proofs.strides.past_same.Goals as goal

@@ -1,11 +1,10 @@
 -- `trie::checked::first_step` meets its contract: the place of the byte is a node or the mark. Assumes nothing.
-use mathlib.Core.Path.{◌≡◌, refl, ◌∙◌}
+use mathlib.Core.Path.{◌≡◌, refl}
 use mathlib.Core.List.{List, [], ◌∷◌}
 use Prim.Native.Nat.{ℕ, zero, suc, ◌<◌}
 use native.Mathlib.Omega.{arith}
 use lib.ListN.{length, get_or}
 use Rattle.refusal.specs.Sizes.{no_id}
-use Rattle.trie.proofs.checked.first_step.Goals as goal
 
 -- a place inside, whatever is read outside
 -- the function's start, and that the byte has a place

@@ -1,7 +1,7 @@
 -- `trie::checked::seek` meets its contract. The loop's invariant: the byte's target among all the edges is its target among the
 -- `left` edges from `low` on. Their number falls. Assumes nothing.
 use mathlib.Core.Path.{◌≡◌, sym, ap, ◌∙◌}
-use Prim.Native.Nat.{ℕ, ◌+◌, ◌-◌, ◌*◌, ◌/◌, ◌≤◌}
+use Prim.Native.Nat.{ℕ, ◌+◌, ◌-◌, ◌*◌, ◌/◌}
 use native.Mathlib.Omega.{arith}
 use Rattle.trie.specs.Trie.{seek}
 use Rattle.trie.proofs.Seeking.{quarters}

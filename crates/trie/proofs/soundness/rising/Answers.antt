@@ -1,6 +1,5 @@
 -- `trie::soundness::rising` meets its contract. The loop's invariant: the i bytes so far rise. Assumes nothing.
-use mathlib.Core.Path.{◌≡◌, sym}
-use Prim.Native.Nat.{◌-◌, ◌≤◌}
+use mathlib.Core.Path.{sym}
 use native.Mathlib.Omega.{arith}
 use Rattle.trie.proofs.Every.{every-none}
 use Rattle.trie.proofs.SoundParts.{rises-more, rises-fails}

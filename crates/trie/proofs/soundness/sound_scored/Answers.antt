@@ -6,7 +6,7 @@ use lib.ListN.{length-map}
 use Rattle.doubles.specs.Double.{is_finite}
 use Rattle.doubles.specs.Units.{units}
 use Rattle.trie.specs.Trie.{parts_of}
-use Rattle.trie.specs.Sound.{sound, all_finite, sound_scored}
+use Rattle.trie.specs.Sound.{all_finite, sound_scored}
 use Rattle.trie.proofs.Every.{stopped, passed}
 use Rattle.trie.proofs.SoundParts.{scored-unknown, scored-uneven, scored-level}
 use Rattle.trie.proofs.soundness.sound_scored.Goals as goal

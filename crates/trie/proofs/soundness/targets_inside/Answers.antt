@@ -1,7 +1,6 @@
 -- `trie::soundness::targets_inside` meets its contract. The loop's invariant: the e targets so far are below the number of
 -- nodes. Assumes nothing.
-use mathlib.Core.Path.{◌≡◌, sym}
-use Prim.Native.Nat.{◌-◌, ◌≤◌}
+use mathlib.Core.Path.{sym}
 use native.Mathlib.Omega.{arith}
 use borrow.Author.Tests.{lt-ltb, le-ltb}
 use lib.ListN.{length, get_or}

@@ -1,8 +1,8 @@
 -- `unigram::runs::merge` meets its contract. The loop's invariant (`Going`): the ids written and those of the pieces left, with
 -- the run that is still to come, are all. The pieces left fall. Assumes nothing.
-use mathlib.Core.Path.{sym, ap, subst, ◌∙◌}
+use mathlib.Core.Path.{sym, ap, subst}
 use mathlib.Core.Option.{Option}
-use Prim.Native.Nat.{ℕ, ◌+◌, ◌-◌, ◌≤◌, ◌<◌}
+use Prim.Native.Nat.{ℕ, ◌+◌, ◌≤◌, ◌<◌}
 use native.Mathlib.Omega.{arith}
 use lib.ListN.{length, get_or}
 use Rattle.refusal.specs.Sizes.{no_id}

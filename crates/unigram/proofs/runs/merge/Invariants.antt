@@ -1,5 +1,4 @@
-use mathlib.Core.Path.{◌∙◌}
-use Prim.Native.Nat.{◌+◌, ◌-◌, ◌≤◌, ◌<◌}
+use Prim.Native.Nat.{◌-◌}
 use lib.ListN.{length}
 use Rattle.trie.specs.Trie.{parts_of}
 use Rattle.unigram.specs.Pieces.{part_id}

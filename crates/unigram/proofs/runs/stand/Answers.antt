@@ -1,6 +1,5 @@
 -- `unigram::runs::stand` meets its contract: nothing for the unknown id, else the run's id and the piece's. Assumes nothing.
-use mathlib.Core.Path.{◌≡◌, sym}
-use Prim.Native.Nat.{◌<◌}
+use mathlib.Core.Path.{sym}
 use Rattle.trie.specs.Trie.{parts_of}
 use Rattle.unigram.specs.Pieces.{part_id}
 use Rattle.unigram.proofs.Placing.{placed-none, placed-as, placed-more, closes, closes-not}

@@ -2,11 +2,10 @@
 -- completes what is to be written. The measure is how many are left. Assumes nothing.
 use mathlib.Core.Path.{◌≡◌, ap, ◌∙◌}
 use mathlib.Core.List.{List, ◌∷◌}
-use Prim.Native.Nat.{ℕ, suc, ◌+◌, ◌-◌, ◌≤◌, ◌<◌}
+use Prim.Native.Nat.{ℕ, suc, ◌≤◌, ◌<◌}
 use native.Mathlib.Omega.{arith}
 use lib.ListN.{length, get_or, take, drop}
 use lib.Seq.{length-take-le, drop-cons, get_or-take}
-use Rattle.wordpiece.proofs.checked.put_held.Goals as goal
 
 -- what is left begins with the held id k
 left : (held : List ℕ) (n k : ℕ) → n ≤ length held → k < n → drop k (take n held) ≡ get_or held k 0 ∷ drop (suc k) (take n held)
