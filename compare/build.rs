@@ -2,7 +2,7 @@
 //! function `text` are copied to the build folder, and a line after each copy includes the code that reads out what is
 //! private there (src/beside_unigram.rs and so on). Nothing of the sources stays in the repository.
 //!
-//! With the feature `port` the compiled port is linked too: target/staticlib/libexports.a, which `rt staticlib exports`
+//! With the feature `port` the compiled port is linked too: crates/exports/out/libexports.a, which `rt lib` in crates/exports
 //! writes.
 //!
 //! The sources are looked for in the folder that TOKIE_SRC names, else in ../shared/docs/src beside the repository.
@@ -38,7 +38,7 @@ fn main() {
     fs::write(out.join("narrow.rs"), narrow).unwrap();
 
     if env::var("CARGO_FEATURE_PORT").is_ok() {
-        let folder = here.join("../target/staticlib");
+        let folder = here.join("../crates/exports/out");
         println!("cargo:rerun-if-changed={}", folder.join("libexports.a").display());
         println!("cargo:rustc-link-search=native={}", folder.display());
         println!("cargo:rustc-link-lib=static=exports");

@@ -121,13 +121,13 @@ class Places(unittest.TestCase):
 
 
 STUB = """#!/bin/sh
-echo 'rt: low proved (3 s)'
+echo 'crate low: modules loaded=0 checked=3'
 sleep 2
-echo 'rt: other proved (9 s)'
-mkdir -p target/bin
-printf '#!/bin/sh\\nsed s/.*/0/\\n' > target/bin/ids
-chmod +x target/bin/ids
-echo 'rt: ids proved (unchanged since it was last proved)'
+echo 'crate other: modules loaded=0 checked=9'
+mkdir -p out
+printf '#!/bin/sh\\nsed s/.*/0/\\n' > out/ids
+chmod +x out/ids
+echo 'crate ids: modules loaded=2 checked=1'
 """
 
 
@@ -142,7 +142,7 @@ class Building(unittest.TestCase):
             os.makedirs(os.path.join(self.root, name))
         for source, place in ((RUN, "run"), (os.path.join(ROOT, "tools", "packs.py"), "tools/packs.py")):
             shutil.copy(source, os.path.join(self.root, place))
-        self.put("crates.txt", "low:\nother: low\nids: low libc\n")
+        self.put("crates.txt", "low:\nother: low\nids: low\n")
         self.put("bin/rt", STUB)
         os.chmod(os.path.join(self.root, "bin/rt"), 0o755)
         self.put("crates/low/src/lib.rt", "// low")
@@ -160,8 +160,8 @@ class Building(unittest.TestCase):
     def test_lines_for_crates_and_again_after_a_change(self):
         status, out, err = self.run_here()
         self.assertEqual((status, out), (0, b"0\n0\n"))
-        self.assertIn("1 of 2: low (3 s)", err)
-        self.assertIn("2 of 2: ids (unchanged", err)
+        self.assertIn("1 of 2: low,", err)
+        self.assertIn("2 of 2: ids,", err)
         self.assertNotIn("other", err)
         self.assertNotIn("proving", self.run_here()[2])
         source = os.path.join(self.root, "crates/low/src/lib.rt")
@@ -179,10 +179,10 @@ class Building(unittest.TestCase):
         self.assertEqual(first.communicate()[0], b"0\n0\n")
 
     def test_a_build_that_fails(self):
-        self.put("bin/rt", "#!/bin/sh\necho 'rt: low NOT PROVED'\nexit 1\n")
+        self.put("bin/rt", "#!/bin/sh\necho 'fn low::f: not proved'\nexit 1\n")
         status, out, err = self.run_here()
         self.assertEqual((status, out), (1, b""))
-        self.assertIn("NOT PROVED", err)
+        self.assertIn("not proved", err)
 
 
 if __name__ == "__main__":

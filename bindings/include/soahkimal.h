@@ -1,4 +1,4 @@
-/* Soahkimal for C: a comment's token ids. Link with target/staticlib/libexports.a, which `rt staticlib exports` writes.
+/* Soahkimal for C: a comment's token ids. Link with crates/exports/out/libexports.a, which `rt lib` in crates/exports writes.
  *
  * What a caller must keep. Nothing tests these, and the proofs rest on them.
  * - A buffer is a pointer and the number of its elements, not of its bytes. The pointer has at least that many elements

@@ -12,19 +12,19 @@ use crate::small;
 use crate::tokie::{self, Lattice, Parts, VocabTrie};
 
 const HEADER: &str = "-- Cases with the Rust's answers; each theorem is proved by computing.
-use mathlib.Core.Path.{_≡_, refl}
+use mathlib.Core.Path.{◌≡◌, refl}
 use mathlib.Core.Bool.{true}
-use mathlib.Core.List.{List, [], _∷_}
+use mathlib.Core.List.{List, [], ◌∷◌}
 use mathlib.Core.Option.{none}
-use Rattle·doubles.specs.Double.{ofPattern}
-use Rattle·rows.specs.Rows.{score, id}
-use Rattle·worked.specs.Example.{allOf}
-use Rattle·worked.proofs.Opened.{opened}
-use Rattle·trial·proofs.proofs.Trial.{UnigramTrial, WordpieceTrial, SpanTrial, slot, identical, allIdentical, sameTrie, sameSlot, sameSlots, saidAgrees, unigramAgrees, wordpieceAgrees, spanAgrees}
+use Rattle.doubles.specs.Double.{of_pattern}
+use Rattle.rows.specs.Rows.{score, id}
+use Rattle.worked.specs.Example.{all_of}
+use Rattle.worked.proofs.Opened.{opened}
+use Rattle.trial.proofs.Trial.{UnigramTrial, WordpieceTrial, SpanTrial, slot, identical, all_identical, same_trie, same_slot, same_slots, said_agrees, unigram_agrees, wordpiece_agrees, span_agrees}
 ";
 
 const OPENED: &str =
-    "opened identical allIdentical sameTrie sameSlot sameSlots saidAgrees unigramAgrees wordpieceAgrees spanAgrees";
+    "opened identical all_identical same_trie same_slot same_slots said_agrees unigram_agrees wordpiece_agrees span_agrees";
 
 fn list<T>(xs: impl IntoIterator<Item = T>, show: impl Fn(T) -> String) -> String {
     let mut out = String::from("(");
@@ -41,7 +41,7 @@ fn numbers<T: Copy + Into<u64>>(xs: &[T]) -> String {
 fn trie(p: &Parts) -> String {
     let columns = [numbers(&p.edge_at), numbers(&p.edge_n), numbers(&p.id), numbers(&p.byte), numbers(&p.to)];
     let [at, n, id, byte, to] = columns;
-    format!("record {{ edgeAt = {at}; edgeN = {n}; id = {id}; byte = {byte}; to = {to} }}")
+    format!("record {{ edge_at = {at}; edge_n = {n}; id = {id}; byte = {byte}; to = {to} }}")
 }
 
 fn entry(token: &str, worth: String) -> String {
@@ -78,16 +78,16 @@ fn write_unigram(w: &mut Written, r: &mut Random, k: usize) {
         let (text, path, ids) = (numbers(s.as_bytes()), numbers(&a.path), numbers(&a.ids));
         format!("record {{ text = {text}; slots = {slots}; path = {path}; ids = {ids} }}")
     });
-    let entries = list(&v.rows, |(t, x)| entry(t, format!("score (ofPattern {})", x.to_bits())));
+    let entries = list(&v.rows, |(t, x)| entry(t, format!("score (of_pattern {})", x.to_bits())));
     let scores = list(&parts.score, |x| x.to_bits().to_string());
     let value = format!(
-        "record {{ entries = {entries}; unknown = {}; trie = {}; score = {scores}; unknownScore = {}; said = {said} }}",
+        "record {{ entries = {entries}; unknown = {}; trie = {}; score = {scores}; unknown_score = {}; said = {said} }}",
         v.unknown,
         trie(&parts),
         parts.unknown_score.to_bits()
     );
     let name = format!("unigram{k}");
-    theorem(&mut w.text, &name, "UnigramTrial", "unigramAgrees", &value);
+    theorem(&mut w.text, &name, "UnigramTrial", "unigram_agrees", &value);
     w.about.push((name, format!("{v:?} {texts:?}")));
     w.cases += texts.len();
 }
@@ -108,7 +108,7 @@ fn write_wordpiece(w: &mut Written, r: &mut Random, k: usize) {
         }
     }
     let said = list(&words, |(word, max_chars, ids)| {
-        format!("record {{ word = {}; maxChars = {max_chars}; ids = {} }}", numbers(word.as_bytes()), numbers(ids))
+        format!("record {{ word = {}; max_chars = {max_chars}; ids = {} }}", numbers(word.as_bytes()), numbers(ids))
     });
     let entries = list(&v.rows, |(t, i)| entry(t, format!("id {i}")));
     let (prefix, parts) = (numbers(v.prefix.as_bytes()), trie(&built.parts()));
@@ -117,7 +117,7 @@ fn write_wordpiece(w: &mut Written, r: &mut Random, k: usize) {
         v.unknown
     );
     let name = format!("wordpiece{k}");
-    theorem(&mut w.text, &name, "WordpieceTrial", "wordpieceAgrees", &value);
+    theorem(&mut w.text, &name, "WordpieceTrial", "wordpiece_agrees", &value);
     w.about.push((name, format!("{v:?} {words:?}")));
     w.cases += words.len();
 }
@@ -135,7 +135,7 @@ fn write_spans(w: &mut Written, r: &mut Random, k: usize) {
         cases.push(format!("record {{ table = {}; off = {off}; len = {len}; fault = {fault} }}", numbers(&table)));
     }
     let name = format!("spans{k}");
-    theorem(&mut w.text, &name, "List SpanTrial", "allOf spanAgrees", &list(&cases, |c| c.clone()));
+    theorem(&mut w.text, &name, "List SpanTrial", "all_of span_agrees", &list(&cases, |c| c.clone()));
     w.cases += cases.len();
     w.about.push((name, about));
 }
@@ -156,25 +156,28 @@ fn write_cases(seed: u64, count: usize) -> Written {
     w
 }
 
-/// A folder with the repository's crates, what is proved of them, and the crate `trial`.
+/// A folder with copies of the repository's crates, of which the checker knows what is proved, and the crate `trial`.
 fn lay_out(root: &Path, folder: &Path, cases: &str) {
     let crates = fs::read_to_string(root.join("crates.txt")).expect("the repository has crates.txt");
-    let names: Vec<&str> =
-        crates.lines().filter_map(|l| l.split('#').next()?.split_once(':')).map(|l| l.0.trim()).collect();
+    let lines = crates.lines().filter_map(|l| l.split('#').next()?.split_once(':'));
+    let names: Vec<&str> = lines.filter_map(|l| l.0.split_whitespace().next()).collect();
+    for name in &names {
+        let to = folder.join("crates").join(name);
+        fs::create_dir_all(&to).unwrap();
+        for part in ["src", "specs", "proofs"] {
+            let from = root.join("crates").join(name).join(part);
+            if from.is_dir() {
+                let copied = Command::new("cp").arg("-r").arg(from).arg(&to).status();
+                assert!(copied.is_ok_and(|s| s.success()), "{name} is copied");
+            }
+        }
+    }
     fs::create_dir_all(folder.join("crates/trial/src")).unwrap();
     fs::create_dir_all(folder.join("crates/trial/proofs")).unwrap();
-    fs::create_dir_all(folder.join("target")).unwrap();
-    for name in &names {
-        std::os::unix::fs::symlink(root.join("crates").join(name), folder.join("crates").join(name)).unwrap();
-    }
-    for part in ["rlib", "stamp"] {
-        let copied =
-            Command::new("cp").arg("-r").arg(root.join("target").join(part)).arg(folder.join("target")).status();
-        assert!(copied.is_ok_and(|s| s.success()), "target/{part} is there once the crates are proved");
-    }
     let below = "refusal text doubles trie rows build cutting unigram wordpiece coder pack worked";
     fs::write(folder.join("crates.txt"), format!("{crates}\ntrial: {below}\n")).unwrap();
-    fs::write(folder.join("crates/trial/src/lib.rt"), "// The definitions tried against the Rust.\n").unwrap();
+    let source = "// The definitions tried against the Rust.\n#![tactic(auto)]\n";
+    fs::write(folder.join("crates/trial/src/lib.rt"), source).unwrap();
     fs::write(folder.join("crates/trial/proofs/Lib.antt"), "pub mod Trial\npub mod Cases\n").unwrap();
     fs::write(folder.join("crates/trial/proofs/Trial.antt"), include_str!("trial.txt")).unwrap();
     fs::write(folder.join("crates/trial/proofs/Cases.antt"), cases).unwrap();
@@ -187,9 +190,9 @@ pub fn try_seed(root: &Path, seed: u64, count: usize) -> bool {
     let _ = fs::remove_dir_all(&folder);
     lay_out(root, &folder, &w.text);
     let began = std::time::Instant::now();
-    let run = Command::new("rt").args(["check", "trial"]).current_dir(&folder).output().expect("rt is on the path");
+    let run = Command::new("rt").arg("check").current_dir(folder.join("crates/trial")).output().expect("rt is on the path");
     let said = String::from_utf8_lossy(&run.stdout).into_owned() + &String::from_utf8_lossy(&run.stderr);
-    let agrees = run.status.success() && said.contains("trial proved");
+    let agrees = run.status.success() && said.lines().any(|l| l.starts_with("logic=proved"));
     let verdict = if agrees { "0 differences" } else { "DIFFERENT" };
     let (cases, theorems, apart, seconds) = (w.cases, w.about.len(), w.known_difference, began.elapsed().as_secs());
     println!(

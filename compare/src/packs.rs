@@ -366,7 +366,7 @@ fn run_program(program: &Path, folder: &Path, pack: Option<&[u8]>, input: &[u8],
 
 /// The program as a process: good and damaged packs, no pack, its input whole and a byte at a time.
 pub fn program(root: &Path, seed: u64, quick: bool) -> bool {
-    let program = root.join("target/bin/ids");
+    let program = root.join("crates/ids/out/ids");
     let folder = std::env::temp_dir().join(format!("soahkimal-ids-{}", std::process::id()));
     fs::create_dir_all(&folder).unwrap();
     let mut t = Tally::default();
