@@ -7,7 +7,6 @@ draw_crates.py crates.txt OUT.svg
 import sys
 
 WIDE, HIGH, GAP_X, GAP_Y, LANE = 104, 34, 22, 44, 10
-KIT = {"io", "libc", "os"}
 
 
 def read(path):
@@ -16,7 +15,7 @@ def read(path):
         for line in file:
             if line.strip() and not line.startswith("#"):
                 name, _, rest = line.partition(":")
-                needs[name] = [n for n in rest.split() if n not in KIT]
+                needs[name.split()[0]] = rest.split()
     return needs
 
 
