@@ -2,21 +2,22 @@
 #![tactic(auto)]
 
 ghost use Rattle.std.specs.Counts.{IsPrefixLen};
-ghost use Rattle.std.specs.Result.{IfOk};
 
-use std::io::{self, Read};
+use std::io::Read;
 
-// Reads until the buffer is full or the input ends, and answers how many bytes it put at the buffer's front.
-pub fn read_full<R: Read>(from: &mut R, buf: &mut [u8]) -> io::Result<usize>
-    ensures { IfOk result (λ n. IsPrefixLen n buf.new) }
+// Reads until the buffer is full, the input ends or a read fails, and answers how many bytes it put at the buffer's front.
+pub fn read_full<R: Read>(from: &mut R, buf: &mut [u8]) -> usize
+    ensures { IsPrefixLen result buf.new }
 {
     let mut done = 0;
     while done < buf.len() {
-        let n = from.read(&mut buf[done..])?;
+        let Ok(n) = from.read(&mut buf[done..]) else {
+            break;
+        };
         if n == 0 {
             break;
         }
         done += n;
     }
-    Ok(done)
+    done
 }
