@@ -3,12 +3,13 @@
 
     python3 tools/must_fail.py [--finer] [CRATE..]
 
-Run it once the crates are proved. The edits are those of crates/CRATE/must-fail/, which `rt ci` tries too, and the finer ones of
-crates/CRATE/wrong/. With --finer it tries the latter alone, as ./test does. They are laid out as the must-fail edits of a copy of
-the repository, and `rt must-fail` tries them there: it begins with what is proved, so that an edit takes seconds.
+Run it once the crates are proved. The edits are those of crates/CRATE/must-fail/, which `rt ci` tries too, and the finer ones
+of crates/CRATE/wrong/. With --finer it tries the latter alone, as ./test does. They are laid out as the must-fail edits of a
+copy of the repository, and `rt must-fail` tries them there: it begins with what is proved, so that an edit takes seconds.
 
-An edit is refused when the prover finds a goal that does not hold. Anything else fails: an edit that is still proved, whose text
-is not there exactly once, or that does not reach the prover. The last line says how many were refused and how many were not.
+An edit is refused when the prover finds a goal that does not hold. Anything else fails: an edit that is still proved, whose
+text is not there exactly once, or that does not reach the prover. The last line says how many were refused and how many were
+not.
 """
 
 import re

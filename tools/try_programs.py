@@ -3,9 +3,9 @@
 
     python3 tools/try_programs.py
 
-What is proved is the source. That the compiler keeps its meaning is not, so it is tried: `rt try` runs each program, and it must
-write what is stored. (`rt ci` runs those of crates/ as two compilers make them.) `replay` is run on its first cases alone: the
-interpreter ends after twenty million steps.
+What is proved is the source. That the compiler keeps its meaning is not, so it is tried: `rt try` runs each program, and it
+must write what is stored. (`rt ci` runs those of crates/ as two compilers make them.) `replay` is run on its first cases
+alone: the interpreter ends after twenty million steps.
 
 `slices` calls `sliced::build_rows`, over slices of rows. It has no proof, so it is no crate of the repository: it stands in
 tests/slices, and is one in the copied folder alone.

@@ -37,7 +37,8 @@ memory_now edge_at edge_n id byte to work = memory edge_at.now edge_n.now id.now
 
 -- and with a score column
 abbrev pub scored_memory_was : LentMut ℕ → LentMut ℕ → LentMut ℕ → LentMut Float → LentMut ℕ → LentMut ℕ → LentMut ℕ → Memory
-scored_memory_was edge_at edge_n id score byte to work = with_scores (memory_was edge_at edge_n id byte to work) (scores_had score)
+scored_memory_was edge_at edge_n id score byte to work =
+    with_scores (memory_was edge_at edge_n id byte to work) (scores_had score)
 
 abbrev pub scored_memory_is : LentMut ℕ → LentMut ℕ → LentMut ℕ → LentMut Float → LentMut ℕ → LentMut ℕ → LentMut ℕ → Memory
 scored_memory_is edge_at edge_n id score byte to work = with_scores (memory_is edge_at edge_n id byte to work) (scores_is score)

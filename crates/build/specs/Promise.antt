@@ -41,5 +41,6 @@ pub record Promised {A : Type 0} (kind : Kind) (tab : List ℕ) (rows : List Row
     (summary : A) (before : Memory) (answer : Told A) (after : Memory) : Type 0 where
   pub answered : answer ≡ told_for (build_fault judged short) summary
   pub left :
-      after ≡ leaves (build_fault judged short) (holding (trie_in kind tab rows) (scores_in kind tab rows) before) (cleared before)
+      after
+      ≡ leaves (build_fault judged short) (holding (trie_in kind tab rows) (scores_in kind tab rows) before) (cleared before)
       before

@@ -67,10 +67,10 @@ module _ (kind : Kind) (bytes : List ℕ) where
     before-prefix fine l = not_found _ _ _ fits ∙ none_first _ fine ∙ sym (ap called (fault-part (strings_of bytes) _ _ l))
 
   -- what is known where none is found
-  module _ (None-found : content_fault kind bytes ≡ none) where
+  module _ (none-found : content_fault kind bytes ≡ none) where
     sizes : (large_header (header_of bytes) ≡ false) × (first bad (called (prefix_fault bytes)) ≡ none)
     unfolding content_fault
-    sizes = passed _ _ _ None-found
+    sizes = passed _ _ _ none-found
 
     pub not-large : large_header (header_of bytes) ≡ false
     not-large = sizes.0

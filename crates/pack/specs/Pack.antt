@@ -1,5 +1,6 @@
 -- "The pack": its header, its layout, its rows. Definitions only; assumes nothing.
-use Rattle.std.specs.Prelude.{ℕ, zero, suc, ◌+◌, ◌*◌, ◌^◌, Bool, true, false, ◌&&◌, cond, List, [], ◌∷◌, leb, eqb, length, get_or, drop}
+use Rattle.std.specs.Prelude.{ℕ, zero, suc, ◌+◌, ◌*◌, ◌^◌, Bool, true, false, ◌&&◌, cond, leb, eqb}
+use Rattle.std.specs.Prelude.{List, [], ◌∷◌, length, get_or, drop}
 use Rattle.std.proofs.Math.Option.{Option, none, some}
 use Rattle.doubles.specs.Double.{of_pattern}
 use Rattle.text.specs.Span.{span_of}

@@ -57,7 +57,8 @@ pub record PlacesBuilt (judged : Option Reason) (n : ℕ) (tab : List ℕ) (rows
     (before : Memory) (answer : BuildAnswer) (lent_after : RowPlaces) (after : Memory) : Type 0 where
   pub built :
       Promised kind.Unigram tab rows judged (short_for n tab rows lent before) (report_of tab rows) before (told answer) after
-  pub places : lent_after ≡ leaves (build_fault judged (short_for n tab rows lent before)) (zero_rows lent) (zero_rows lent) lent
+  pub places :
+      lent_after ≡ leaves (build_fault judged (short_for n tab rows lent before)) (zero_rows lent) (zero_rows lent) lent
 
 -- What `build_rows` promises of its answer and of the memory lent to it, before and after.
 abbrev pub RowsBuilt : List ℕ → List Row → RowPlaces → Memory → BuildAnswer → RowPlaces → Memory → Type 0

@@ -1,5 +1,6 @@
 -- "Well-formed text (RFC 3629)": which byte lists are text, and where its characters begin. Definitions only; assumes nothing.
-use Rattle.std.specs.Prelude.{ℕ, zero, suc, ◌+◌, ◌-◌, Bool, true, false, not, ◌&&◌, cond, List, [], ◌∷◌, leb, eqb, length, get_or, take, drop}
+use Rattle.std.specs.Prelude.{ℕ, zero, suc, ◌+◌, ◌-◌, Bool, true, false, not, ◌&&◌, cond, leb, eqb}
+use Rattle.std.specs.Prelude.{List, [], ◌∷◌, length, get_or, take, drop}
 use Rattle.std.proofs.Math.Option.{Option, none}
 use Rattle.refusal.specs.declared.Fault.{Fault}
 use Rattle.refusal.specs.declared.Fault.TheVariants as fault
