@@ -6,6 +6,5 @@ use lib.ListN.{get_or}
 use Rattle.text.specs.Passing.{Fits}
 
 -- the byte at a place may stand before the next two
--- the way back to the loop's head from after the call
 abbrev At : List ℕ → ℕ → Type 0
 At s k = Fits (get_or s k 0) (get_or s (k + 1) 0) (get_or s (k + 2) 0)

@@ -6,6 +6,5 @@ use lib.ListN.{get_or}
 use Rattle.text.specs.Passing.{Follows}
 
 -- the byte at a place may stand before the next
--- the way back to the loop's head from after the call
 abbrev At : List ℕ → ℕ → Type 0
 At s k = Follows (get_or s k 0) (get_or s (k + 1) 0)

@@ -7,7 +7,6 @@ use lib.ListN.{length, get_or}
 use Rattle.refusal.specs.Sizes.{no_id}
 
 -- a place inside, whatever is read outside
--- the function's start, and that the byte has a place
 place_is : (xs : List ℕ) (k : ℕ) → k < length xs → get_or xs k 0 ≡ get_or xs k no_id
 place_is [] k l = absurd (omega arith)
 place_is (x ∷ xs) zero l = refl
