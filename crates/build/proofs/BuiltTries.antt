@@ -1,10 +1,10 @@
 -- What a build leaves, for a reader: the lent columns, cut to the counts, are the trie of the rows, since N nodes have N places
 -- of each node column and N - 1 edges, and the rest of each column is behind them. That trie is sound, and for Unigram its
 -- scores and its unknown score are finite. Assumes nothing.
+use Rattle.std.specs.Prelude.{Option, None, Some}
 use mathlib.Core.Path.{◌≡◌, refl, sym, ap, ◌∙◌, subst}
 use mathlib.Core.Bool.{Bool, true, false}
 use mathlib.Core.List.{List, []}
-use mathlib.Core.Option.{Option, none, some}
 use Prim.Native.Nat.{ℕ, ◌-◌, ◌≤◌, ◌<◌}
 use native.Mathlib.Omega.{arith}
 use native.Mathlib.Decide.{dec_lt}
@@ -68,7 +68,7 @@ module _ (tab : List ℕ) (rows : List Row) (bytes : Bytes tab) where
   rows_cut Unigram xs m = cut-held (first_row (tokens_of tab rows)) xs m
   rows_cut WordPiece xs m = cut-held (last_id tab rows) xs m
 
-  pub rows-sound : (kind : Kind) → length rows ≤ max_rows → first_bad kind tab 0 rows ≡ none → sound (trie_in kind tab rows) ≡ true
+  pub rows-sound : (kind : Kind) → length rows ≤ max_rows → first_bad kind tab 0 rows ≡ None → sound (trie_in kind tab rows) ≡ true
   unfolding trie_in unigram_trie wordpiece_trie
   rows-sound Unigram few fine =
       sound-built (first_row (tokens_of tab rows)) (tokens_of tab rows) (tokens-bytes tab rows bytes) (omega (arith, nodes-few Unigram tab rows few fine))
@@ -93,7 +93,7 @@ is_true : (b : Bool) → T b → b ≡ true
 is_true true t = refl
 is_true false t = absurd t
 
-module _ (tab : List ℕ) (rows : List Row) (fine : first_bad Unigram tab 0 rows ≡ none) where
+module _ (tab : List ℕ) (rows : List Row) (fine : first_bad Unigram tab 0 rows ≡ None) where
   score-finite : (i : ℕ) → is_finite (get_or (scores_of rows) i plus_zero) ≡ true
   unfolding scores_of score_of is_finite
   score-finite i = go (dec_lt i (length rows))
@@ -107,8 +107,8 @@ module _ (tab : List ℕ) (rows : List Row) (fine : first_bad Unigram tab 0 rows
 
   node-finite : (o : Option ℕ) → is_finite (node_score_of (scores_of rows) o) ≡ true
   unfolding node_score_of is_finite
-  node-finite none = refl
-  node-finite (some i) = score-finite i
+  node-finite None = refl
+  node-finite (Some i) = score-finite i
 
   -- sound, scores and unknown score finite
   pub rows-scored : Bytes tab → length rows ≤ max_rows → Doubles (scores_of rows) → sound_scored (unigram_trie tab rows) (unigram_scores tab rows) (unknown_score (scores_of rows)) ≡ true

@@ -1,8 +1,8 @@
 -- The edges of one node, written child by child: what is written and what is still to be written are all its edges. Assumes
 -- nothing.
+use Rattle.std.specs.Prelude.{Some}
 use mathlib.Core.Path.{◌≡◌, refl, sym, ap, ◌∙◌, subst}
 use mathlib.Core.List.{List, [], ◌∷◌, ◌++◌}
-use mathlib.Core.Option.{some}
 use Prim.Native.Nat.{ℕ, suc, ◌+◌, ◌-◌, ◌*◌, ◌≤◌, ◌<◌}
 use native.Mathlib.Omega.{arith}
 use native.Mathlib.Numerals.{add-one}
@@ -19,7 +19,7 @@ use Rattle.build.proofs.Edges.{edges_none, edges-next}
 -- ---- a child at hand
 
 module _ {ns : List²} {edge_n work : List ℕ} {node : ℕ} {s : List ℕ} {low k : ℕ} (l : Linked ns work)
-    (sp : Spelled ns node edge_n) (here : place ns s ≡ some node) (f : First ns s low k) (z : k ≡ 0 → ⊥) where
+    (sp : Spelled ns node edge_n) (here : place ns s ≡ Some node) (f : First ns s low k) (z : k ≡ 0 → ⊥) where
   abbrev least : Least ns s low k
   least = hand l sp (omega arith) here f z
 
@@ -37,7 +37,7 @@ module _ {ns : List²} {edge_n work : List ℕ} {node : ℕ} {s : List ℕ} {low
   hand-edges =
       edges-next ns s low (get_or edge_n k 0) k (omega (arith, byte_of, least.from)) (hand-small l sp (omega arith) here f z)
       (λ a p q. least.clear a p (omega (arith, byte_of)))
-      (subst (λ (a : ℕ). place ns (s ++ (a ∷ [])) ≡ some k) (sym byte_of) least.child)
+      (subst (λ (a : ℕ). place ns (s ++ (a ∷ [])) ≡ Some k) (sym byte_of) least.child)
 
 -- ---- some children written, some left
 
@@ -51,14 +51,14 @@ pub record Writing (ns : List²) (s : List ℕ) (byte₀ to₀ : List ℕ) (at�
   pub count : at₀ + length (edges_of ns s) ≡ at + length (edges_from ns s low (256 - low))
 
 pub writing_start :
-    {ns : List²} {work : List ℕ} (l : Linked ns work) {s : List ℕ} (node : ℕ) → place ns s ≡ some node
+    {ns : List²} {work : List ℕ} (l : Linked ns work) {s : List ℕ} (node : ℕ) → place ns s ≡ Some node
     → {byte to : List ℕ} {at : ℕ} → Writing ns s byte to at byte to at (get_or work (2 * node) 0)
 unfolding edges_of
 writing_start l {s = s} node e =
     record { low = 0; low_fits = omega arith; few = omega arith; first = l.first s node e; written = refl; led = refl; count = refl }
 
 module _ {ns : List²} {edge_n work : List ℕ} {node : ℕ} {s byte₀ to₀ : List ℕ} {at₀ : ℕ} {byte to : List ℕ} {at k : ℕ}
-    (l : Linked ns work) (sp : Spelled ns node edge_n) (here : place ns s ≡ some node)
+    (l : Linked ns work) (sp : Spelled ns node edge_n) (here : place ns s ≡ Some node)
     (w : Writing ns s byte₀ to₀ at₀ byte to at k) where
   module _ (z : k ≡ 0 → ⊥) where
     abbrev c : ℕ

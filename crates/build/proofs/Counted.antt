@@ -1,9 +1,9 @@
 -- N nodes have N - 1 edges: each name but the root adds one edge, to the node that it extends, and has none itself when it
 -- comes. Assumes nothing.
+use Rattle.std.specs.Prelude.{Option, None, Some}
 use mathlib.Core.Path.{◌≡◌, refl, sym, ap, ◌∙◌}
 use mathlib.Core.List.{List, [], ◌∷◌, ◌++◌, map, flatten}
 use mathlib.Core.Logic.{⊎_elim}
-use mathlib.Core.Option.{Option, none, some}
 use Prim.Native.Nat.{ℕ, zero, suc, ◌+◌, ◌-◌, ◌≤◌, ◌<◌}
 use native.Mathlib.Omega.{arith}
 use lib.ListN.{length, get_or, length-append}
@@ -26,7 +26,7 @@ edges-agree (suc n) ns ms s b h =
     ap (λ (o : Option ℕ). edge b o ++ edges_from ms s (suc b) n) (h b (omega arith))
     ∙ ap (λ (es : List Edge). edge b (place ns (s ++ (b ∷ []))) ++ es) (edges-agree n ns ms s (suc b) (λ a l. h a (omega arith)))
 
-module _ (ns : List²) (p : List ℕ) (c : ℕ) (new : place ns (p ++ (c ∷ [])) ≡ none) where
+module _ (ns : List²) (p : List ℕ) (c : ℕ) (new : place ns (p ++ (c ∷ [])) ≡ None) where
   abbrev grown : List²
   grown = ns ++ ((p ++ (c ∷ [])) ∷ [])
 
@@ -44,9 +44,9 @@ module _ (ns : List²) (p : List ℕ) (c : ℕ) (new : place ns (p ++ (c ∷ [])
       let past : edges_from grown p (suc b) n ≡ edges_from ns p (suc b) n =
       edges-agree n ns grown p (suc b)
       (λ a m. place_other ns (p ++ (c ∷ [])) (p ++ (a ∷ [])) (λ e. omega (arith, snoc-last p p a c e))) in
-      let at : place grown (p ++ (b ∷ [])) ≡ some (length ns) =
+      let at : place grown (p ++ (b ∷ [])) ≡ Some (length ns) =
       ap (λ (x : ℕ). place grown (p ++ (x ∷ []))) q ∙ place_end ns (p ++ (c ∷ [])) new in
-      let away : place ns (p ++ (b ∷ [])) ≡ none = ap (λ (x : ℕ). place ns (p ++ (x ∷ []))) q ∙ new in
+      let away : place ns (p ++ (b ∷ [])) ≡ None = ap (λ (x : ℕ). place ns (p ++ (x ∷ []))) q ∙ new in
       ap length (edges-hit grown p b n (length ns) at) ∙ ap (λ (es : List Edge). suc (length es)) past
       ∙ ap (λ (es : List Edge). suc (length es)) (sym (edges-miss ns p b n away)))
       (λ (q : b < c).
@@ -81,7 +81,7 @@ pub total-one : (ns : List²) (m : List ℕ) (ms : List²) → total ns (m ∷ m
 unfolding total
 total-one ns m ms = refl
 
-module _ (ns : List²) (p : List ℕ) (c : ℕ) (new : place ns (p ++ (c ∷ [])) ≡ none) (byte : c < 256) where
+module _ (ns : List²) (p : List ℕ) (c : ℕ) (new : place ns (p ++ (c ∷ [])) ≡ None) (byte : c < 256) where
   total-other : (ms : List²) → ((k : ℕ) → k < length ms → get_or ms k [] ≡ p → ⊥) → total (grown ns p c new) ms ≡ total ns ms
   unfolding total
   total-other [] h = refl
@@ -109,7 +109,7 @@ module _ (ns : List²) (p : List ℕ) (c : ℕ) (new : place ns (p ++ (c ∷ [])
 
 -- a name that just came has no edge
 total-new :
-    {ns : List²} → Grown ns → (p : List ℕ) (c : ℕ) → place ns (p ++ (c ∷ [])) ≡ none
+    {ns : List²} → Grown ns → (p : List ℕ) (c : ℕ) → place ns (p ++ (c ∷ [])) ≡ None
     → edges_of (ns ++ ((p ++ (c ∷ [])) ∷ [])) (p ++ (c ∷ [])) ≡ []
 unfolding edges_of
 total-new {ns} g p c f =
@@ -134,7 +134,7 @@ count-edges (more {ns} p c j g e h f) =
     )
   where
     once : (k : ℕ) → k < length ns → get_or ns k [] ≡ p → k ≡ j
-    once k l q = let s : some k ≡ some j = sym (grown-distinct g k l) ∙ ap (place ns) q ∙ e in cc
+    once k l q = let s : Some k ≡ Some j = sym (grown-distinct g k l) ∙ ap (place ns) q ∙ e in cc
 
 -- "edges are N-1"
 pub count-names : {ns : List²} → Grown ns → length (flatten (map (edges_of ns) ns)) ≡ length ns - 1

@@ -1,10 +1,10 @@
 -- The edges of a node: its children by rising byte, found by their byte, each leading to a node. All by induction on how many
 -- bytes are still looked at, from any byte on. Assumes nothing.
+use Rattle.std.specs.Prelude.{Option, None, Some}
 use mathlib.Core.Path.{◌≡◌, refl, sym, ap, ◌∙◌, subst}
 use mathlib.Core.Bool.{cond}
 use mathlib.Core.List.{List, [], ◌∷◌, ◌++◌}
 use mathlib.Core.Logic.{◌⊎◌, inl, inr, ⊎_elim}
-use mathlib.Core.Option.{Option, none, some}
 use Prim.Native.Nat.{ℕ, zero, suc, ◌+◌, ◌-◌, ◌≤◌, ◌<◌}
 use native.Mathlib.Omega.{arith}
 use native.Mathlib.Decide.{dec_lt}
@@ -19,12 +19,12 @@ use Rattle.build.proofs.Grown.{List²}
 
 -- ---- byte by byte
 
-pub edges-miss : (ns : List²) (s : List ℕ) (b n : ℕ) → place ns (s ++ (b ∷ [])) ≡ none → edges_from ns s b (suc n) ≡ edges_from ns s (suc b) n
+pub edges-miss : (ns : List²) (s : List ℕ) (b n : ℕ) → place ns (s ++ (b ∷ [])) ≡ None → edges_from ns s b (suc n) ≡ edges_from ns s (suc b) n
 unfolding edges_from edge
 edges-miss ns s b n e = rw e
 
 pub edges-hit :
-    (ns : List²) (s : List ℕ) (b n k : ℕ) → place ns (s ++ (b ∷ [])) ≡ some k
+    (ns : List²) (s : List ℕ) (b n k : ℕ) → place ns (s ++ (b ∷ [])) ≡ Some k
     → edges_from ns s b (suc n) ≡ record { byte = b; to = k } ∷ edges_from ns s (suc b) n
 unfolding edges_from edge
 edges-hit ns s b n k e = rw e
@@ -55,7 +55,7 @@ pub edges_none : (ns : List²) (s : List ℕ) (b : ℕ) → b ≤ 256 → Clear 
 edges_none ns s b l h = edges-skip ns s b 256 l (omega arith) h ∙ edges-end ns s 256
 
 pub edges-next :
-    (ns : List²) (s : List ℕ) (b a k : ℕ) → b ≤ a → a < 256 → Clear ns s b a → place ns (s ++ (a ∷ [])) ≡ some k
+    (ns : List²) (s : List ℕ) (b a k : ℕ) → b ≤ a → a < 256 → Clear ns s b a → place ns (s ++ (a ∷ [])) ≡ Some k
     → edges_from ns s b (256 - b) ≡ record { byte = a; to = k } ∷ edges_from ns s (suc a) (256 - suc a)
 edges-next ns s b a k l m h e =
     let p : 256 - a ≡ suc (256 - suc a) = omega arith in
@@ -91,15 +91,15 @@ edges_few (suc m) ns s b =
 
 -- the target of the edge by the byte b
 unfoldable pub target : List Edge → ℕ → Option ℕ
-target [] b = none
-target (e ∷ es) b = cond (eqb e.byte b) (some e.to) (target es b)
+target [] b = None
+target (e ∷ es) b = cond (eqb e.byte b) (Some e.to) (target es b)
 
-target-before : {n c : ℕ} {es : List Edge} → Rising n c es → (b : ℕ) → b < c → target es b ≡ none
+target-before : {n c : ℕ} {es : List Edge} → Rising n c es → (b : ℕ) → b < c → target es b ≡ None
 unfolding target
 target-before end b h = refl
 target-before (next e p q r) b h = rw (ne_eqb e.byte b (λ z. omega arith)) (target-before r b (omega arith))
 
-target_hit : (b k : ℕ) (es : List Edge) (a : ℕ) → b ≡ a → target (record { byte = b; to = k } ∷ es) a ≡ some k
+target_hit : (b k : ℕ) (es : List Edge) (a : ℕ) → b ≡ a → target (record { byte = b; to = k } ∷ es) a ≡ Some k
 unfolding target
 target_hit b k es a e = rw (eq-eqb b a e)
 
@@ -136,7 +136,7 @@ pub target-of : (ns : List²) (s : List ℕ) (a : ℕ) → a < 256 → target (e
 unfolding edges_of
 target-of ns s a h = target-edges 256 ns s 0 a (omega arith) h
 
-target-above : (m : ℕ) (ns : List²) (s : List ℕ) (b a : ℕ) → b + m ≤ a → target (edges_from ns s b m) a ≡ none
+target-above : (m : ℕ) (ns : List²) (s : List ℕ) (b a : ℕ) → b + m ≤ a → target (edges_from ns s b m) a ≡ None
 unfolding target
 target-above zero ns s b a h = ap (λ (es : List Edge). target es a) (edges-end ns s b)
 target-above (suc m) ns s b a h =
@@ -146,6 +146,6 @@ target-above (suc m) ns s b a h =
     (found? (place ns (s ++ (b ∷ []))))
 
 -- no edge is by more than a byte
-pub target-no-byte : (ns : List²) (s : List ℕ) (a : ℕ) → 256 ≤ a → target (edges_of ns s) a ≡ none
+pub target-no-byte : (ns : List²) (s : List ℕ) (a : ℕ) → 256 ≤ a → target (edges_of ns s) a ≡ None
 unfolding edges_of
 target-no-byte ns s a h = target-above 256 ns s 0 a h

@@ -1,8 +1,8 @@
 -- A token entered byte by byte. After i bytes the columns hold the nodes with the token's first i prefixes entered, and what is
 -- still to be entered is the rest. Assumes nothing.
+use Rattle.std.specs.Prelude.{Option, Some}
 use mathlib.Core.Path.{◌≡◌, refl, sym, ap, ◌∙◌, subst}
 use mathlib.Core.List.{List, [], ◌∷◌, ◌++◌}
-use mathlib.Core.Option.{Option, some}
 use Prim.Native.Nat.{ℕ, ◌+◌, ◌≤◌, ◌<◌}
 use native.Mathlib.Omega.{arith}
 use native.Mathlib.Numerals.{add-one}
@@ -39,7 +39,7 @@ pub record Along (ns : List²) (rule : List ℕ → Option ℕ) (t : List ℕ) (
   pub names : List²
   pub held : Held names rule edge_n id work
   pub count : n ≡ length names
-  pub here : place names (take i t) ≡ some node
+  pub here : place names (take i t) ≡ Some node
   pub on : enter ns (prefixes [] t) ≡ enter names (prefixes (take i t) (drop i t))
 
 pub along-start :

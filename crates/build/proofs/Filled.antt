@@ -1,9 +1,8 @@
 -- The columns at the end: what stands in front is what was laid out, and what was zero behind it still is. Assumes nothing.
+use Rattle.std.specs.Prelude.{unwrap_or, Option, Some, None, ℕ}
 use mathlib.Core.Path.{◌≡◌, refl, sym, ap, ap₂, ◌∙◌}
 use mathlib.Core.Bool.{Bool, cond, true, false}
 use mathlib.Core.List.{List, [], ◌∷◌, ◌++◌, map}
-use mathlib.Core.Option
-use mathlib.Core.Option.{Option}
 use Prim.Native.Nat.{ℕ, zero, suc, ◌+◌, ◌-◌, ◌≤◌, ◌<◌}
 use native.Mathlib.Omega.{arith}
 use native.Mathlib.Decide.{dec_lt}
@@ -15,8 +14,6 @@ use Rattle.refusal.specs.Sizes.{no_id}
 use Rattle.refusal.specs.Places.{zeroed, filled}
 use Rattle.rows.specs.declared.Kind.{Kind}
 use Rattle.rows.specs.Rows.{Row}
-use Rattle.build.specs.declared.Built.{Built}
-use Rattle.build.specs.declared.Built.TheVariants.{Nodes, NoRoom}
 use Rattle.build.specs.Names.{names}
 use Rattle.build.specs.Grown.{Grown}
 use Rattle.build.specs.Parts.{edges_of, starts, lay, trie_of}
@@ -85,10 +82,10 @@ ready-again {edge_at = edge_at} {byte = byte} {to = to} {edge_at' = edge_at'} {b
 module _ (ns : List²) (g : Grown ns) (rule : List ℕ → Option ℕ) (id before : List ℕ) (h : Identified ns rule id)
     (same : length id ≡ length before) where
   abbrev marks : List ℕ
-  marks = map (λ s. Option.get_or (rule s) no_id) ns
+  marks = map (λ s. unwrap_or (rule s) no_id) ns
 
   length-marks : length marks ≡ length ns
-  length-marks = length-map ns (λ s. Option.get_or (rule s) no_id)
+  length-marks = length-map ns (λ s. unwrap_or (rule s) no_id)
 
   length-filled : length (filled 0 marks before) ≡ length id
   length-filled =
@@ -106,7 +103,7 @@ module _ (ns : List²) (g : Grown ns) (rule : List ℕ → Option ℕ) (id befor
       go : (i : ℕ) → i < length id → Dec (i < length ns) → get_or id i 0 ≡ get_or (filled 0 marks before) i 0
       go i p (yes q) =
           h.ids (get_or ns i []) i (grown-distinct g i q)
-          ∙ sym (get_or-map-of (λ s. Option.get_or (rule s) no_id) ns i [] 0 q)
+          ∙ sym (get_or-map-of (λ s. unwrap_or (rule s) no_id) ns i [] 0 q)
           ∙ sym (get_or-append marks (replicate (length before - length marks) 0) 0 i (omega (arith, length-marks)))
       go i p (no q) =
           let z : length marks + (i - length marks) ≡ i = omega (arith, length-marks) in
@@ -185,7 +182,7 @@ module _ {edge_at edge_n id byte to work : List ℕ} {room n : ℕ} where
       (done : RowDone (names (tokens_of tab rows)) (rules_from kind tab no_rule 0 rows) room edge_n id work n) where
     pub built-full :
         room < n → {after : Memory} → after ≡ cleared (memory edge_at edge_n id byte to work)
-        → BuiltOf kind tab rows room (memory edge_at edge_n id byte to work) after NoRoom
+        → BuiltOf kind tab rows room (memory edge_at edge_n id byte to work) after None
     built-full h e =
         let ns = names (tokens_of tab rows) in
         let before = memory edge_at edge_n id byte to work in
@@ -198,14 +195,14 @@ module _ {edge_at edge_n id byte to work : List ℕ} {room n : ℕ} where
     pub built-done :
         (fits : n ≤ room) {after : Memory}
         → after ≡ holding (lay (rules_from kind tab no_rule 0 rows) (names (tokens_of tab rows))) [] (memory edge_at edge_n id byte to work)
-        → BuiltOf kind tab rows room (memory edge_at edge_n id byte to work) after (Nodes n)
+        → BuiltOf kind tab rows room (memory edge_at edge_n id byte to work) after (Some n)
     unfolding trie_of
     built-done fits e =
         let ns = names (tokens_of tab rows) in
         let before = memory edge_at edge_n id byte to work in
         let room-left : ltb room (length ns) ≡ false = le-ltb room (length ns) (omega (arith, done.count fits)) in
         record {
-          answered = ap Nodes (done.count fits) ∙ sym (ap (λ (t : Bool). cond t NoRoom (Nodes (length ns))) room-left);
+          answered = ap Some (done.count fits) ∙ sym (ap (λ (t : Bool). cond t None (Some (length ns))) room-left);
           left =
               e ∙ ap (λ t. holding t [] before) (trie-given kind tab rows)
               ∙ sym (ap (λ (t : Bool). cond t (cleared before) (holding (trie_in kind tab rows) [] before)) room-left);
@@ -223,7 +220,7 @@ entered-ready {ns = ns} {rule = rule} edge_n₀ id₀ work₀ d r kn ki kw =
 
 module _ {edge_at edge_n₀ id₀ byte to work₀ edge_n id work : List ℕ} {room n : ℕ} where
   pub entered-built :
-      {kind : Kind} {tab : List ℕ} {rows : List Row} {after : Memory} {answer : Built}
+      {kind : Kind} {tab : List ℕ} {rows : List Row} {after : Memory} {answer : Option ℕ}
       → RowDone (names (tokens_of tab rows)) (rules_from kind tab no_rule 0 rows) room edge_n id work n
       → Finished room (memory edge_at edge_n id byte to work) after n answer
       → length edge_n ≡ length edge_n₀ → length id ≡ length id₀ → length work ≡ length work₀

@@ -1,9 +1,9 @@
 -- Names are distinct, the root is the first, and what a name extends stands before it: by induction on how the list grew. The
 -- names of tokens grow so, a prefix at a time. Assumes nothing.
+use Rattle.std.specs.Prelude.{None, Some}
 use mathlib.Core.Path.{◌≡◌, refl, sym, ap, ◌∙◌, subst}
 use mathlib.Core.List.{List, [], ◌∷◌, ◌++◌, append-nil}
 use mathlib.Core.Logic.{◌⊎◌, inl, inr, ⊎_elim}
-use mathlib.Core.Option.{none, some}
 use Prim.Native.Nat.{ℕ, zero, suc, ◌+◌, ◌≤◌, ◌<◌}
 use native.Mathlib.Omega.{arith}
 use native.Mathlib.Decide.{dec_lt}
@@ -28,37 +28,37 @@ below-or-at k n h = go (dec_lt k n)
 
 -- ---- lists that grew
 
-pub grown-root : {ns : List²} → Grown ns → place ns [] ≡ some 0
+pub grown-root : {ns : List²} → Grown ns → place ns [] ≡ Some 0
 grown-root root = place-hit [] [] [] (same_refl [])
 grown-root (more {ns} p c j g e h f) = place_kept ns ((p ++ (c ∷ [])) ∷ []) [] 0 (grown-root g)
 
 pub grown-some : {ns : List²} → Grown ns → 0 < length ns
 grown-some {ns} g = place-below ns [] 0 (grown-root g)
 
-pub grown-distinct : {ns : List²} → Grown ns → (k : ℕ) → k < length ns → place ns (get_or ns k []) ≡ some k
+pub grown-distinct : {ns : List²} → Grown ns → (k : ℕ) → k < length ns → place ns (get_or ns k []) ≡ Some k
 grown-distinct root zero h = place-hit [] [] [] (same_refl [])
 grown-distinct root (suc k) h = absurd (omega arith)
 grown-distinct (more {ns} p c j g e h f) k l =
     let t = p ++ (c ∷ []) in
     ⊎_elim
-    (λ (b : k < length ns). subst (λ (x : List ℕ). place (ns ++ (t ∷ [])) x ≡ some k) (sym (get_or-append ns (t ∷ []) [] k b))
+    (λ (b : k < length ns). subst (λ (x : List ℕ). place (ns ++ (t ∷ [])) x ≡ Some k) (sym (get_or-append ns (t ∷ []) [] k b))
     (place_kept ns (t ∷ []) (get_or ns k []) k (grown-distinct g k b)))
     (λ (b : k ≡ length ns).
     let q : get_or (ns ++ (t ∷ [])) k [] ≡ t = ap (λ (i : ℕ). get_or (ns ++ (t ∷ [])) i []) b ∙ get_or-append_seam ns t [] [] in
-    ap (place (ns ++ (t ∷ []))) q ∙ place_end ns t f ∙ ap some (sym b))
+    ap (place (ns ++ (t ∷ []))) q ∙ place_end ns t f ∙ ap Some (sym b))
     (below-or-at k (length ns) (omega (arith, length_more ns t)))
 
 -- what a name extends stands before it
 pub grown-parent :
-    {ns : List²} → Grown ns → (s : List ℕ) (b k : ℕ) → place ns (s ++ (b ∷ [])) ≡ some k
-    → (j : ℕ) × (place ns s ≡ some j) × (j < k) × (b < 256)
+    {ns : List²} → Grown ns → (s : List ℕ) (b k : ℕ) → place ns (s ++ (b ∷ [])) ≡ Some k
+    → (j : ℕ) × (place ns s ≡ Some j) × (j < k) × (b < 256)
 grown-parent root s b k e =
     let other = place_other [] [] (s ++ (b ∷ [])) (λ q. snoc-nil s b q) in
     none-some (sym (other ∙ place-empty (s ++ (b ∷ []))) ∙ e)
 grown-parent (more {ns} p c j g e h f) s b k q =
     let t = p ++ (c ∷ []) in
     ⊎_elim
-    (λ (r : place ns (s ++ (b ∷ [])) ≡ some k).
+    (λ (r : place ns (s ++ (b ∷ [])) ≡ Some k).
     let w = grown-parent g s b k r in
     (w.0, place_kept ns (t ∷ []) s w.0 w.1, w.2, w.3))
     (λ (r : (s ++ (b ∷ []) ≡ t) × (k ≡ length ns)).
@@ -69,7 +69,7 @@ grown-parent (more {ns} p c j g e h f) s b k q =
 
 -- and so does all that a name begins with
 pub grown-begins :
-    {ns : List²} → Grown ns → (q s : List ℕ) (k : ℕ) → place ns (q ++ s) ≡ some k → (j : ℕ) × (place ns q ≡ some j)
+    {ns : List²} → Grown ns → (q s : List ℕ) (k : ℕ) → place ns (q ++ s) ≡ Some k → (j : ℕ) × (place ns q ≡ Some j)
 grown-begins {ns} g q [] k e = (k, ap (place ns) (sym (append-nil q)) ∙ e)
 grown-begins {ns} g q (b ∷ s) k e =
     let w = grown-begins g (q ++ (b ∷ [])) s k (ap (place ns) (snoc-append q b s) ∙ e) in
@@ -78,26 +78,26 @@ grown-begins {ns} g q (b ∷ s) k e =
 
 -- the children of a string that is no name are none
 pub grown-none :
-    {ns : List²} → Grown ns → (s : List ℕ) (b : ℕ) → place ns s ≡ none → place ns (s ++ (b ∷ [])) ≡ none
+    {ns : List²} → Grown ns → (s : List ℕ) (b : ℕ) → place ns s ≡ None → place ns (s ++ (b ∷ [])) ≡ None
 grown-none {ns} g s b e =
     missing (place ns (s ++ (b ∷ []))) (λ k q. none-some (sym e ∙ (grown-parent g s b k q).1))
 
 -- ---- one more name
 
 pub grown-add :
-    {ns : List²} → Grown ns → (p : List ℕ) (c j : ℕ) → place ns p ≡ some j → c < 256 → Grown (add ns (p ++ (c ∷ [])))
+    {ns : List²} → Grown ns → (p : List ℕ) (c j : ℕ) → place ns p ≡ Some j → c < 256 → Grown (add ns (p ++ (c ∷ [])))
 grown-add {ns} g p c j e h =
     ⊎_elim (λ q. subst Grown (sym (add-new ns (p ++ (c ∷ [])) q)) (more p c j g e h q))
     (λ q. subst Grown (sym (add-there ns (p ++ (c ∷ [])) q.0 q.1)) g)
     (found? (place ns (p ++ (c ∷ []))))
 
-pub add-keeps : (ns : List²) (t s : List ℕ) (k : ℕ) → place ns s ≡ some k → place (add ns t) s ≡ some k
+pub add-keeps : (ns : List²) (t s : List ℕ) (k : ℕ) → place ns s ≡ Some k → place (add ns t) s ≡ Some k
 add-keeps ns t s k e =
     ⊎_elim (λ q. ap (λ (l : List²). place l s) (add-new ns t q) ∙ place_kept ns (t ∷ []) s k e)
     (λ q. ap (λ (l : List²). place l s) (add-there ns t q.0 q.1) ∙ e)
     (found? (place ns t))
 
-pub add-has : (ns : List²) (t : List ℕ) → (k : ℕ) × (place (add ns t) t ≡ some k)
+pub add-has : (ns : List²) (t : List ℕ) → (k : ℕ) × (place (add ns t) t ≡ Some k)
 add-has ns t =
     ⊎_elim (λ q. (length ns, ap (λ (l : List²). place l t) (add-new ns t q) ∙ place_end ns t q))
     (λ q. (q.0, ap (λ (l : List²). place l t) (add-there ns t q.0 q.1) ∙ q.1))
@@ -118,7 +118,7 @@ add-few ns t =
 
 -- ---- one more token
 
-pub enter-keeps : (ss : List²) (ns : List²) (s : List ℕ) (k : ℕ) → place ns s ≡ some k → place (enter ns ss) s ≡ some k
+pub enter-keeps : (ss : List²) (ns : List²) (s : List ℕ) (k : ℕ) → place ns s ≡ Some k → place (enter ns ss) s ≡ Some k
 unfolding enter
 enter-keeps [] ns s k e = e
 enter-keeps (t ∷ ss) ns s k e = enter-keeps ss (add ns t) s k (add-keeps ns t s k e)
@@ -147,7 +147,7 @@ bytes-tail : (b : ℕ) (s : List ℕ) → Bytes (b ∷ s) → Bytes s
 bytes-tail b s h i l = h (suc i) (omega arith)
 
 pub grown-enter :
-    (s p : List ℕ) (ns : List²) (j : ℕ) → Grown ns → place ns p ≡ some j → Bytes s → Grown (enter ns (prefixes p s))
+    (s p : List ℕ) (ns : List²) (j : ℕ) → Grown ns → place ns p ≡ Some j → Bytes s → Grown (enter ns (prefixes p s))
 unfolding enter prefixes
 grown-enter [] p ns j g e h = g
 grown-enter (b ∷ s) p ns j g e h =
@@ -156,7 +156,7 @@ grown-enter (b ∷ s) p ns j g e h =
     grown-enter s q (add ns q) w.0 (grown-add g p b j e (h 0 (omega arith))) w.1 (bytes-tail b s h)
 
 -- a token that was entered is a name, and so is all that it begins with
-pub enter-has : (s p q : List ℕ) (ns : List²) (j : ℕ) → place ns p ≡ some j → (r : List ℕ) → s ≡ q ++ r → (k : ℕ) × (place (enter ns (prefixes p s)) (p ++ q) ≡ some k)
+pub enter-has : (s p q : List ℕ) (ns : List²) (j : ℕ) → place ns p ≡ Some j → (r : List ℕ) → s ≡ q ++ r → (k : ℕ) × (place (enter ns (prefixes p s)) (p ++ q) ≡ Some k)
 unfolding enter prefixes
 enter-has s p [] ns j e r d =
     (j, ap (place (enter ns (prefixes p s))) (append-nil p) ∙ enter-keeps (prefixes p s) ns p j e)

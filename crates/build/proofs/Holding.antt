@@ -1,9 +1,8 @@
 -- What the columns hold as a byte is entered: the child that is there, or one node more, or no room for it. Assumes nothing.
+use Rattle.std.specs.Prelude.{unwrap_or, Option, None, Some}
 use mathlib.Core.Path.{◌≡◌, refl, sym, ap, ◌∙◌, subst}
 use mathlib.Core.List.{List, [], ◌∷◌, ◌++◌}
 use mathlib.Core.Logic.{⊎_elim}
-use mathlib.Core.Option
-use mathlib.Core.Option.{Option, none, some}
 use Prim.Native.Nat.{ℕ, suc, ◌+◌, ◌*◌, ◌≤◌, ◌<◌}
 use native.Mathlib.Omega.{arith}
 use lib.ListN.{length, get_or, set, length-set}
@@ -19,26 +18,26 @@ use Rattle.build.proofs.Linking.{linked-more, spelled-more}
 use Rattle.build.proofs.Seeking.{seek-none, seek-least, seek-byte}
 
 -- what is in no longer list was in none
-pub missing-before : (ns ms : List²) (s : List ℕ) → place (ns ++ ms) s ≡ none → place ns s ≡ none
+pub missing-before : (ns ms : List²) (s : List ℕ) → place (ns ++ ms) s ≡ None → place ns s ≡ None
 missing-before ns ms s e = missing (place ns s) (λ k p. none-some (sym e ∙ place_kept ns ms s k p))
 
 -- ---- is the child there?
 
 module _ {ns : List²} {edge_n work : List ℕ} {s : List ℕ} {node b at : ℕ} (l : Linked ns work) (sp : Spelled ns 0 edge_n)
-    (here : place ns s ≡ some node) (slot : Slot ns s b at) where
+    (here : place ns s ≡ Some node) (slot : Slot ns s b at) where
   abbrev child : ℕ
   child = get_or work at 0
 
-  pub child-there : (child ≡ 0 → ⊥) → get_or edge_n child 0 ≡ b → place ns (s ++ (b ∷ [])) ≡ some child
+  pub child-there : (child ≡ 0 → ⊥) → get_or edge_n child 0 ≡ b → place ns (s ++ (b ∷ [])) ≡ Some child
   child-there z e =
       let w = seek-least l sp here slot z in
       let byte : w.a ≡ b = sym (seek-byte l sp here slot z) ∙ e in
-      subst (λ (a : ℕ). place ns (s ++ (a ∷ [])) ≡ some child) byte w.child
+      subst (λ (a : ℕ). place ns (s ++ (a ∷ [])) ≡ Some child) byte w.child
 
-  pub child-none : b < 256 → child ≡ 0 → place ns (s ++ (b ∷ [])) ≡ none
+  pub child-none : b < 256 → child ≡ 0 → place ns (s ++ (b ∷ [])) ≡ None
   child-none h z = seek-none l sp here slot z b (omega arith) h
 
-  pub child-other : (child ≡ 0 → ⊥) → (get_or edge_n child 0 ≡ b → ⊥) → place ns (s ++ (b ∷ [])) ≡ none
+  pub child-other : (child ≡ 0 → ⊥) → (get_or edge_n child 0 ≡ b → ⊥) → place ns (s ++ (b ∷ [])) ≡ None
   child-other z e =
       let w = seek-least l sp here slot z in
       let byte : get_or edge_n child 0 ≡ w.a = seek-byte l sp here slot z in
@@ -54,7 +53,7 @@ module _ {ns : List²} {rule : List ℕ → Option ℕ} {edge_n id work : List �
   abbrev t : List ℕ
   t = s ++ (b ∷ [])
 
-  pub byte-there : {k : ℕ} → place ns t ≡ some k → Done (add ns t) rule t room edge_n id work k n
+  pub byte-there : {k : ℕ} → place ns t ≡ Some k → Done (add ns t) rule t room edge_n id work k n
   byte-there {k = k} e =
       let same = add-there ns t k e in
       let low : k < length ns = place-below ns t k e in
@@ -66,7 +65,7 @@ module _ {ns : List²} {rule : List ℕ → Option ℕ} {edge_n id work : List �
         held = λ z. subst (λ (x : List²). Held x rule edge_n id work) (sym same) h;
       }
 
-  pub byte_full : place ns t ≡ none → n ≡ room → Done (add ns t) rule t room edge_n id work room n
+  pub byte_full : place ns t ≡ None → n ≡ room → Done (add ns t) rule t room edge_n id work room n
   byte_full e z =
       record {
         full = λ y. omega (arith, ap length (add-new ns t e), length_more ns t);
@@ -76,7 +75,7 @@ module _ {ns : List²} {rule : List ℕ → Option ℕ} {edge_n id work : List �
         held = λ y. absurd (y refl);
       }
 
-  module _ {node at : ℕ} (here : place ns s ≡ some node) (new : place ns t ≡ none) (slot : Slot ns s b at)
+  module _ {node at : ℕ} (here : place ns s ≡ Some node) (new : place ns t ≡ None) (slot : Slot ns s b at)
       (byte : b < 256) (more : n < room) (roomy : Roomy room edge_n id work) where
     held_more : Held (ns ++ (t ∷ [])) rule (set edge_n (length ns) b) (set id (length ns) no_id) (linked_work work at (length ns))
     held_more =
@@ -91,12 +90,12 @@ module _ {ns : List²} {rule : List ℕ → Option ℕ} {edge_n id work : List �
           marks = record {
             room = omega (arith, length_more ns t, length-set id m no_id, roomy.ids);
             ids = λ x k e. ⊎_elim
-                (λ (p : place ns x ≡ some k).
+                (λ (p : place ns x ≡ Some k).
                 get_or-set_other id m k no_id 0 (λ z. omega (arith, place-below ns x k p)) ∙ h.marks.ids x k p)
                 (λ (p : (x ≡ t) × (k ≡ m)).
-                let none_yet : rule x ≡ none = ap rule p.0 ∙ h.marks.within t new in
+                let none_yet : rule x ≡ None = ap rule p.0 ∙ h.marks.within t new in
                 ap (λ (i : ℕ). get_or (set id m no_id) i 0) p.1 ∙ get_or-set_same id m no_id 0 (omega (arith, roomy.ids))
-                ∙ ap (λ (o : Option ℕ). Option.get_or o no_id) (sym none_yet))
+                ∙ ap (λ (o : Option ℕ). unwrap_or o no_id) (sym none_yet))
                 (place-more ns t x k new e);
             within = λ x e. h.marks.within x (missing-before ns (t ∷ []) x e);
             past = λ k p.
@@ -113,7 +112,7 @@ module _ {ns : List²} {rule : List ℕ → Option ℕ} {edge_n id work : List �
           full = λ z. absurd (omega arith);
           fits = λ z. omega arith;
           count = λ z. omega (arith, ap length same, length_more ns t);
-          here = λ z. ap (λ (x : List²). place x t) same ∙ place_end ns t new ∙ ap some (sym count);
+          here = λ z. ap (λ (x : List²). place x t) same ∙ place_end ns t new ∙ ap Some (sym count);
           held = λ z.
               let e : Held (ns ++ (t ∷ [])) rule (set edge_n n b) (set id n no_id) (linked_work work at n) =
               subst (λ (m : ℕ). Held (ns ++ (t ∷ [])) rule (set edge_n m b) (set id m no_id) (linked_work work at m)) (sym count) held_more in

@@ -1,9 +1,9 @@
 -- Rows that were judged: what the core asks of them follows where no fault was found, and the rows that it is given are those
 -- of the columns. Assumes nothing.
+use Rattle.std.specs.Prelude.{None, Option, ℕ}
 use mathlib.Core.Path.{◌≡◌, refl, sym, ap, ◌∙◌}
 use mathlib.Core.Bool.{Bool, false, cond}
 use mathlib.Core.List.{List, [], ◌∷◌, map}
-use mathlib.Core.Option.{none}
 use Prim.Native.Nat.{ℕ, zero, suc, ◌+◌, ◌≤◌, ◌<◌}
 use native.Mathlib.Omega.{arith}
 use lib.Dec.{ltb}
@@ -20,7 +20,6 @@ use Rattle.rows.proofs.RowFaults.{fine-worth, fine-id}
 use Rattle.rows.proofs.RowLists.{rows-length, level-len, level-id}
 use Rattle.rows.proofs.FirstBad.{none-bad-says}
 use Rattle.rows.proofs.ListFaults.{rows_few, columns-level, row_inside, wordpiece-numbered, sizes-first}
-use Rattle.build.specs.declared.Built.{Built}
 use Rattle.build.specs.Names.{names}
 use Rattle.build.specs.Rules.{tokens_of, first_row, id_of_worth, unigram_trie}
 use Rattle.build.specs.Parts.{trie_of}
@@ -35,8 +34,8 @@ use Rattle.build.proofs.Rooms.{nodes-few}
 
 -- ---- a list without a fault
 
-module _ (kind : Kind) (tab : List ℕ) (c : Columns) (fine : columns_fault kind tab c ≡ none) where
-  pub rows-fine : first_bad kind tab 0 (rows_of c) ≡ none
+module _ (kind : Kind) (tab : List ℕ) (c : Columns) (fine : columns_fault kind tab c ≡ None) where
+  pub rows-fine : first_bad kind tab 0 (rows_of c) ≡ None
   rows-fine = (passed _ _ _ (sym (sizes-first kind tab c) ∙ fine)).1
 
   pub few-rows : length (rows_of c) ≤ 1_048_576
@@ -59,7 +58,7 @@ module _ (kind : Kind) (tab : List ℕ) (c : Columns) (fine : columns_fault kind
 
 -- a WordPiece row without a fault has no mark for its id
 pub ids-marked :
-    (tab : List ℕ) (rows : List Row) → first_bad WordPiece tab 0 rows ≡ none
+    (tab : List ℕ) (rows : List Row) → first_bad WordPiece tab 0 rows ≡ None
     → (k : ℕ) → k < length rows → id_of_worth (get_or rows k no_row).worth ≡ no_id → ⊥
 unfolding id_of_worth
 ids-marked tab rows fine k h e =
@@ -105,7 +104,7 @@ given-rows c h = rows-from c (length c.off) 0 (λ k p. h k (omega arith))
 -- the trie and the count of nodes are those of the columns' rows: for Unigram the tokens decide, and WordPiece has the rows
 -- themselves
 same-build :
-    (kind : Kind) (tab : List ℕ) (c : Columns) → columns_fault kind tab c ≡ none
+    (kind : Kind) (tab : List ℕ) (c : Columns) → columns_fault kind tab c ≡ None
     → (trie_in kind tab (given c.off c.len c.id) ≡ trie_in kind tab (rows_of c))
     × (nodes_of tab (given c.off c.len c.id) ≡ nodes_of tab (rows_of c))
 unfolding trie_in unigram_trie
@@ -117,7 +116,7 @@ same-build WordPiece tab c fine =
     (ap (trie_in WordPiece tab) rows, ap (nodes_of tab) rows)
 
 pub columns-built :
-    (kind : Kind) (tab : List ℕ) (c : Columns) {room : ℕ} {m after : Memory} {answer : Built} → columns_fault kind tab c ≡ none
+    (kind : Kind) (tab : List ℕ) (c : Columns) {room : ℕ} {m after : Memory} {answer : Option ℕ} → columns_fault kind tab c ≡ None
     → BuiltOf kind tab (given c.off c.len c.id) room m after answer → BuiltOf kind tab (rows_of c) room m after answer
 columns-built kind tab c {room = room} {m = m} fine d =
     let same = same-build kind tab c fine in

@@ -1,11 +1,10 @@
 -- The parts as they are laid out: where a node's edges stand among all, so that a step from a node leads to the child's place,
 -- and a walk over a string ends at the string's place. Assumes nothing.
+use Rattle.std.specs.Prelude.{unwrap_or, Option, None, Some}
 use mathlib.Core.Path.{◌≡◌, refl, sym, ap, ◌∙◌}
 use mathlib.Core.Bool.{cond}
 use mathlib.Core.List.{List, [], ◌∷◌, ◌++◌, map, flatten, append_assoc, append-nil}
 use mathlib.Core.Logic.{◌⊎◌, inl, inr, ⊎_elim}
-use mathlib.Core.Option
-use mathlib.Core.Option.{Option, none, some}
 use Prim.Native.Nat.{ℕ, zero, suc, ◌+◌, ◌<◌}
 use native.Mathlib.Omega.{arith}
 use native.Mathlib.Decide.{dec_lt}
@@ -83,7 +82,7 @@ seek-miss : (bytes tos : List ℕ) (b at n : ℕ) → (get_or bytes at 0 ≡ b �
 unfolding seek
 seek-miss bytes tos b at n h = rw (ne_eqb (get_or bytes at 0) b h)
 
-seek_hit : (bytes tos : List ℕ) (b at n : ℕ) → get_or bytes at 0 ≡ b → seek bytes tos b at (suc n) ≡ some (get_or tos at 0)
+seek_hit : (bytes tos : List ℕ) (b at n : ℕ) → get_or bytes at 0 ≡ b → seek bytes tos b at (suc n) ≡ Some (get_or tos at 0)
 unfolding seek
 seek_hit bytes tos b at n h = rw (eq-eqb (get_or bytes at 0) b h)
 
@@ -105,16 +104,16 @@ seek-target (e ∷ es) l post b at h =
     let to = map-head (λ x. x.to) l at e (es ++ post) h in
     ⊎_elim
     (λ (q : e.byte ≡ b).
-    seek_hit (map (λ x. x.byte) l) (map (λ x. x.to) l) b at (length es) (byte ∙ q) ∙ ap some to ∙ sym (hit q))
+    seek_hit (map (λ x. x.byte) l) (map (λ x. x.to) l) b at (length es) (byte ∙ q) ∙ ap Some to ∙ sym (hit q))
     (λ (q : e.byte ≡ b → ⊥).
     seek-miss (map (λ x. x.byte) l) (map (λ x. x.to) l) b at (length es) (λ p. q (sym byte ∙ p))
     ∙ seek-target es l post b (suc at) (drop_head l at e (es ++ post) h) ∙ sym (miss q))
     (same? e.byte b)
   where
-    hit : e.byte ≡ b → cond (eqb e.byte b) (some e.to) (target es b) ≡ some e.to
+    hit : e.byte ≡ b → cond (eqb e.byte b) (Some e.to) (target es b) ≡ Some e.to
     hit q = rw (eq-eqb e.byte b q)
 
-    miss : (e.byte ≡ b → ⊥) → cond (eqb e.byte b) (some e.to) (target es b) ≡ target es b
+    miss : (e.byte ≡ b → ⊥) → cond (eqb e.byte b) (Some e.to) (target es b) ≡ target es b
     miss q = rw (ne_eqb e.byte b q)
 
 -- ---- steps and walks in laid out parts
@@ -126,12 +125,12 @@ module _ (rule : List ℕ → Option ℕ) (ns : List²) (g : Grown ns) where
       go : Dec (b < 256) → target (edges_of ns s) b ≡ place ns (s ++ (b ∷ []))
       go (yes h) = target-of ns s b h
       go (no h) =
-          let away : place ns (s ++ (b ∷ [])) ≡ none =
+          let away : place ns (s ++ (b ∷ [])) ≡ None =
           missing (place ns (s ++ (b ∷ []))) (λ k e. omega (arith, (grown-parent g s b k e).3)) in
           target-no-byte ns s b (omega arith) ∙ sym away
 
   -- "Edges stand node after node": a step from the node s by b is the place of s ++ [b]
-  pub step-built : (s : List ℕ) (k b : ℕ) → place ns s ≡ some k → step (lay rule ns) k b ≡ place ns (s ++ (b ∷ []))
+  pub step-built : (s : List ℕ) (k b : ℕ) → place ns s ≡ Some k → step (lay rule ns) k b ≡ place ns (s ++ (b ∷ []))
   unfolding step lay
   step-built s k b e =
       let parts = map (edges_of ns) ns in
@@ -147,17 +146,17 @@ module _ (rule : List ℕ → Option ℕ) (ns : List²) (g : Grown ns) where
       (w.1 ∙ ap (λ (x : List Edge). x ++ w.0) here)
       ∙ target_is s b
 
-  walk_from : (s p : List ℕ) (k : ℕ) → place ns p ≡ some k → walk (lay rule ns) k s ≡ place ns (p ++ s)
+  walk_from : (s p : List ℕ) (k : ℕ) → place ns p ≡ Some k → walk (lay rule ns) k s ≡ place ns (p ++ s)
   unfolding walk
   walk_from [] p k e = sym e ∙ ap (place ns) (sym (append-nil p))
   walk_from (b ∷ s) p k e =
       ⊎_elim
-      (λ (q : place ns (p ++ (b ∷ [])) ≡ none).
-      let away : place ns (p ++ (b ∷ s)) ≡ none =
+      (λ (q : place ns (p ++ (b ∷ [])) ≡ None).
+      let away : place ns (p ++ (b ∷ s)) ≡ None =
       missing (place ns (p ++ (b ∷ s)))
       (λ j f. none-some (sym q ∙ (grown-begins g (p ++ (b ∷ [])) s j (ap (place ns) (snoc-append p b s) ∙ f)).1)) in
       rw (step-built p k b e ∙ q, walk) (sym away))
-      (λ (w : (j : ℕ) × (place ns (p ++ (b ∷ [])) ≡ some j)).
+      (λ (w : (j : ℕ) × (place ns (p ++ (b ∷ [])) ≡ Some j)).
       rw (step-built p k b e ∙ w.1, walk) (walk_from s (p ++ (b ∷ [])) w.0 w.1 ∙ ap (place ns) (snoc-append p b s)))
       (found? (place ns (p ++ (b ∷ []))))
 
@@ -166,27 +165,27 @@ module _ (rule : List ℕ → Option ℕ) (ns : List²) (g : Grown ns) where
   walk-built s = walk_from s [] 0 (grown-root g)
 
   id-built :
-      (s : List ℕ) (k : ℕ) → place ns s ≡ some k → ((i : ℕ) → rule s ≡ some i → i ≡ no_id → ⊥) → id_at (lay rule ns) k ≡ rule s
+      (s : List ℕ) (k : ℕ) → place ns s ≡ Some k → ((i : ℕ) → rule s ≡ Some i → i ≡ no_id → ⊥) → id_at (lay rule ns) k ≡ rule s
   unfolding id_at lay
   id-built s k e small =
-      let stands : get_or (map (λ x. Option.get_or (rule x) no_id) ns) k no_id ≡ Option.get_or (rule s) no_id =
-      get_or-map-of (λ x. Option.get_or (rule x) no_id) ns k [] no_id (place-below ns s k e)
-      ∙ ap (λ (x : List ℕ). Option.get_or (rule x) no_id) (place_at ns s k e) in
-      ap (λ (i : ℕ). cond (eqb i no_id) none (some i)) stands ∙ read (rule s) small
+      let stands : get_or (map (λ x. unwrap_or (rule x) no_id) ns) k no_id ≡ unwrap_or (rule s) no_id =
+      get_or-map-of (λ x. unwrap_or (rule x) no_id) ns k [] no_id (place-below ns s k e)
+      ∙ ap (λ (x : List ℕ). unwrap_or (rule x) no_id) (place_at ns s k e) in
+      ap (λ (i : ℕ). cond (eqb i no_id) None (Some i)) stands ∙ read (rule s) small
     where
-      read : (o : Option ℕ) → ((i : ℕ) → o ≡ some i → i ≡ no_id → ⊥) → cond (eqb (Option.get_or o no_id) no_id) none (some (Option.get_or o no_id)) ≡ o
-      read none h = refl
-      read (some i) h = rw (ne_eqb i no_id (h i refl))
+      read : (o : Option ℕ) → ((i : ℕ) → o ≡ Some i → i ≡ no_id → ⊥) → cond (eqb (unwrap_or o no_id) no_id) None (Some (unwrap_or o no_id)) ≡ o
+      read None h = refl
+      read (Some i) h = rw (ne_eqb i no_id (h i refl))
 
   -- the look-up of s in the built trie is the rule's own, where the rule gives ids to names alone
   pub lookup-built :
-      ((s : List ℕ) → place ns s ≡ none → rule s ≡ none) → ((s : List ℕ) (i : ℕ) → rule s ≡ some i → i ≡ no_id → ⊥)
+      ((s : List ℕ) → place ns s ≡ None → rule s ≡ None) → ((s : List ℕ) (i : ℕ) → rule s ≡ Some i → i ≡ no_id → ⊥)
       → (s : List ℕ) → id_of (lay rule ns) s ≡ rule s
   unfolding id_of id_from
   lookup-built within small s =
       ⊎_elim
-      (λ (q : place ns s ≡ none). let e : walk (lay rule ns) 0 s ≡ none = walk-built s ∙ q in rw (e, id_from) (sym (within s q)))
-      (λ (w : (k : ℕ) × (place ns s ≡ some k)).
-      let e : walk (lay rule ns) 0 s ≡ some w.0 = walk-built s ∙ w.1 in
+      (λ (q : place ns s ≡ None). let e : walk (lay rule ns) 0 s ≡ None = walk-built s ∙ q in rw (e, id_from) (sym (within s q)))
+      (λ (w : (k : ℕ) × (place ns s ≡ Some k)).
+      let e : walk (lay rule ns) 0 s ≡ Some w.0 = walk-built s ∙ w.1 in
       rw (e, id_from) (id-built s w.0 w.1 (small s)))
       (found? (place ns s))

@@ -1,9 +1,9 @@
 -- One node more between a link and what it led to: all links are right again. Only the node's parent and the sibling before it
 -- see a change, and they lead to the new node; the new node leads to what stood there. Assumes nothing.
+use Rattle.std.specs.Prelude.{None, Some}
 use mathlib.Core.Path.{◌≡◌, sym, ap, ◌∙◌, subst}
 use mathlib.Core.List.{List, [], ◌∷◌, ◌++◌}
 use mathlib.Core.Logic.{◌⊎◌, inl, inr, ⊎_elim}
-use mathlib.Core.Option.{none, some}
 use Prim.Native.Nat.{ℕ, suc, ◌+◌, ◌*◌, ◌≤◌, ◌<◌}
 use native.Mathlib.Omega.{arith}
 use native.Mathlib.Decide.{dec_lt}
@@ -71,8 +71,8 @@ module _ (work : List ℕ) (at n : ℕ) (before : at < 2 * n) (room : 2 * suc n 
 
 -- ---- one node more
 
-module _ (ns : List²) (work : List ℕ) (l : Linked ns work) (s : List ℕ) (b at j : ℕ) (here : place ns s ≡ some j)
-    (new : place ns (s ++ (b ∷ [])) ≡ none) (slot : Slot ns s b at) (byte : b < 256) (room : 2 * suc (length ns) ≤ length work) where
+module _ (ns : List²) (work : List ℕ) (l : Linked ns work) (s : List ℕ) (b at j : ℕ) (here : place ns s ≡ Some j)
+    (new : place ns (s ++ (b ∷ [])) ≡ None) (slot : Slot ns s b at) (byte : b < 256) (room : 2 * suc (length ns) ≤ length work) where
   abbrev n : ℕ
   n = length ns
 
@@ -108,7 +108,7 @@ module _ (ns : List²) (work : List ℕ) (l : Linked ns work) (s : List ℕ) (b 
   lift-past : (c v : ℕ) → b < c → First ns s c v → First ms s c v
   lift-past c v h f = lift s c v (λ e cl a p q z. omega (arith, snoc-last s s a b z)) f
 
-  lift-before : (c v a k : ℕ) → place ns (s ++ (a ∷ [])) ≡ some k → c ≤ a → a < b → First ns s c v → First ms s c v
+  lift-before : (c v a k : ℕ) → place ns (s ++ (a ∷ [])) ≡ Some k → c ≤ a → a < b → First ns s c v → First ms s c v
   lift-before c v a k e p q f =
       lift s c v (λ m cl x g h z. none-some (sym (cl a p (omega (arith, snoc-last s s x b z))) ∙ e)) f
 
@@ -130,15 +130,15 @@ module _ (ns : List²) (work : List ℕ) (l : Linked ns work) (s : List ℕ) (b 
       subst (λ (y : List ℕ). First ms y c (get_or work' i 0)) q
       (subst (First ms s c) (sym (ap (λ (k : ℕ). get_or work' k 0) (sym h) ∙ linked-slot work at n before room)) f)
 
-  old-first : (x : List ℕ) (k : ℕ) → place ns x ≡ some k → Slot ns s b at → First ms x 0 (get_or work' (2 * k) 0)
+  old-first : (x : List ℕ) (k : ℕ) → place ns x ≡ Some k → Slot ns s b at → First ms x 0 (get_or work' (2 * k) 0)
   old-first x k e (of-first i p q cl) =
       let low : k < n = place-below ns x k e in
       ⊎_elim
-      (λ (z : i ≡ k). at_slot (2 * k) (omega arith) x 0 (place-one ns s x k (p ∙ ap some z) e) (new-least 0 (omega arith) cl))
+      (λ (z : i ≡ k). at_slot (2 * k) (omega arith) x 0 (place-one ns s x k (p ∙ ap Some z) e) (new-least 0 (omega arith) cl))
       (λ (z : i ≡ k → ⊥).
       at_other (2 * k) (λ y. z (omega arith)) (omega arith) x 0
       (lift-other x 0 (get_or work (2 * k) 0)
-      (λ y. z (let g : some i ≡ some k = sym p ∙ ap (place ns) (sym y) ∙ e in cc)) (l.first x k e)))
+      (λ y. z (let g : Some i ≡ Some k = sym p ∙ ap (place ns) (sym y) ∙ e in cc)) (l.first x k e)))
       (same? i k)
   old-first x k e (of-next a i p q h cl) =
       let low : k < n = place-below ns x k e in
@@ -151,7 +151,7 @@ module _ (ns : List²) (work : List ℕ) (l : Linked ns work) (s : List ℕ) (b 
       (equal? s x))
 
   -- the next sibling of s ++ [a], where another link than its own was changed
-  kept_next : (a k : ℕ) → place ns (s ++ (a ∷ [])) ≡ some k → Slot ns s b at → (2 * k + 1 ≡ at → ⊥) → First ms s (suc a) (get_or work (2 * k + 1) 0)
+  kept_next : (a k : ℕ) → place ns (s ++ (a ∷ [])) ≡ Some k → Slot ns s b at → (2 * k + 1 ≡ at → ⊥) → First ms s (suc a) (get_or work (2 * k + 1) 0)
   kept_next a k e (of-first i p q cl) h = go (dec_lt a b)
     where
       go : Dec (a < b) → First ms s (suc a) (get_or work (2 * k + 1) 0)
@@ -163,12 +163,12 @@ module _ (ns : List²) (work : List ℕ) (l : Linked ns work) (s : List ℕ) (b 
       go (no u) v w = lift-past (suc a) (get_or work (2 * k + 1) 0) (omega arith) (l.next s a k e)
       go (yes u) (yes v) w = lift-before (suc a) (get_or work (2 * k + 1) 0) c i p v m (l.next s a k e)
       go (yes u) (no v) (inl w) =
-          let z : some k ≡ some i = sym e ∙ ap (λ (y : ℕ). place ns (s ++ (y ∷ []))) w ∙ p in
+          let z : Some k ≡ Some i = sym e ∙ ap (λ (y : ℕ). place ns (s ++ (y ∷ []))) w ∙ p in
           let y : k ≡ i = cc in
           absurd (h (omega arith))
       go (yes u) (no v) (inr w) = none-some (sym (cl a (omega arith) u) ∙ e)
 
-  old-next : (x : List ℕ) (a k : ℕ) → place ns (x ++ (a ∷ [])) ≡ some k → Slot ns s b at → First ms x (suc a) (get_or work' (2 * k + 1) 0)
+  old-next : (x : List ℕ) (a k : ℕ) → place ns (x ++ (a ∷ [])) ≡ Some k → Slot ns s b at → First ms x (suc a) (get_or work' (2 * k + 1) 0)
   old-next x a k e (of-first i p q cl) =
       let low : k < n = place-below ns (x ++ (a ∷ [])) k e in
       at_other (2 * k + 1) (λ y. omega arith) (omega arith) x (suc a)
@@ -182,7 +182,7 @@ module _ (ns : List²) (work : List ℕ) (l : Linked ns work) (s : List ℕ) (b 
       let low : k < n = place-below ns (x ++ (a ∷ [])) k e in
       ⊎_elim
       (λ (z : i ≡ k).
-      let one : s ++ (c ∷ []) ≡ x ++ (a ∷ []) = place-one ns (s ++ (c ∷ [])) (x ++ (a ∷ [])) k (p ∙ ap some z) e in
+      let one : s ++ (c ∷ []) ≡ x ++ (a ∷ []) = place-one ns (s ++ (c ∷ [])) (x ++ (a ∷ [])) k (p ∙ ap Some z) e in
       let last : c ≡ a = snoc-last s x c a one in
       at_slot (2 * k + 1) (omega arith) x (suc a) (snoc-front s x c a one)
       (new-least (suc a) (omega arith) (λ y u v. cl y (omega arith) v)))
@@ -233,7 +233,7 @@ module _ (ns : List²) (work : List ℕ) (l : Linked ns work) (s : List ℕ) (b 
       record {
         room = omega (arith, length-set edge_n n b, length_more ns t);
         byte = λ x a k e f. ⊎_elim
-            (λ (p : place ns (x ++ (a ∷ [])) ≡ some k).
+            (λ (p : place ns (x ++ (a ∷ [])) ≡ Some k).
             get_or-set_other edge_n n k b 0 (λ z. omega (arith, place-below ns (x ++ (a ∷ [])) k p)) ∙ sp.byte x a k p f)
             (λ (p : (x ++ (a ∷ []) ≡ t) × (k ≡ n)).
             ap (λ (i : ℕ). get_or (set edge_n n b) i 0) p.1 ∙ get_or-set_same edge_n n b 0 h ∙ sym (snoc-last x s a b p.0))

@@ -1,9 +1,9 @@
 -- The look-up in a built trie is the row list's own: the first row with the string, or the id of the last. Assumes nothing.
+use Rattle.std.specs.Prelude.{None, Some}
 use mathlib.Core.Path.{◌≡◌, refl, sym, ◌∙◌, subst}
 use mathlib.Core.Bool.{true, false}
 use mathlib.Core.List.{List, [], ◌∷◌, append-nil}
 use mathlib.Core.Logic.{⊎_elim}
-use mathlib.Core.Option.{none, some}
 use Prim.Native.Nat.{ℕ, suc, ◌+◌, ◌≤◌, ◌<◌}
 use native.Mathlib.Omega.{arith}
 use lib.ListN.{length, get_or, drop, length-map, length-take, length-drop}
@@ -51,12 +51,12 @@ tokens-bytes tab rows h i l =
 
 -- ---- Unigram
 
-first_below : (tokens : List²) (s : List ℕ) (i : ℕ) → first_row tokens s ≡ some i → i < length tokens
+first_below : (tokens : List²) (s : List ℕ) (i : ℕ) → first_row tokens s ≡ Some i → i < length tokens
 unfolding first_row
 first_below tokens [] i e = none-some e
 first_below tokens (b ∷ s) i e = place-below tokens (b ∷ s) i e
 
-first-within : (tokens : List²) (s : List ℕ) → place (names tokens) s ≡ none → first_row tokens s ≡ none
+first-within : (tokens : List²) (s : List ℕ) → place (names tokens) s ≡ None → first_row tokens s ≡ None
 unfolding first_row
 first-within tokens [] e = refl
 first-within tokens (b ∷ s) e =
@@ -76,35 +76,35 @@ unigram-lookup tab rows h few s =
 
 -- the row that gives the id
 pub last_row :
-    (tab : List ℕ) (rows : List Row) (s : List ℕ) (i : ℕ) → last_of tab rows s ≡ some i
+    (tab : List ℕ) (rows : List Row) (s : List ℕ) (i : ℕ) → last_of tab rows s ≡ Some i
     → (k : ℕ) × (k < length rows) × (token_of tab (get_or rows k no_row) ≡ s) × (id_of_worth (get_or rows k no_row).worth ≡ i)
 unfolding last_of
 last_row tab [] s i e = none-some e
 last_row tab (r ∷ rs) s i e =
     ⊎_elim
-    (λ (q : last_of tab rs s ≡ none). ⊎_elim
+    (λ (q : last_of tab rs s ≡ None). ⊎_elim
     (λ (t : same s (token_of tab r) ≡ true).
-    let z : some (id_of_worth r.worth) ≡ some i = sym (here q t) ∙ e in
+    let z : Some (id_of_worth r.worth) ≡ Some i = sym (here q t) ∙ e in
     (0, omega arith, sym (same-eq s (token_of tab r) t), cc))
     (λ (t : same s (token_of tab r) ≡ false). none-some (sym (gone q t) ∙ e))
     (either (same s (token_of tab r))))
-    (λ (w : (j : ℕ) × (last_of tab rs s ≡ some j)).
-    let z : some w.0 ≡ some i = sym (later w) ∙ e in
+    (λ (w : (j : ℕ) × (last_of tab rs s ≡ Some j)).
+    let z : Some w.0 ≡ Some i = sym (later w) ∙ e in
     let y : w.0 ≡ i = cc in
     let v = last_row tab rs s w.0 w.1 in
     (suc v.0, omega (arith, v.1), v.2, v.3 ∙ y))
     (found? (last_of tab rs s))
   where
-    here : last_of tab rs s ≡ none → same s (token_of tab r) ≡ true → last_of tab (r ∷ rs) s ≡ some (id_of_worth r.worth)
+    here : last_of tab rs s ≡ None → same s (token_of tab r) ≡ true → last_of tab (r ∷ rs) s ≡ Some (id_of_worth r.worth)
     here q t = rw (q, t, last_of)
 
-    gone : last_of tab rs s ≡ none → same s (token_of tab r) ≡ false → last_of tab (r ∷ rs) s ≡ none
+    gone : last_of tab rs s ≡ None → same s (token_of tab r) ≡ false → last_of tab (r ∷ rs) s ≡ None
     gone q t = rw (q, t, last_of)
 
-    later : (w : (j : ℕ) × (last_of tab rs s ≡ some j)) → last_of tab (r ∷ rs) s ≡ some w.0
+    later : (w : (j : ℕ) × (last_of tab rs s ≡ Some j)) → last_of tab (r ∷ rs) s ≡ Some w.0
     later w = rw (w.1, last_of)
 
-last_within : (tab : List ℕ) (rows : List Row) (s : List ℕ) → place (names (tokens_of tab rows)) s ≡ none → last_id tab rows s ≡ none
+last_within : (tab : List ℕ) (rows : List Row) (s : List ℕ) → place (names (tokens_of tab rows)) s ≡ None → last_id tab rows s ≡ None
 unfolding last_id
 last_within tab rows [] e = refl
 last_within tab rows (b ∷ s) e =
@@ -116,7 +116,7 @@ last_within tab rows (b ∷ s) e =
 
 last-small :
     (tab : List ℕ) (rows : List Row) → ((k : ℕ) → k < length rows → id_of_worth (get_or rows k no_row).worth ≡ no_id → ⊥)
-    → (s : List ℕ) (i : ℕ) → last_id tab rows s ≡ some i → i ≡ no_id → ⊥
+    → (s : List ℕ) (i : ℕ) → last_id tab rows s ≡ Some i → i ≡ no_id → ⊥
 unfolding last_id
 last-small tab rows h [] i e z = none-some e
 last-small tab rows h (b ∷ s) i e z = let w = last_row tab rows (b ∷ s) i e in h w.0 w.1 (w.3 ∙ z)

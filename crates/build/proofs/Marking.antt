@@ -1,10 +1,9 @@
 -- A row entered: its token's last node takes the row's id, where the rule says so. Assumes nothing.
+use Rattle.std.specs.Prelude.{unwrap_or, Option, None, Some}
 use mathlib.Core.Path.{◌≡◌, refl, sym, ap, ◌∙◌, subst, fun_ext}
 use mathlib.Core.Bool.{Bool, true, false, cond}
 use mathlib.Core.List.{List, [], ◌∷◌}
 use mathlib.Core.Logic.{⊎_elim}
-use mathlib.Core.Option
-use mathlib.Core.Option.{Option, none, some}
 use Prim.Native.Nat.{ℕ, ◌+◌, ◌≤◌, ◌<◌}
 use native.Mathlib.Omega.{arith}
 use borrow.Author.Tests.{eq-eqb, ne_eqb}
@@ -45,14 +44,14 @@ marked-elsewhere WordPiece id node v k h = get_or-set_other id node k v 0 h
 
 -- the node's own id is what the rule keeps
 marked-there :
-    (kind : Kind) (id : List ℕ) (node v : ℕ) (o : Option ℕ) → node < length id → get_or id node 0 ≡ Option.get_or o no_id
-    → (kind ≡ Unigram → (i : ℕ) → o ≡ some i → i < no_id) → get_or (marked_ids kind id node v) node 0 ≡ Option.get_or (kept kind o v) no_id
+    (kind : Kind) (id : List ℕ) (node v : ℕ) (o : Option ℕ) → node < length id → get_or id node 0 ≡ unwrap_or o no_id
+    → (kind ≡ Unigram → (i : ℕ) → o ≡ Some i → i < no_id) → get_or (marked_ids kind id node v) node 0 ≡ unwrap_or (kept kind o v) no_id
 unfolding kept
-marked-there Unigram id node v none h e small = rw (eq-eqb (get_or id node 0) no_id e) (get_or-set_same id node v 0 h)
-marked-there Unigram id node v (some i) h e small =
+marked-there Unigram id node v None h e small = rw (eq-eqb (get_or id node 0) no_id e) (get_or-set_same id node v 0 h)
+marked-there Unigram id node v (Some i) h e small =
     rw (ne_eqb (get_or id node 0) no_id (λ z. omega (arith, small refl i refl))) e
-marked-there WordPiece id node v none h e small = get_or-set_same id node v 0 h
-marked-there WordPiece id node v (some i) h e small = get_or-set_same id node v 0 h
+marked-there WordPiece id node v None h e small = get_or-set_same id node v 0 h
+marked-there WordPiece id node v (Some i) h e small = get_or-set_same id node v 0 h
 
 -- ---- the row
 
@@ -82,11 +81,11 @@ module _ {ms : List²} {rule : List ℕ → Option ℕ} {t : List ℕ} {room : �
     below : node < length ms
     below = place-below ms t node (done.here z)
 
-    marked-at : get_or (marked_ids kind id node v) node 0 ≡ Option.get_or (marked kind t v rule t) no_id
+    marked-at : get_or (marked_ids kind id node v) node 0 ≡ unwrap_or (marked kind t v rule t) no_id
     marked-at =
         marked-there kind id node v (rule t) (omega (arith, below, held.marks.room)) (held.marks.ids t node (done.here z))
         (λ e i p. small e t i p)
-        ∙ ap (λ (o : Option ℕ). Option.get_or o no_id) (sym (self t some_byte))
+        ∙ ap (λ (o : Option ℕ). unwrap_or o no_id) (sym (self t some_byte))
       where
         self : (s : List ℕ) → 0 < length s → marked kind s v rule s ≡ kept kind (rule s) v
         self [] h = absurd (omega arith)
@@ -107,11 +106,11 @@ module _ {ms : List²} {rule : List ℕ → Option ℕ} {t : List ℕ} {room : �
                   (λ (q : s ≡ t).
                   let at : k ≡ node = place_same ms t k node (ap (place ms) (sym q) ∙ p) (done.here z) in
                   ap (λ (i : ℕ). get_or (marked_ids kind id node v) i 0) at ∙ marked-at
-                  ∙ ap (λ (x : List ℕ). Option.get_or (marked kind t v rule x) no_id) (sym q))
+                  ∙ ap (λ (x : List ℕ). unwrap_or (marked kind t v rule x) no_id) (sym q))
                   (λ (q : s ≡ t → ⊥).
                   marked-elsewhere kind id node v k
-                  (λ y. q (place-one ms s t k p (done.here z ∙ ap some (sym y))))
-                  ∙ held.marks.ids s k p ∙ ap (λ (o : Option ℕ). Option.get_or o no_id) (sym (marked_other kind t v rule s q)))
+                  (λ y. q (place-one ms s t k p (done.here z ∙ ap Some (sym y))))
+                  ∙ held.marks.ids s k p ∙ ap (λ (o : Option ℕ). unwrap_or o no_id) (sym (marked_other kind t v rule s q)))
                   (equal? s t);
               within = λ s p.
                   marked_other kind t v rule s (λ q. none-some (sym (ap (place ms) (sym q) ∙ p) ∙ done.here z)) ∙ held.marks.within s p;

@@ -1,9 +1,9 @@
 -- The names of tokens: they grew from the root; a name is empty or begins a token, and all that begin a token are names; one
 -- token more enters its own prefixes; there are at most one more than the tokens have bytes. Assumes nothing.
+use Rattle.std.specs.Prelude.{Some}
 use mathlib.Core.Path.{◌≡◌, refl, sym, ap, ◌∙◌, subst}
 use mathlib.Core.List.{List, [], ◌∷◌, ◌++◌, append-nil, flat_map}
 use mathlib.Core.Logic.{◌⊎◌, inl, inr, ⊎_elim}
-use mathlib.Core.Option.{some}
 use Prim.Native.Nat.{ℕ, zero, suc, ◌+◌, ◌*◌, ◌≤◌, ◌<◌}
 use native.Mathlib.Omega.{arith}
 use lib.ListN.{length, get_or}
@@ -50,7 +50,7 @@ grown-entered (t ∷ ts) ns g h =
 pub grown-names : (tokens : List²) → AllBytes tokens → Grown (names tokens)
 grown-names tokens h = subst Grown (sym (names-are tokens)) (grown-entered tokens ([] ∷ []) root h)
 
-pub entered-keeps : (ts ns : List²) (s : List ℕ) (k : ℕ) → place ns s ≡ some k → place (entered ns ts) s ≡ some k
+pub entered-keeps : (ts ns : List²) (s : List ℕ) (k : ℕ) → place ns s ≡ Some k → place (entered ns ts) s ≡ Some k
 entered-keeps ts ns s k e = enter-keeps (flat_map (prefixes []) ts) ns s k e
 
 pub entered-grows : (ts ns : List²) → length ns ≤ length (entered ns ts)
@@ -62,7 +62,7 @@ entered-grows ts ns = enter-grows (flat_map (prefixes []) ts) ns
 abbrev pub Begins : List² → List ℕ → Type 0
 Begins tokens s = (i : ℕ) × (r : List ℕ) × (i < length tokens) × (get_or tokens i [] ≡ s ++ r)
 
-pub entered-has : (ts ns : List²) (q : List ℕ) → place ns [] ≡ some 0 → Begins ts q → (k : ℕ) × (place (entered ns ts) q ≡ some k)
+pub entered-has : (ts ns : List²) (q : List ℕ) → place ns [] ≡ Some 0 → Begins ts q → (k : ℕ) × (place (entered ns ts) q ≡ Some k)
 entered-has [] ns q e w = absurd (omega (arith, w.2))
 entered-has (t ∷ ts) ns q e (zero, r, l, d) =
     let v = enter-has t [] q ns 0 e r d in
@@ -72,14 +72,14 @@ entered-has (t ∷ ts) ns q e (suc i, r, l, d) =
     (v.0, ap (λ (x : List²). place x q) (entered-one ns t ts) ∙ v.1)
 
 prefixes-from :
-    (t p : List ℕ) (ns : List²) (s : List ℕ) (k : ℕ) → place (enter ns (prefixes p t)) s ≡ some k
-    → ((j : ℕ) × (place ns s ≡ some j)) ⊎ ((r : List ℕ) × (p ++ t ≡ s ++ r))
+    (t p : List ℕ) (ns : List²) (s : List ℕ) (k : ℕ) → place (enter ns (prefixes p t)) s ≡ Some k
+    → ((j : ℕ) × (place ns s ≡ Some j)) ⊎ ((r : List ℕ) × (p ++ t ≡ s ++ r))
 unfolding prefixes enter
 prefixes-from [] p ns s k e = inl (k, e)
 prefixes-from (b ∷ t) p ns s k e =
     let q = p ++ (b ∷ []) in
     ⊎_elim
-    (λ (w : (j : ℕ) × (place (add ns q) s ≡ some j)). ⊎_elim
+    (λ (w : (j : ℕ) × (place (add ns q) s ≡ Some j)). ⊎_elim
     (λ n. ⊎_elim (λ o. inl (w.0, o)) (λ o. inr (t, sym (snoc-append p b t) ∙ ap (λ (x : List ℕ). x ++ t) (sym o.0)))
     (place-more ns q s w.0 n (ap (λ (x : List²). place x s) (sym (add-new ns q n)) ∙ w.1)))
     (λ m. inl (w.0, ap (λ (x : List²). place x s) (sym (add-there ns q m.0 m.1)) ∙ w.1))
@@ -88,17 +88,17 @@ prefixes-from (b ∷ t) p ns s k e =
     (prefixes-from t q (add ns q) s k e)
 
 tokens-from :
-    (ts ns : List²) (s : List ℕ) (k : ℕ) → place (entered ns ts) s ≡ some k → ((j : ℕ) × (place ns s ≡ some j)) ⊎ Begins ts s
+    (ts ns : List²) (s : List ℕ) (k : ℕ) → place (entered ns ts) s ≡ Some k → ((j : ℕ) × (place ns s ≡ Some j)) ⊎ Begins ts s
 tokens-from [] ns s k e = inl (k, ap (λ (x : List²). place x s) (sym (entered-none ns)) ∙ e)
 tokens-from (t ∷ ts) ns s k e =
     ⊎_elim
-    (λ (w : (j : ℕ) × (place (enter ns (prefixes [] t)) s ≡ some j)). ⊎_elim (λ v. inl v) (λ v. inr (0, v.0, omega arith, v.1))
+    (λ (w : (j : ℕ) × (place (enter ns (prefixes [] t)) s ≡ Some j)). ⊎_elim (λ v. inl v) (λ v. inr (0, v.0, omega arith, v.1))
     (prefixes-from t [] ns s w.0 w.1))
     (λ (w : Begins ts s). inr (suc w.0, w.1, omega (arith, w.2), w.3))
     (tokens-from ts (enter ns (prefixes [] t)) s k (ap (λ (x : List²). place x s) (sym (entered-one ns t ts)) ∙ e))
 
 -- a name is empty or begins a token
-pub name-begins : (tokens : List²) (s : List ℕ) (k : ℕ) → place (names tokens) s ≡ some k → (s ≡ []) ⊎ Begins tokens s
+pub name-begins : (tokens : List²) (s : List ℕ) (k : ℕ) → place (names tokens) s ≡ Some k → (s ≡ []) ⊎ Begins tokens s
 name-begins tokens s k e =
     ⊎_elim (λ w. ⊎_elim (λ v. absurd (no_place w v)) (λ v. inl (sym v)) (nil-or s)) (λ w. inr w)
     (tokens-from tokens ([] ∷ []) s k (ap (λ (x : List²). place x s) (sym (names-are tokens)) ∙ e))
@@ -107,17 +107,17 @@ name-begins tokens s k e =
     nil-or [] = inr refl
     nil-or (b ∷ s) = inl (λ q. zero_one cc)
 
-    no_place : {s : List ℕ} → (j : ℕ) × (place ([] ∷ []) s ≡ some j) → (s ≡ [] → ⊥) → ⊥
+    no_place : {s : List ℕ} → (j : ℕ) × (place ([] ∷ []) s ≡ Some j) → (s ≡ [] → ⊥) → ⊥
     no_place {s} w v = none-some (sym (place_other [] [] s v ∙ place-empty s) ∙ w.1)
 
 -- all that begins a token is a name
-pub begins-name : (tokens : List²) (s : List ℕ) → Begins tokens s → (k : ℕ) × (place (names tokens) s ≡ some k)
+pub begins-name : (tokens : List²) (s : List ℕ) → Begins tokens s → (k : ℕ) × (place (names tokens) s ≡ Some k)
 begins-name tokens s w =
     let v = entered-has tokens ([] ∷ []) s (grown-root root) w in
     (v.0, ap (λ (x : List²). place x s) (names-are tokens) ∙ v.1)
 
 -- a token that stands at a place is a name
-pub token-name : (tokens : List²) (s : List ℕ) (i : ℕ) → place tokens s ≡ some i → i < length tokens → (k : ℕ) × (place (names tokens) s ≡ some k)
+pub token-name : (tokens : List²) (s : List ℕ) (i : ℕ) → place tokens s ≡ Some i → i < length tokens → (k : ℕ) × (place (names tokens) s ≡ Some k)
 token-name tokens s i e l = begins-name tokens s (i, [], l, place_at tokens s i e ∙ sym (append-nil s))
 
 -- ---- how many

@@ -1,9 +1,9 @@
 -- How many nodes fit: the room of the lent columns is enough for n nodes exactly where 7 does not refuse them, and judged rows
 -- never need more than a u32 counts. Assumes nothing.
+use Rattle.std.specs.Prelude.{None}
 use mathlib.Core.Path.{◌≡◌, refl, sym, ap, ◌∙◌}
 use mathlib.Core.Bool.{Bool, true, false, ◌||◌}
 use mathlib.Core.List.{List, [], ◌∷◌}
-use mathlib.Core.Option.{none}
 use Prim.Native.Nat.{ℕ, ◌+◌, ◌-◌, ◌*◌, ◌/◌, ◌≤◌, ◌<◌, min}
 use native.Mathlib.Omega.{arith}
 use native.Mathlib.Decide.{dec_lt}
@@ -172,7 +172,7 @@ nodes-some tab rows = omega (arith, ap length (names-are (tokens_of tab rows)), 
 
 -- at most 1,048,576 rows of 1,024 bytes: 1,073,741,825 nodes
 pub nodes-few :
-    (kind : Kind) (tab : List ℕ) (rows : List Row) → length rows ≤ max_rows → first_bad kind tab 0 rows ≡ none → nodes_of tab rows ≤ 1_073_741_825
+    (kind : Kind) (tab : List ℕ) (rows : List Row) → length rows ≤ max_rows → first_bad kind tab 0 rows ≡ None → nodes_of tab rows ≤ 1_073_741_825
 nodes-few kind tab rows few fine =
     let tokens = tokens_of tab rows in
     let each = bytes-few tokens max_token

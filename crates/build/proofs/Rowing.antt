@@ -1,9 +1,9 @@
 -- Rows entered one by one, wherever they are read from. After i rows the columns hold the nodes and ids of those, and what is
 -- still to be entered is the rest. Assumes nothing.
+use Rattle.std.specs.Prelude.{Option, None, Some}
 use mathlib.Core.Path.{◌≡◌, refl, sym, ap, ◌∙◌}
 use mathlib.Core.List.{List, [], ◌∷◌, ◌++◌, map}
 use mathlib.Core.Logic.{inl, ⊎_elim}
-use mathlib.Core.Option.{Option, none, some}
 use Prim.Native.Nat.{ℕ, suc, ◌+◌, ◌-◌, ◌*◌, ◌≤◌, ◌<◌}
 use native.Mathlib.Omega.{arith}
 use native.Mathlib.Numerals.{add-one}
@@ -33,13 +33,13 @@ use Rattle.build.proofs.Ruled.{marked-hit, marked_other, marked_empty}
 
 -- ---- the root alone
 
-root-only : (s : List ℕ) (k : ℕ) → place ([] ∷ []) s ≡ some k → (s ≡ []) × (k ≡ 0)
+root-only : (s : List ℕ) (k : ℕ) → place ([] ∷ []) s ≡ Some k → (s ≡ []) × (k ≡ 0)
 root-only s k e =
     let low : k < 1 = place-below ([] ∷ []) s k e in
     let zero-k : k ≡ 0 = omega arith in
     (sym (place_at ([] ∷ []) s k e) ∙ ap (λ (i : ℕ). get_or ([] ∷ []) i []) zero-k, zero-k)
 
-root-bare : (s : List ℕ) (a : ℕ) → place ([] ∷ []) (s ++ (a ∷ [])) ≡ none
+root-bare : (s : List ℕ) (a : ℕ) → place ([] ∷ []) (s ++ (a ∷ [])) ≡ None
 root-bare s a = place_other [] [] (s ++ (a ∷ [])) (λ q. snoc-nil s a q) ∙ place-empty (s ++ (a ∷ []))
 
 pub held-root :
@@ -92,19 +92,19 @@ pub record Rowed (kind : Kind) (tab : List ℕ) (rows : List Row) (room : ℕ) (
   pub rule : List ℕ → Option ℕ
   pub done : RowDone nodes rule room edge_n id work n
   pub lengths : Kept edge_n₀ id₀ work₀ edge_n id work
-  pub low : kind ≡ Unigram → (s : List ℕ) (j : ℕ) → rule s ≡ some j → j < i
+  pub low : kind ≡ Unigram → (s : List ℕ) (j : ℕ) → rule s ≡ Some j → j < i
   pub names-on : names (tokens_of tab rows) ≡ entered nodes (tokens_of tab rest)
   pub rules-on : rules_from kind tab no_rule 0 rows ≡ rules_from kind tab rule i rest
 
-low-kept : (o : Option ℕ) (i j : ℕ) → ((k : ℕ) → o ≡ some k → k < i) → kept Unigram o i ≡ some j → j < i + 1
+low-kept : (o : Option ℕ) (i j : ℕ) → ((k : ℕ) → o ≡ Some k → k < i) → kept Unigram o i ≡ Some j → j < i + 1
 unfolding kept
-low-kept none i j h e = let z : i ≡ j = cc in omega arith
-low-kept (some k) i j h e = let z : k ≡ j = cc in omega (arith, h k refl)
+low-kept None i j h e = let z : i ≡ j = cc in omega arith
+low-kept (Some k) i j h e = let z : k ≡ j = cc in omega (arith, h k refl)
 
 -- what a row's id makes of the bound
 marked-low :
-    (t : List ℕ) (i : ℕ) (rule : List ℕ → Option ℕ) → ((s : List ℕ) (j : ℕ) → rule s ≡ some j → j < i)
-    → (s : List ℕ) (j : ℕ) → marked Unigram t i rule s ≡ some j → j < i + 1
+    (t : List ℕ) (i : ℕ) (rule : List ℕ → Option ℕ) → ((s : List ℕ) (j : ℕ) → rule s ≡ Some j → j < i)
+    → (s : List ℕ) (j : ℕ) → marked Unigram t i rule s ≡ Some j → j < i + 1
 marked-low t i rule h [] j e = omega (arith, h [] j (sym (marked_empty Unigram t i rule) ∙ e))
 marked-low t i rule h (b ∷ s) j e =
     ⊎_elim (λ (q : b ∷ s ≡ t). low-kept (rule (b ∷ s)) i j (h (b ∷ s)) (sym (marked-hit Unigram t i rule b s q) ∙ e))
@@ -181,7 +181,7 @@ module _ {kind : Kind} {tab : List ℕ} {rows : List Row} {room : ℕ} where
       rules-next =
           r.rules-on ∙ ap (rules_from kind tab r.rule i) next ∙ ap (λ (k : ℕ). rules_from kind tab rule-then k more) (sym (add-one i))
 
-      low-next : kind ≡ Unigram → (s : List ℕ) (j : ℕ) → rule-then s ≡ some j → j < i + 1
+      low-next : kind ≡ Unigram → (s : List ℕ) (j : ℕ) → rule-then s ≡ Some j → j < i + 1
       low-next e s j p =
           marked-low token i r.rule (r.low e) s j
           (sym (ap (λ (k : Kind). marked k token value r.rule s) e

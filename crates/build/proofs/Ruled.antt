@@ -1,9 +1,9 @@
 -- Which row's id a string has: the first of its rows, or the last, as rows are entered one by one. Assumes nothing.
+use Rattle.std.specs.Prelude.{Option, None, Some}
 use mathlib.Core.Path.{◌≡◌, refl, sym, ap, ◌∙◌, fun_ext}
 use mathlib.Core.Bool.{Bool, true, false, cond}
 use mathlib.Core.List.{List, [], ◌∷◌, map}
 use mathlib.Core.Logic.{⊎_elim}
-use mathlib.Core.Option.{Option, none, some}
 use Prim.Native.Nat.{ℕ, suc, ◌+◌}
 use native.Mathlib.Omega.{arith}
 use Rattle.rows.specs.declared.Kind.{Kind}
@@ -41,30 +41,30 @@ marked_other kind (b ∷ t) v rule s h = rw (same-ne s (b ∷ t) h)
 
 -- the first id stays; where there is none, it is the first row's, counted from i
 unfoldable pub or_first : Option ℕ → ℕ → Option ℕ → Option ℕ
-or_first (some j) i o = some j
-or_first none i none = none
-or_first none i (some k) = some (i + k)
+or_first (Some j) i o = Some j
+or_first None i None = None
+or_first None i (Some k) = Some (i + k)
 
 first_step : (o : Option ℕ) (i : ℕ) (p : Option ℕ) → or_first o (suc i) p ≡ or_first o i (later p)
 unfolding or_first later
-first_step none i none = refl
-first_step none i (some k) = ap some (omega arith)
-first_step (some j) i p = refl
+first_step None i None = refl
+first_step None i (Some k) = ap Some (omega arith)
+first_step (Some j) i p = refl
 
-first-here : (o : Option ℕ) (i : ℕ) (p : Option ℕ) → or_first (kept Unigram o i) (suc i) p ≡ or_first o i (some 0)
+first-here : (o : Option ℕ) (i : ℕ) (p : Option ℕ) → or_first (kept Unigram o i) (suc i) p ≡ or_first o i (Some 0)
 unfolding or_first kept
-first-here none i p = ap some (omega arith)
-first-here (some j) i p = refl
+first-here None i p = ap Some (omega arith)
+first-here (Some j) i p = refl
 
-first-none : (o : Option ℕ) (i : ℕ) → or_first o i none ≡ o
+first-none : (o : Option ℕ) (i : ℕ) → or_first o i None ≡ o
 unfolding or_first
-first-none none i = refl
-first-none (some j) i = refl
+first-none None i = refl
+first-none (Some j) i = refl
 
-first-from-zero : (o : Option ℕ) → or_first none 0 o ≡ o
+first-from-zero : (o : Option ℕ) → or_first None 0 o ≡ o
 unfolding or_first
-first-from-zero none = refl
-first-from-zero (some k) = ap some (omega arith)
+first-from-zero None = refl
+first-from-zero (Some k) = ap Some (omega arith)
 
 -- what row i makes of a string that it spells, and of any other
 pub marked-hit :
@@ -96,22 +96,22 @@ rules-first tab (r ∷ rs) rule i b s =
 
 -- the last of the rows that has the string gives its id; where none has, it stays
 unfoldable pub or_last : Option ℕ → Option ℕ → Option ℕ
-or_last (some j) o = some j
-or_last none o = o
+or_last (Some j) o = Some j
+or_last None o = o
 
 last_step :
     (o p : Option ℕ) (v : ℕ) (t : Bool)
-    → or_last o (cond t (kept WordPiece p v) p) ≡ or_last (elim o [ some j ↦ some j | none ↦ cond t (some v) none ]) p
+    → or_last o (cond t (kept WordPiece p v) p) ≡ or_last (elim o [ Some j ↦ Some j | None ↦ cond t (Some v) None ]) p
 unfolding or_last kept
-last_step (some j) p v t = refl
-last_step none none v true = refl
-last_step none (some i) v true = refl
-last_step none p v false = refl
+last_step (Some j) p v t = refl
+last_step None None v true = refl
+last_step None (Some i) v true = refl
+last_step None p v false = refl
 
-last_none : (o : Option ℕ) → or_last o none ≡ o
+last_none : (o : Option ℕ) → or_last o None ≡ o
 unfolding or_last
-last_none none = refl
-last_none (some j) = refl
+last_none None = refl
+last_none (Some j) = refl
 
 rules-last :
     (tab : List ℕ) (rs : List Row) (rule : List ℕ → Option ℕ) (i b : ℕ) (s : List ℕ)

@@ -1,10 +1,10 @@
 -- Seeking a byte among a node's children: the bytes of the children that are passed rise, so the walk ends, and where it ends
 -- stands the link to the first child by the byte or a later one. Assumes nothing.
+use Rattle.std.specs.Prelude.{None, Some}
 use mathlib.Core.Path.{◌≡◌, refl, ap}
 use mathlib.Core.Bool.{cond}
 use mathlib.Core.List.{List, [], ◌∷◌, ◌++◌}
 use mathlib.Core.Logic.{⊎_elim}
-use mathlib.Core.Option.{none, some}
 use Prim.Native.Nat.{ℕ, suc, ◌+◌, ◌-◌, ◌*◌, ◌/◌, ◌≤◌, ◌<◌}
 use native.Mathlib.Omega.{arith}
 use native.Mathlib.Decide.{dec_lt}
@@ -21,7 +21,7 @@ use Rattle.build.proofs.Linking.{slot-first}
 
 module _ {ns : List²} {edge_n work : List ℕ} {from node : ℕ} {s : List ℕ} {low k : ℕ}
     (l : Linked ns work) (sp : Spelled ns from edge_n) (early : from ≤ node)
-    (here : place ns s ≡ some node) (f : First ns s low k) where
+    (here : place ns s ≡ Some node) (f : First ns s low k) where
   -- no child is the root
   pub hand-none : k ≡ 0 → Clear ns s low 256
   hand-none z =
@@ -52,7 +52,7 @@ module _ {ns : List²} {edge_n work : List ℕ} {from node : ℕ} {s : List ℕ}
 pub clear-join : (ns : List²) (s : List ℕ) (c d e : ℕ) → Clear ns s c d → Clear ns s d e → Clear ns s c e
 clear-join ns s c d e p q a l m = go (dec_lt a d)
   where
-    go : Dec (a < d) → place ns (s ++ (a ∷ [])) ≡ none
+    go : Dec (a < d) → place ns (s ++ (a ∷ [])) ≡ None
     go (yes h) = p a l h
     go (no h) = q a (omega arith) m
 
@@ -74,7 +74,7 @@ left-next edge_n node k =
     rw (apart, h)
 
 module _ {ns : List²} {edge_n work : List ℕ} {s : List ℕ} {node : ℕ} (l : Linked ns work) (sp : Spelled ns 0 edge_n)
-    (here : place ns s ≡ some node) where
+    (here : place ns s ≡ Some node) where
   pub seek-start : Slot ns s 0 (2 * node)
   seek-start = of-first node here refl (λ a p q. absurd (omega arith))
 

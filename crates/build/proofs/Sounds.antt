@@ -1,10 +1,9 @@
 -- A built trie is sound: its columns are level, each node's edges stand inside, at most 256 and by rising byte, and each leads
 -- to a node. Assumes nothing.
+use Rattle.std.specs.Prelude.{unwrap_or, Option}
 use mathlib.Core.Path.{◌≡◌, refl, sym, ap, ◌∙◌, subst}
 use mathlib.Core.Bool.{Bool, true, false, ◌&&◌}
 use mathlib.Core.List.{List, [], ◌∷◌, ◌++◌, map, flatten}
-use mathlib.Core.Option
-use mathlib.Core.Option.{Option}
 use Prim.Native.Nat.{ℕ, zero, suc, ◌+◌, ◌-◌, ◌≤◌, ◌<◌}
 use native.Mathlib.Omega.{arith}
 use native.Mathlib.Decide.{dec_lt}
@@ -140,7 +139,7 @@ module _ (rule : List ℕ → Option ℕ) (ns : List²) where
         le-leb 1 nodes (omega (arith, level-at, grown-some g)),
         le-leb nodes 4_294_967_295 (omega (arith, level-at)),
         eq-eqb (length (map length parts)) nodes (omega (arith, level-at, length-map parts length, length-map ns (edges_of ns))),
-        eq-eqb (length (map (λ s. Option.get_or (rule s) no_id) ns)) nodes (omega (arith, level-at, length-map ns (λ s. Option.get_or (rule s) no_id))),
+        eq-eqb (length (map (λ s. unwrap_or (rule s) no_id) ns)) nodes (omega (arith, level-at, length-map ns (λ s. unwrap_or (rule s) no_id))),
         eq-eqb (length (map (λ e. e.to) edges)) m (omega (arith, level-m, length-map edges (λ e. e.to))),
         every_true nodes (sound_node (lay rule ns)) (λ k l. node-sound k (omega (arith, level-at))),
         every_true m (λ e. ltb (get_or (map (λ e. e.to) edges) e 0) nodes)
@@ -171,7 +170,7 @@ module _ (rule : List ℕ → Option ℕ) (tokens : List²) where
 
   pub length-id : length (trie_of rule tokens).id ≡ n
   unfolding trie_of lay
-  length-id = length-map (names tokens) (λ s. Option.get_or (rule s) no_id)
+  length-id = length-map (names tokens) (λ s. unwrap_or (rule s) no_id)
 
   pub length-byte : AllBytes tokens → length (trie_of rule tokens).byte ≡ n - 1
   unfolding trie_of lay

@@ -1,11 +1,8 @@
 -- What the core of both builds asks of a caller that has judged the rows, and what it promises. Definitions only; assumes
 -- nothing.
-use Rattle.std.specs.Prelude.{◌≡◌, cond, List, [], ℕ, ◌+◌, ◌/◌, ◌≤◌, min, ltb, length}
-use Rattle.std.proofs.Math.Option.{Option}
+use Rattle.std.specs.Prelude.{◌≡◌, cond, List, [], ℕ, ◌+◌, ◌/◌, ◌≤◌, min, ltb, length, Option, Some, None}
 use Rattle.rows.specs.declared.Kind.{Kind}
 use Rattle.rows.specs.Rows.{Row}
-use Rattle.build.specs.declared.Built.{Built}
-use Rattle.build.specs.declared.Built.TheVariants.{Nodes, NoRoom}
 use Rattle.build.specs.Names.{names}
 use Rattle.build.specs.Rules.{tokens_of}
 use Rattle.build.specs.Given.{rules_from, no_rule}
@@ -26,12 +23,12 @@ abbrev pub nodes_of : List ℕ → List Row → ℕ
 nodes_of tab rows = length (names (tokens_of tab rows))
 
 -- the answer where n nodes are needed
-abbrev pub built_answer : ℕ → ℕ → Built
-built_answer room n = cond (ltb room n) NoRoom (Nodes n)
+abbrev pub built_answer : ℕ → ℕ → Option ℕ
+built_answer room n = cond (ltb room n) None (Some n)
 
 -- what the build of these rows answers, and what it leaves in the memory
 pub record BuiltOf (kind : Kind) (tab : List ℕ) (rows : List Row) (room : ℕ) (before after : Memory)
-    (answer : Built) : Type 0 where
+    (answer : Option ℕ) : Type 0 where
   pub answered : answer ≡ built_answer room (nodes_of tab rows)
   pub left : after ≡ cond (ltb room (nodes_of tab rows)) (cleared before) (holding (trie_in kind tab rows) [] before)
 
@@ -45,7 +42,7 @@ pub record Finishable (room : ℕ) (m : Memory) (n : ℕ) : Type 0 where
   pub roomy : room ≤ room_of m
 
 -- whichever rows these were, their build is done
-pub record Finished (room : ℕ) (before after : Memory) (n : ℕ) (answer : Built) : Type 0 where
+pub record Finished (room : ℕ) (before after : Memory) (n : ℕ) (answer : Option ℕ) : Type 0 where
   pub built :
       (kind : Kind) (tab : List ℕ) (rows : List Row)
       → RowDone (names (tokens_of tab rows)) (rules_from kind tab no_rule 0 rows) room before.parts.edge_n before.parts.id

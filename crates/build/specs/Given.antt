@@ -1,7 +1,6 @@
 -- The rows as the core is given them, and which ids their tokens have once some rows are entered. Definitions only; assumes
 -- nothing.
-use Rattle.std.specs.Prelude.{cond, List, [], ◌∷◌, ℕ, suc}
-use Rattle.std.proofs.Math.Option.{Option, none, some}
+use Rattle.std.specs.Prelude.{cond, List, [], ◌∷◌, ℕ, suc, Option, None, Some}
 use Rattle.rows.specs.declared.Kind.{Kind}
 use Rattle.rows.specs.declared.Kind.TheVariants.{Unigram, WordPiece}
 use Rattle.rows.specs.Rows.{Row, token_of}
@@ -21,9 +20,9 @@ value_of WordPiece i own = own
 
 -- what a node keeps that is given the id v: Unigram its first, WordPiece its last
 unfoldable pub kept : Kind → Option ℕ → ℕ → Option ℕ
-kept kind none v = some v
-kept Unigram (some i) v = some i
-kept WordPiece (some i) v = some v
+kept kind None v = Some v
+kept Unigram (Some i) v = Some i
+kept WordPiece (Some i) v = Some v
 
 -- the ids once the token t is given v; an empty token does nothing
 unfoldable pub marked : Kind → List ℕ → ℕ → (List ℕ → Option ℕ) → List ℕ → Option ℕ
@@ -37,4 +36,4 @@ rules_from kind tab rule i (r ∷ rs) =
     rules_from kind tab (marked kind (token_of tab r) (value_of kind i (id_of_worth r.worth)) rule) (suc i) rs
 
 abbrev pub no_rule : List ℕ → Option ℕ
-no_rule s = none
+no_rule s = None

@@ -1,8 +1,6 @@
 -- What the lent columns hold while tokens are entered, and what each step of entering promises. A step speaks of the names and
 -- ids that the columns hold: it asks that there are some, and says of any what they become. Definitions only; assumes nothing.
-use Rattle.std.specs.Prelude.{◌≡◌, cond, List, [], ◌∷◌, ◌++◌, ℕ, ◌+◌, ◌*◌, ◌≤◌, ◌<◌, eqb, length, get_or, set}
-use Rattle.std.proofs.Math.Option
-use Rattle.std.proofs.Math.Option.{Option, none, some}
+use Rattle.std.specs.Prelude.{◌≡◌, cond, List, [], ◌∷◌, ◌++◌, ℕ, ◌+◌, ◌*◌, ◌≤◌, ◌<◌, eqb, length, get_or, set, Option, None, Some, unwrap_or}
 use Rattle.refusal.specs.Sizes.{no_id, max_rows}
 use Rattle.rows.specs.declared.Kind.{Kind}
 use Rattle.rows.specs.declared.Kind.TheVariants.{Unigram, WordPiece}
@@ -17,8 +15,8 @@ ZeroFrom n xs = (k : ℕ) → n ≤ k → get_or xs k 0 ≡ 0
 -- each node has the id that the rule gives its string, and the rule gives none to other strings
 pub record Identified (ns : List (List ℕ)) (rule : List ℕ → Option ℕ) (id : List ℕ) : Type 0 where
   pub room : length ns ≤ length id
-  pub ids : (s : List ℕ) (k : ℕ) → place ns s ≡ some k → get_or id k 0 ≡ Option.get_or (rule s) no_id
-  pub within : (s : List ℕ) → place ns s ≡ none → rule s ≡ none
+  pub ids : (s : List ℕ) (k : ℕ) → place ns s ≡ Some k → get_or id k 0 ≡ unwrap_or (rule s) no_id
+  pub within : (s : List ℕ) → place ns s ≡ None → rule s ≡ None
   pub past : ZeroFrom (length ns) id
 
 -- the nodes ns with these ids, linked in the work places
@@ -43,7 +41,7 @@ pub record Chained (edge_n work : List ℕ) (from node : ℕ) : Type 0 where
   pub string : List ℕ
   pub links : Linked names work
   pub bytes : Spelled names from edge_n
-  pub here : place names string ≡ some node
+  pub here : place names string ≡ Some node
 
 -- `at` has the link to the first child of `node` by b or a later byte
 pub record Sought (edge_n work : List ℕ) (node b at : ℕ) : Type 0 where
@@ -58,7 +56,7 @@ pub record Enterable (edge_n id work : List ℕ) (room node n : ℕ) : Type 0 wh
   pub string : List ℕ
   pub held : Held names rule edge_n id work
   pub count : n ≡ length names
-  pub here : place names string ≡ some node
+  pub here : place names string ≡ Some node
   pub roomy : Roomy room edge_n id work
   pub fits : n ≤ room
 
@@ -68,13 +66,13 @@ pub record Done (ms : List (List ℕ)) (rule : List ℕ → Option ℕ) (t : Lis
   pub full : node ≡ room → room < length ms
   pub fits : (node ≡ room → ⊥) → n ≤ room
   pub count : (node ≡ room → ⊥) → n ≡ length ms
-  pub here : (node ≡ room → ⊥) → place ms t ≡ some node
+  pub here : (node ≡ room → ⊥) → place ms t ≡ Some node
   pub held : (node ≡ room → ⊥) → Held ms rule edge_n id work
 
 pub record ByteEntered (edge_n id work edge_n' id' work' : List ℕ) (room node n b node' n' : ℕ) : Type 0 where
   pub entered :
       (ns : List (List ℕ)) (rule : List ℕ → Option ℕ) (s : List ℕ) → Held ns rule edge_n id work → n ≡ length ns
-      → place ns s ≡ some node
+      → place ns s ≡ Some node
       → Done (add ns (s ++ (b ∷ []))) rule (s ++ (b ∷ [])) room edge_n' id' work' node' n'
 
 -- ---- one token more
@@ -93,7 +91,7 @@ marked_ids WordPiece id node v = set id node v
 
 -- where Unigram keeps the first id, no id is the mark for none
 abbrev pub Unmarked : Kind → (List ℕ → Option ℕ) → Type 0
-Unmarked kind rule = kind ≡ Unigram → (s : List ℕ) (i : ℕ) → rule s ≡ some i → i < no_id
+Unmarked kind rule = kind ≡ Unigram → (s : List ℕ) (i : ℕ) → rule s ≡ Some i → i < no_id
 
 -- The nodes are now ms, n of them, with these ids; or n is above `room`, and so are they.
 pub record RowDone (ms : List (List ℕ)) (rule : List ℕ → Option ℕ) (room : ℕ) (edge_n id work : List ℕ) (n : ℕ) : Type 0 where

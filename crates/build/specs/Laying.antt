@@ -1,7 +1,6 @@
 -- What laying out the nodes asks and promises. As in entering, a step speaks of the names that the columns hold. Definitions
 -- only; assumes nothing.
-use Rattle.std.specs.Prelude.{◌≡◌, List, [], map, ℕ, ◌+◌, ◌≤◌, ◌<◌, length, set}
-use Rattle.std.proofs.Math.Option.{Option}
+use Rattle.std.specs.Prelude.{◌≡◌, List, [], map, ℕ, ◌+◌, ◌≤◌, ◌<◌, length, set, Option}
 use Rattle.std.proofs.lemmas.List.Edits.{sets}
 use Rattle.build.specs.Parts.{Edge, edges_of, lay}
 use Rattle.build.specs.Links.{Linked, Spelled}

@@ -1,6 +1,5 @@
 -- The memory that a build is lent, when it is too little, and what it holds afterwards. Definitions only; assumes nothing.
-use Rattle.std.specs.Prelude.{ℕ, ◌-◌, ◌*◌, Bool, false, ◌||◌, cond, List, [], ◌∷◌, ltb, eqb, Float, length}
-use Rattle.std.proofs.Math.Option.{Option, none, some}
+use Rattle.std.specs.Prelude.{ℕ, ◌-◌, ◌*◌, Bool, false, ◌||◌, cond, List, [], ◌∷◌, ltb, eqb, Float, length, Option, None, Some}
 use Rattle.doubles.specs.Double.{Double, plus_zero}
 use Rattle.doubles.specs.Units.{scores_had, scores_is}
 use Rattle.std.specs.Borrow.{MutBor}
@@ -82,5 +81,5 @@ holding t scores m =
 -- What a buffer holds after a build: on success; after a refusal, where "refusal 7 leaves every lent node, edge and work place
 -- zero" and "every other refusal writes nothing".
 unfoldable pub leaves : {A : Type 0} → Option Reason → A → A → A → A
-leaves none done zeros before = done
-leaves (some r) done zeros before = cond (eqb (number_of r) 7) zeros before
+leaves None done zeros before = done
+leaves (Some r) done zeros before = cond (eqb (number_of r) 7) zeros before

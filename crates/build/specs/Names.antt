@@ -1,8 +1,7 @@
 -- The nodes of a trie. A node is a prefix of a token, and its number is that prefix's place among them all. Definitions only;
 -- assumes nothing.
-use Rattle.std.specs.Prelude.{ℕ, suc, Bool, true, false, ◌&&◌, cond, eqb}
+use Rattle.std.specs.Prelude.{ℕ, suc, Bool, true, false, ◌&&◌, cond, eqb, Option, None, Some}
 use mathlib.Core.List.{List, [], ◌∷◌, ◌++◌, flat_map}
-use Rattle.std.proofs.Math.Option.{Option, none, some}
 
 -- two strings are the same
 unfoldable pub same : List ℕ → List ℕ → Bool
@@ -12,13 +11,13 @@ same (b ∷ s) [] = false
 same (b ∷ s) (c ∷ t) = eqb b c && same s t
 
 unfoldable pub later : Option ℕ → Option ℕ
-later none = none
-later (some k) = some (suc k)
+later None = None
+later (Some k) = Some (suc k)
 
 -- where s first stands in a list of strings
 unfoldable pub place : List (List ℕ) → List ℕ → Option ℕ
-place [] s = none
-place (t ∷ ts) s = let further = later (place ts s) in cond (same s t) (some 0) further
+place [] s = None
+place (t ∷ ts) s = let further = later (place ts s) in cond (same s t) (Some 0) further
 
 -- the prefixes of p ++ s that are longer than p, the shortest first
 unfoldable pub prefixes : List ℕ → List ℕ → List (List ℕ)
@@ -27,7 +26,7 @@ prefixes p (b ∷ s) = let q = p ++ (b ∷ []) in q ∷ prefixes q s
 
 -- "each new prefix takes the next node number"
 unfoldable pub add : List (List ℕ) → List ℕ → List (List ℕ)
-add ns s = elim (place ns s) [ none ↦ ns ++ (s ∷ []) | some k ↦ ns ]
+add ns s = elim (place ns s) [ None ↦ ns ++ (s ∷ []) | Some k ↦ ns ]
 
 unfoldable pub enter : List (List ℕ) → List (List ℕ) → List (List ℕ)
 enter ns [] = ns

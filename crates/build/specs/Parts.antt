@@ -1,7 +1,6 @@
 -- The parts of the trie with given nodes: "Edges stand node after node, by rising byte." Definitions only; assumes nothing.
-use Rattle.std.specs.Prelude.{ℕ, zero, suc, ◌+◌, length}
+use Rattle.std.specs.Prelude.{ℕ, zero, suc, ◌+◌, length, Option, None, Some, unwrap_or}
 use mathlib.Core.List.{List, [], ◌∷◌, ◌++◌, map, flatten}
-use Rattle.std.proofs.Math.Option.{Option, none, some, get_or}
 use Rattle.refusal.specs.Sizes.{no_id}
 use Rattle.trie.specs.Trie.{Trie}
 use Rattle.build.specs.Names.{place, names}
@@ -12,8 +11,8 @@ pub record Edge : Type 0 where
 
 -- the edge by the byte b, where there is one
 unfoldable pub edge : ℕ → Option ℕ → List Edge
-edge b none = []
-edge b (some k) = record { byte = b; to = k } ∷ []
+edge b None = []
+edge b (Some k) = record { byte = b; to = k } ∷ []
 
 -- the edges of the node s by the n bytes from b on
 unfoldable pub edges_from : List (List ℕ) → List ℕ → ℕ → ℕ → List Edge
@@ -36,7 +35,7 @@ lay rule ns =
     record {
       edge_at = starts 0 (map length parts);
       edge_n = map length parts;
-      id = map (λ s. get_or (rule s) no_id) ns;
+      id = map (λ s. unwrap_or (rule s) no_id) ns;
       byte = map (λ e. e.byte) edges;
       to = map (λ e. e.to) edges;
     }

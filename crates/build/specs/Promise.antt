@@ -1,7 +1,6 @@
 -- What every build promises. A call says what it builds, the kind and the rows; what was found before the room is looked at;
 -- whether a lent column is too short; and what it reports of the trie. Definitions only; assumes nothing.
-use Rattle.std.specs.Prelude.{◌≡◌, Bool, List, [], ℕ}
-use Rattle.std.proofs.Math.Option.{Option, none, some}
+use Rattle.std.specs.Prelude.{◌≡◌, Bool, List, [], ℕ, Option, None, Some}
 use Rattle.doubles.specs.Double.{Double}
 use Rattle.refusal.specs.declared.Fault.TheVariants as fault
 use Rattle.refusal.specs.declared.Reason.{Reason}
@@ -25,7 +24,7 @@ scores_in WordPiece tab rows = []
 
 -- "Order for a build: 1, rows, 7": what was found of the rows, and then whether a lent column is too short
 unfoldable pub build_fault : Option Reason → Bool → Option Reason
-build_fault judged short = first judged (refuse short (reason.Call fault.Room) none)
+build_fault judged short = first judged (refuse short (reason.Call fault.Room) None)
 
 -- what an answer says: "An accepted build reports a summary", or the reason
 pub data Told (A : Type 0) : Type 0 where
@@ -33,8 +32,8 @@ pub data Told (A : Type 0) : Type 0 where
   refused : Reason → Told A
 
 unfoldable pub told_for : {A : Type 0} → Option Reason → A → Told A
-told_for none summary = built summary
-told_for (some r) summary = refused r
+told_for None summary = built summary
+told_for (Some r) summary = refused r
 
 -- What a build promises of its answer and of the memory lent to it, before and after.
 pub record Promised {A : Type 0} (kind : Kind) (tab : List ℕ) (rows : List Row) (judged : Option Reason) (short : Bool)

@@ -1,6 +1,5 @@
 -- Which id, and for Unigram which score, the node of a string has. Definitions only; assumes nothing.
-use Rattle.std.specs.Prelude.{ℕ, cond, List, [], ◌∷◌, map, get_or}
-use Rattle.std.proofs.Math.Option.{Option, none, some}
+use Rattle.std.specs.Prelude.{ℕ, cond, List, [], ◌∷◌, map, get_or, Option, None, Some}
 use Rattle.doubles.specs.Double.{Double, plus_zero}
 use Rattle.trie.specs.Trie.{Trie}
 use Rattle.rows.specs.Rows.{Row, Worth, score, id, token_of}
@@ -11,7 +10,7 @@ use Rattle.build.specs.Parts.{trie_of}
 
 -- "id = row index. A repeated token keeps its first id and score. An empty token takes an index, but it has no node."
 unfoldable pub first_row : List (List ℕ) → List ℕ → Option ℕ
-first_row tokens [] = none
+first_row tokens [] = None
 first_row tokens (b ∷ s) = place tokens (b ∷ s)
 
 -- the score of a row; a row with an id for its worth is refused before its score is asked for
@@ -24,8 +23,8 @@ scores_of rows = map (λ r. score_of r.worth) rows
 
 -- the score of a node whose row is given: "a node that ends no token has score 0"
 unfoldable pub node_score_of : List Double → Option ℕ → Double
-node_score_of scores none = plus_zero
-node_score_of scores (some i) = get_or scores i plus_zero
+node_score_of scores None = plus_zero
+node_score_of scores (Some i) = get_or scores i plus_zero
 
 unfoldable pub tokens_of : List ℕ → List Row → List (List ℕ)
 tokens_of tab rows = map (token_of tab) rows
@@ -47,16 +46,16 @@ id_of_worth (id i) = i
 
 -- the id of the last row with the token s
 unfoldable pub last_of : List ℕ → List Row → List ℕ → Option ℕ
-last_of tab [] s = none
+last_of tab [] s = None
 last_of tab (r ∷ rs) s =
     elim (last_of tab rs s) [
-      | some i ↦ some i
-      | none ↦ cond (same s (token_of tab r)) (some (id_of_worth r.worth)) none
+      | Some i ↦ Some i
+      | None ↦ cond (same s (token_of tab r)) (Some (id_of_worth r.worth)) None
     ]
 
 -- "the row gives the id. A repeated token keeps its last id. Empty tokens do nothing."
 unfoldable pub last_id : List ℕ → List Row → List ℕ → Option ℕ
-last_id tab rows [] = none
+last_id tab rows [] = None
 last_id tab rows (b ∷ s) = last_of tab rows (b ∷ s)
 
 unfoldable pub wordpiece_trie : List ℕ → List Row → Trie

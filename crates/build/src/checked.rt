@@ -6,7 +6,6 @@ ghost use Rattle.build.specs.Memory.{memory, memory_is, memory_now, memory_was};
 ghost use Rattle.build.specs.Checked.{room_of, BuiltOf};
 ghost use Rattle.refusal.specs.Lent.{was};
 
-use crate::Built;
 use crate::steps::finish;
 use crate::vocabulary::enter_rows;
 use rows::Kind;
@@ -51,7 +50,7 @@ pub fn build(
     to: &mut [u32],
     work: &mut [u32],
     room: usize,
-) -> Built
+) -> Option<usize>
     requires { LevelRows kind tab.now off.now len.now ids.now × (room ≤ room_of
         (memory_now edge_at edge_n id byte to work)) }
     ensures { BuiltOf kind (was tab) (given (was off) (was len) (was ids)) room

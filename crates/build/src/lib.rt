@@ -8,10 +8,3 @@ pub mod steps;
 pub mod tokens;
 mod vocabulary;
 pub mod zero;
-
-// What a build of judged rows answers: how many nodes the trie has, or that the lent columns have no room for them.
-#[derive(Clone, Copy)]
-pub enum Built {
-    Nodes(usize),
-    NoRoom,
-}

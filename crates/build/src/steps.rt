@@ -7,7 +7,6 @@ ghost use Rattle.build.specs.Held.{Roomy, RowDone};
 ghost use Rattle.build.specs.Memory.{memory_is, memory_now, memory_was};
 ghost use Rattle.build.specs.Checked.{Finishable, Finished};
 
-use crate::Built;
 use crate::lay::lay_out;
 use crate::zero::{clear, zero16, zero32};
 use refusal::NO_ID;
@@ -46,15 +45,15 @@ pub fn finish(
     work: &mut [u32],
     room: usize,
     n: usize,
-) -> Built
+) -> Option<usize>
     requires { Finishable room (memory_now edge_at edge_n id byte to work) n }
     ensures { Finished room (memory_was edge_at edge_n id byte to work) (memory_is edge_at edge_n id byte to work) n
         result }
 {
     if room < n {
         clear(edge_at, edge_n, id, byte, to, work);
-        return Built::NoRoom;
+        return None;
     }
     lay_out(edge_at, edge_n, byte, to, work, n);
-    Built::Nodes(n)
+    Some(n)
 }

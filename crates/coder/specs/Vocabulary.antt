@@ -1,8 +1,7 @@
 -- A vocabulary of either kind, and what the coding of a text in it promises. Definitions only; assumes nothing.
-use Rattle.std.specs.Prelude.{◌≡◌, Bool, List, ℕ}
-use Rattle.std.proofs.Math.Option.{Option, none}
+use Rattle.std.specs.Result.{result_err}
+use Rattle.std.specs.Prelude.{◌≡◌, Bool, List, ℕ, Option, None, Result}
 use Rattle.refusal.specs.declared.Fault.{Fault}
-use Rattle.refusal.specs.declared.CodeAnswer.{CodeAnswer}
 use Rattle.refusal.specs.Coding.{Coded}
 use Rattle.trie.specs.Trie.{Trie, id_of}
 use Rattle.trie.specs.Sound.{sound}
@@ -21,9 +20,9 @@ sound_in (unigram_of m) = sound_model m
 sound_in (wordpiece_of t unknown max_chars prefix) = sound t
 
 -- the first fault of a text or word, with so many places lent
-unfoldable pub fault_in : Vocabulary → List ℕ → Lengths → Option Fault
-fault_in (unigram_of m) s n = segment_fault (sound_model m) s n
-fault_in (wordpiece_of t unknown max_chars prefix) s n = encode_fault (sound t) prefix s n.ids
+unfoldable pub result_err : Vocabulary → List ℕ → Lengths → Option Fault
+result_err (unigram_of m) s n = segment_fault (sound_model m) s n
+result_err (wordpiece_of t unknown max_chars prefix) s n = encode_fault (sound t) prefix s n.ids
 
 unfoldable pub ids_in : Vocabulary → List ℕ → List ℕ
 ids_in (unigram_of m) s = unigram.ids_of m s
@@ -40,6 +39,6 @@ LawIn (unigram_of m) s after = RecordLaw m s after
 LawIn (wordpiece_of t unknown max_chars prefix) s after = Unit {0}
 
 -- What the coding of a text promises of its answer and of the lent columns, before and after.
-pub record CodedIn (v : Vocabulary) (s : List ℕ) (before : Scratch) (answer : CodeAnswer) (after : Scratch) : Type 0 where
-  pub coded : Coded (fault_in v s (lengths_of before)) (ids_in v s) (writes_in v s before) before answer after
-  pub law : fault_in v s (lengths_of before) ≡ none → LawIn v s after
+pub record CodedIn (v : Vocabulary) (s : List ℕ) (before : Scratch) (answer : Result ℕ Fault) (after : Scratch) : Type 0 where
+  pub coded : Coded (result_err v s (lengths_of before)) (ids_in v s) (writes_in v s before) before answer after
+  pub law : result_err v s (lengths_of before) ≡ None → LawIn v s after

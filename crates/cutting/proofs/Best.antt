@@ -2,11 +2,11 @@
 -- one of the pieces offered, every piece offered has at most its sum, and those that were offered sooner have less. The one
 -- real step: a cutting before i scores at most what stands there, so with a further piece it scores at most what that piece was
 -- offered with (`sum_mono`). Assumes nothing.
+use Rattle.std.specs.Prelude.{Option, None, Some}
 use mathlib.Core.Path.{◌≡◌, refl, sym, ap, subst, ◌∙◌}
 use mathlib.Core.Bool.{Bool, true, false, not, ◌&&◌, ◌||◌, cond}
 use mathlib.Core.List.{List, [], ◌∷◌}
 use mathlib.Core.Logic.{◌⊎◌, inl, inr, ⊎_elim}
-use mathlib.Core.Option.{Option, none, some}
 use Prim.Native.Nat.{ℕ, zero, suc, ◌+◌, ◌-◌, ◌≤◌, ◌<◌}
 use native.Mathlib.Nat.{zero-add}
 use native.Mathlib.Omega.{arith}
@@ -104,9 +104,9 @@ module _ {end : ℕ} {rule : Rule} (g : Pieces end rule) where
   -- piece k from i to j is offered with the sum y, which counts
   pub record Offer (j i k : ℕ) (y : Double) : Type 0 where
     pub till : Double
-    pub stands : stands_at rule i ≡ some till
+    pub stands : stands_at rule i ≡ Some till
     pub piece : Piece
-    pub is : nth (rule.pieces i j) k ≡ some piece
+    pub is : nth (rule.pieces i j) k ≡ Some piece
     pub sums : sum till piece.score ≡ y
     pub counts : T (rule.counts y)
 
@@ -120,7 +120,7 @@ module _ {end : ℕ} {rule : Rule} (g : Pieces end rule) where
     pub earlier : (i k : ℕ) (y : Double) → Sooner i k r.start place → Offer j i k y → T (less y r.score)
 
   abbrev Status : ℕ → ℕ → ℕ → Option Slot → Type 0
-  Status from m j o = ((o ≡ none) × ((i k : ℕ) (y : Double) → Sooner i k from m → Offer j i k y → ⊥)) ⊎ ((r : Slot) × (o ≡ some r) × Standing from m j r)
+  Status from m j o = ((o ≡ None) × ((i k : ℕ) (y : Double) → Sooner i k from m → Offer j i k y → ⊥)) ⊎ ((r : Slot) × (o ≡ Some r) × Standing from m j r)
 
   -- the same piece by another number
   moved : {j i m a b : ℕ} {y : Double} → (a ≡ i) × (b ≡ m) → Offer j a b y → Offer j i m y
@@ -168,7 +168,7 @@ module _ {end : ℕ} {rule : Rule} (g : Pieces end rule) where
       ⊎_elim (λ (q : b < m). inr (e, q)) (λ (q : m ≤ b). absurd (no_such b y q (moved (e, refl) f))) (below_or b m))
       (below_or a i))
 
-  module _ (i j m : ℕ) (x : Double) (p : Piece) (stands : stands_at rule i ≡ some x) (is : nth (rule.pieces i j) m ≡ some p) where
+  module _ (i j m : ℕ) (x : Double) (p : Piece) (stands : stands_at rule i ≡ Some x) (is : nth (rule.pieces i j) m ≡ Some p) where
     abbrev cand : Double
     cand = sum x p.score
 
@@ -203,7 +203,7 @@ module _ {end : ℕ} {rule : Rule} (g : Pieces end rule) where
           }
 
       -- offered to a full record
-      weigh : (r : Slot) → Standing i m j r → (t : Bool) → less r.score cand ≡ t → (q : Slot) × (offered (some r) (candidate x i p) ≡ q) × Standing i (suc m) j q
+      weigh : (r : Slot) → Standing i m j r → (t : Bool) → less r.score cand ≡ t → (q : Slot) × (offered (Some r) (candidate x i p) ≡ q) × Standing i (suc m) j q
       unfolding candidate
       weigh r s true h =
           (candidate x i p, takes r (candidate x i p) h, fresh (λ a b y l f. at-most-less-trans y r.score cand (s.greatest a b y l f) (of-true h)))
@@ -215,23 +215,23 @@ module _ {end : ℕ} {rule : Rule} (g : Pieces end rule) where
             (not-less-at-most r.score cand (g.number r.score s.offer.counts) (g.number cand counts) (of-false h))),
       )
 
-      offers : (o : Option Slot) → Status i m j o → Status i (suc m) j (some (offered o (candidate x i p)))
+      offers : (o : Option Slot) → Status i m j o → Status i (suc m) j (Some (offered o (candidate x i p)))
       unfolding offered
       offers o (inl w) =
-          inr (candidate x i p, ap (λ (u : Option Slot). some (offered u (candidate x i p))) w.0, fresh (λ a b y l f. absurd (w.1 a b y l f)))
+          inr (candidate x i p, ap (λ (u : Option Slot). Some (offered u (candidate x i p))) w.0, fresh (λ a b y l f. absurd (w.1 a b y l f)))
       offers o (inr w) =
           let v = weigh w.0 w.2 (less w.0.score cand) refl in
-          inr (v.0, ap (λ (u : Option Slot). some (offered u (candidate x i p))) w.1 ∙ ap some v.1, v.2)
+          inr (v.0, ap (λ (u : Option Slot). Some (offered u (candidate x i p))) w.1 ∙ ap Some v.1, v.2)
 
     -- piece m from i is offered where its sum counts
-    turn : (o : Option Slot) → Status i m j o → (t : Bool) → rule.counts cand ≡ t → Status i (suc m) j (cond t (some (offered o (candidate x i p))) o)
+    turn : (o : Option Slot) → Status i m j o → (t : Bool) → rule.counts cand ≡ t → Status i (suc m) j (cond t (Some (offered o (candidate x i p))) o)
     turn o s true e = offers (of-true e) o s
     turn o s false e = still i m j o (λ y f. not-both (rule.counts y) f.counts (subst (λ (z : Double). T (not (rule.counts z))) (sym (one-sum y f)) (of-false e))) s
 
   -- the pieces from i that are left
   turns :
-      (i j : ℕ) (x : Double) → stands_at rule i ≡ some x → (m : ℕ) (ps : List Piece) (o : Option Slot) → ((k : ℕ) → nth (rule.pieces i j) (m + k) ≡ nth ps k)
-      → Status i m j o → Status (suc i) 0 j (offered_all rule.counts (some x) i ps o)
+      (i j : ℕ) (x : Double) → stands_at rule i ≡ Some x → (m : ℕ) (ps : List Piece) (o : Option Slot) → ((k : ℕ) → nth (rule.pieces i j) (m + k) ≡ nth ps k)
+      → Status i m j o → Status (suc i) 0 j (offered_all rule.counts (Some x) i ps o)
   unfolding offered_all candidate nth
   turns i j x e m [] o rest s =
       later i m j o
@@ -240,7 +240,7 @@ module _ {end : ℕ} {rule : Rule} (g : Pieces end rule) where
       none-some (sym (rest (k - m)) ∙ ap (nth (rule.pieces i j)) there ∙ f.is))
       s
   turns i j x e m (p ∷ ps) o rest s =
-      turns i j x e (suc m) ps (cond (rule.counts (sum x p.score)) (some (offered o (candidate x i p))) o)
+      turns i j x e (suc m) ps (cond (rule.counts (sum x p.score)) (Some (offered o (candidate x i p))) o)
       (λ k. ap (nth (rule.pieces i j)) (let z : suc m + k ≡ m + suc k = omega arith in z) ∙ rest (suc k))
       (turn i j m x p e (ap (nth (rule.pieces i j)) (let z : m ≡ m + 0 = omega arith in z) ∙ rest 0) o s (rule.counts (sum x p.score)) refl)
 
@@ -248,29 +248,29 @@ module _ {end : ℕ} {rule : Rule} (g : Pieces end rule) where
   status zero j = inl (none_before rule j, λ i k y l f. absurd (let h = sooner-below l in omega arith))
   status (suc i) j =
       ⊎_elim
-      (λ (e : stands_at rule i ≡ none).
+      (λ (e : stands_at rule i ≡ None).
       subst (Status (suc i) 0 j) (sym (passed rule i j e)) (later i 0 j (best rule i j) (λ k y l f. none-some (sym e ∙ f.stands)) (status i j)))
-      (λ (w : (x : Double) × (stands_at rule i ≡ some x)).
+      (λ (w : (x : Double) × (stands_at rule i ≡ Some x)).
       subst (Status (suc i) 0 j) (sym (worked rule i j w.0 w.1))
       (turns i j w.0 w.1 0 (rule.pieces i j) (best rule i j) (λ k. ap (nth (rule.pieces i j)) (zero-add k)) (status i j)))
       (looked (stands_at rule i))
 
   -- ---- positions that are reached
 
-  pub stood : (from j : ℕ) (r : Slot) → best rule from j ≡ some r → Standing from 0 j r
+  pub stood : (from j : ℕ) (r : Slot) → best rule from j ≡ Some r → Standing from 0 j r
   stood from j r e = ⊎_elim (λ v. absurd (none-some (sym v.0 ∙ e))) (λ v. subst (Standing from 0 j) (some_same (sym v.1 ∙ e)) v.2) (status from j)
 
   -- a position after the first has a record where something stands
-  pub filled : (j : ℕ) (x : Double) → 0 < j → stands_at rule j ≡ some x → (r : Slot) × (best rule j j ≡ some r) × (r.score ≡ x) × Standing j 0 j r
+  pub filled : (j : ℕ) (x : Double) → 0 < j → stands_at rule j ≡ Some x → (r : Slot) × (best rule j j ≡ Some r) × (r.score ≡ x) × Standing j 0 j r
   filled j x l e = let w = record-stands rule j x l e in (w.0, w.1, w.2, stood j j w.0 w.1)
 
   -- what stands counts
-  pub stands-counts : (j : ℕ) (x : Double) → stands_at rule j ≡ some x → T (rule.counts x)
+  pub stands-counts : (j : ℕ) (x : Double) → stands_at rule j ≡ Some x → T (rule.counts x)
   stands-counts zero x e = subst (λ (z : Double). T (rule.counts z)) (some_same (sym (stands-first rule) ∙ e)) g.zero-counts
   stands-counts (suc j) x e = let w = filled (suc j) x (omega arith) e in subst (λ (z : Double). T (rule.counts z)) w.2 w.3.offer.counts
 
   -- and something stands where a piece is offered
-  pub taken_in : (j i k : ℕ) (y : Double) → Offer j i k y → (r : Slot) × (best rule j j ≡ some r) × T (at_most y r.score)
+  pub taken_in : (j i k : ℕ) (y : Double) → Offer j i k y → (r : Slot) × (best rule j j ≡ Some r) × T (at_most y r.score)
   taken_in j i k y f =
       let l : Sooner i k j 0 = inl (g.forward i j k f.piece f.is) in
       ⊎_elim (λ v. absurd (v.1 i k y l f)) (λ v. (v.0, v.1, v.2.greatest i k y l f)) (status j j)
@@ -278,7 +278,7 @@ module _ {end : ℕ} {rule : Rule} (g : Pieces end rule) where
   -- ---- the law
 
   -- where a cutting's sum counts something stands, and it is at least that sum
-  pub at-most-best : {j : ℕ} (c : Cutting rule j) → T (rule.counts (total c)) → (x : Double) × (stands_at rule j ≡ some x) × T (at_most (total c) x)
+  pub at-most-best : {j : ℕ} (c : Cutting rule j) → T (rule.counts (total c)) → (x : Double) × (stands_at rule j ≡ Some x) × T (at_most (total c) x)
   unfolding total
   at-most-best empty t = (plus_zero, stands-first rule, at-most-refl plus_zero zero_number)
   at-most-best (then {i = i} c j k p e) t =
@@ -292,7 +292,7 @@ module _ {end : ℕ} {rule : Rule} (g : Pieces end rule) where
       (v.0.score, stands-record rule j v.0 (omega arith) v.1, at-most-trans (sum (total c) p.score) y v.0.score more v.2)
 
   -- and some cutting has just that sum
-  pub attained : (n j : ℕ) (x : Double) → j ≤ n → stands_at rule j ≡ some x → (c : Cutting rule j) × (total c ≡ x)
+  pub attained : (n j : ℕ) (x : Double) → j ≤ n → stands_at rule j ≡ Some x → (c : Cutting rule j) × (total c ≡ x)
   unfolding total
   attained zero zero x l e = (empty, some_same (sym (stands-first rule) ∙ e))
   attained (suc n) zero x l e = (empty, some_same (sym (stands-first rule) ∙ e))
@@ -312,7 +312,7 @@ module _ {end : ℕ} {rule : Rule} (g : Pieces end rule) where
 
   -- The record at j "holds the greatest left-to-right rounded sum of any allowed cutting before it, names the last piece of
   -- such a cutting (the earliest start among equals)".
-  pub is-best : (j : ℕ) (r : Slot) → best rule j j ≡ some r → Best rule j r
+  pub is-best : (j : ℕ) (r : Slot) → best rule j j ≡ Some r → Best rule j r
   unfolding total
   is-best j r full =
       record {

@@ -1,9 +1,9 @@
 -- Slots in their columns: what a read reads, what stands after a store or an offer. Assumes nothing.
+use Rattle.std.specs.Prelude.{None}
 use mathlib.Core.Path.{◌≡◌, refl, sym, ap, subst, ◌∙◌}
 use mathlib.Core.Bool.{Bool, true, false, cond}
 use mathlib.Core.List.{List, map}
 use mathlib.Core.Logic.{⊎_elim}
-use mathlib.Core.Option.{none}
 use Prim.Native.Nat.{ℕ, suc, ◌+◌, ◌≤◌, ◌<◌}
 use native.Mathlib.Omega.{arith}
 use borrow.Author.Tests.{eq-eqb, ne_eqb, eqb-true, eqb-false, lt-ltb, le-ltb, lt-leb, le-leb}
@@ -130,16 +130,16 @@ module _ {f : ℕ → Slot} {before : Slots} where
       elsewhere k h = p.slots k ∙ ap (λ (t : Bool). cond t (f n) (slot_at now k)) (ne_eqb k n h)
 
 -- the slots up to n are empty
-pub cleared : {before now : Slots} {n j : ℕ} → n < j → j ≤ n + 1 → Filled (λ k. shown none) before j now → Cleared before n now
+pub cleared : {before now : Slots} {n j : ℕ} → n < j → j ≤ n + 1 → Filled (λ k. shown None) before j now → Cleared before n now
 cleared {before} {now} {n} {j} l h w =
     record {
       slots = λ k.
-          ⊎_elim (λ (p : k < suc n). filled-below w k (omega arith) ∙ sym (ap (λ (t : Bool). cond t (shown none) (slot_at before k)) (le-leb k n (omega arith))))
-          (λ (p : suc n ≤ k). filled-above w k (omega arith) ∙ sym (ap (λ (t : Bool). cond t (shown none) (slot_at before k)) (lt-leb k n p)))
+          ⊎_elim (λ (p : k < suc n). filled-below w k (omega arith) ∙ sym (ap (λ (t : Bool). cond t (shown None) (slot_at before k)) (le-leb k n (omega arith))))
+          (λ (p : suc n ≤ k). filled-above w k (omega arith) ∙ sym (ap (λ (t : Bool). cond t (shown None) (slot_at before k)) (lt-leb k n p)))
           (below_or k (suc n));
     }
 
 -- the empty slot as the code writes it
-pub empty-slot : (q : Slot) → q.start ≡ no_id → q.id ≡ no_id → q.score ≡ plus_zero → q ≡ shown none
+pub empty-slot : (q : Slot) → q.start ≡ no_id → q.id ≡ no_id → q.score ≡ plus_zero → q ≡ shown None
 unfolding shown
-empty-slot q a b c = same-slot q (shown none) a b c
+empty-slot q a b c = same-slot q (shown None) a b c

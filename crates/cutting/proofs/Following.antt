@@ -2,9 +2,9 @@
 -- there, with the record's score, that covers every byte once and has no more pieces than characters. Each is an induction on
 -- how many records are followed; the piece that a record names comes after those of the record where it starts. Assumes
 -- nothing.
+use Rattle.std.specs.Prelude.{Option, None, Some}
 use mathlib.Core.Path.{◌≡◌, refl, sym, ap, subst, ◌∙◌}
 use mathlib.Core.List.{List, [], ◌∷◌, ◌++◌, map}
-use mathlib.Core.Option.{Option, none, some}
 use Prim.Native.Nat.{ℕ, zero, suc, ◌+◌, ◌-◌, ◌≤◌, ◌<◌}
 use native.Mathlib.Omega.{arith}
 use lib.ListN.{length, take, drop, length-append}
@@ -28,9 +28,9 @@ map_more f (y ∷ xs) x = ap (λ l. f y ∷ l) (map_more f xs x)
 
 chain_more :
     (rule : Rule) (at i j k : ℕ) (es : List Step) (ps : List Piece) (p : Piece) (id : ℕ) → Chain rule at es i ps
-    → nth (rule.pieces i j) k ≡ some p → p.id ≡ id → Chain rule at (es ++ (piece-to j id ∷ [])) j (ps ++ (p ∷ []))
+    → nth (rule.pieces i j) k ≡ Some p → p.id ≡ id → Chain rule at (es ++ (piece-to j id ∷ [])) j (ps ++ (p ∷ []))
 chain_more rule at i j k [] [] p id c e named =
-    (k, subst (λ (n : ℕ). nth (rule.pieces n j) k ≡ some p) (sym c) e, named, refl)
+    (k, subst (λ (n : ℕ). nth (rule.pieces n j) k ≡ Some p) (sym c) e, named, refl)
 chain_more rule at i j k [] (q ∷ ps) p id c e named = absurd c
 chain_more rule at i j k (s ∷ es) [] p id c e named = absurd c
 chain_more rule at i j k (s ∷ es) (q ∷ ps) p id c e named =
@@ -87,19 +87,19 @@ module _ {end : ℕ} {rule : Rule} (g : Pieces end rule) where
   unfolding followed
   followed-first zero = refl
   followed-first (suc n) =
-      ap (λ (o : Option Slot). elim o [ none ↦ [] | some r ↦ followed rule n r.start ++ (piece-to 0 r.id ∷ []) ]) (none_before rule 0)
+      ap (λ (o : Option Slot). elim o [ None ↦ [] | Some r ↦ followed rule n r.start ++ (piece-to 0 r.id ∷ []) ]) (none_before rule 0)
 
-  pub followed-more : (n j : ℕ) (r : Slot) → best rule j j ≡ some r → followed rule (suc n) j ≡ followed rule n r.start ++ (piece-to j r.id ∷ [])
+  pub followed-more : (n j : ℕ) (r : Slot) → best rule j j ≡ Some r → followed rule (suc n) j ≡ followed rule n r.start ++ (piece-to j r.id ∷ [])
   unfolding followed
   followed-more n j r e =
-      ap (λ (o : Option Slot). elim o [ none ↦ [] | some q ↦ followed rule n q.start ++ (piece-to j q.id ∷ []) ]) e
+      ap (λ (o : Option Slot). elim o [ None ↦ [] | Some q ↦ followed rule n q.start ++ (piece-to j q.id ∷ []) ]) e
 
   -- What holds of no pieces, and of one piece more that a record names, holds of the records followed back from where something
   -- stands.
   abbrev Back : (List Step → ℕ → Type 0) → Type 0
-  Back Q = (j : ℕ) (es : List Step) (r : Slot) → 0 < j → best rule j j ≡ some r → Standing g j 0 j r → Q es r.start → Q (es ++ (piece-to j r.id ∷ [])) j
+  Back Q = (j : ℕ) (es : List Step) (r : Slot) → 0 < j → best rule j j ≡ Some r → Standing g j 0 j r → Q es r.start → Q (es ++ (piece-to j r.id ∷ [])) j
 
-  back : (Q : List Step → ℕ → Type 0) → Q [] 0 → Back Q → (n j : ℕ) (x : Double) → j ≤ n → stands_at rule j ≡ some x → Q (followed rule n j) j
+  back : (Q : List Step → ℕ → Type 0) → Q [] 0 → Back Q → (n j : ℕ) (x : Double) → j ≤ n → stands_at rule j ≡ Some x → Q (followed rule n j) j
   back Q none_yet more zero zero x l at = subst (λ (es : List Step). Q es 0) (sym (followed-first 0)) none_yet
   back Q none_yet more (suc n) zero x l at = subst (λ (es : List Step). Q es 0) (sym (followed-first (suc n))) none_yet
   back Q none_yet more zero (suc j) x l at = absurd (omega arith)
@@ -115,10 +115,10 @@ module _ {end : ℕ} {rule : Rule} (g : Pieces end rule) where
   Chained es j y = (ps : List Piece) × Chain rule 0 es j ps × (added plus_zero ps ≡ y)
 
   -- they are a chain of pieces from 0, with the sum that stands there
-  pub chained : (n j : ℕ) (x : Double) → j ≤ n → stands_at rule j ≡ some x → Chained (followed rule n j) j x
+  pub chained : (n j : ℕ) (x : Double) → j ≤ n → stands_at rule j ≡ Some x → Chained (followed rule n j) j x
   unfolding added
   chained n j x l at =
-      back (λ es j. (y : Double) → stands_at rule j ≡ some y → Chained es j y)
+      back (λ es j. (y : Double) → stands_at rule j ≡ Some y → Chained es j y)
       (λ y e. ([], refl, some_same (sym (stands-first rule) ∙ e)))
       (λ j es r l full s c y e.
       let f = s.offer in
@@ -133,14 +133,14 @@ module _ {end : ℕ} {rule : Rule} (g : Pieces end rule) where
       n j x l at x at
 
   -- joined they are the text before j: they cover every byte once
-  pub covers : (s : List ℕ) (n j : ℕ) (x : Double) → j ≤ n → stands_at rule j ≡ some x → joined s 0 (followed rule n j) ≡ take j s
+  pub covers : (s : List ℕ) (n j : ℕ) (x : Double) → j ≤ n → stands_at rule j ≡ Some x → joined s 0 (followed rule n j) ≡ take j s
   covers s n j x l at =
       let v = chained n j x l at in
       chain-joined s 0 j (followed rule n j) v.0 v.1
       ∙ ap (λ (k : ℕ). take k s) (let e : j - 0 ≡ j = omega arith in e)
 
   -- They are no more than what rises with each piece, as the number of characters does.
-  pub few : (rank : ℕ → ℕ) → ((i j k : ℕ) (p : Piece) → nth (rule.pieces i j) k ≡ some p → rank i < rank j) → (n j : ℕ) (x : Double) → j ≤ n → stands_at rule j ≡ some x → length (followed rule n j) ≤ rank j
+  pub few : (rank : ℕ → ℕ) → ((i j k : ℕ) (p : Piece) → nth (rule.pieces i j) k ≡ Some p → rank i < rank j) → (n j : ℕ) (x : Double) → j ≤ n → stands_at rule j ≡ Some x → length (followed rule n j) ≤ rank j
   few rank rises =
       back (λ es j. length es ≤ rank j) (omega arith)
       (λ j es r l full s c.

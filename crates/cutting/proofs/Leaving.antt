@@ -1,10 +1,10 @@
 -- What stands once all starts have been worked. Columns that hold the records place by place are the columns of `slots_left`;
 -- the path that they give is that of the best cutting's pieces; and the laws of the records hold of the slots, which is demand
 -- 3. Assumes nothing.
+use Rattle.std.specs.Prelude.{None, Some}
 use mathlib.Core.Path.{◌≡◌, refl, sym, ap, subst, ◌∙◌}
 use mathlib.Core.List.{List, [], ◌∷◌, ◌++◌, map}
 use mathlib.Core.Logic.{⊎_elim}
-use mathlib.Core.Option.{none, some}
 use Prim.Native.Nat.{ℕ, zero, suc, ◌+◌, ◌-◌, ◌≤◌, ◌<◌}
 use native.Mathlib.Nat.{add-zero}
 use native.Mathlib.Omega.{arith}
@@ -44,7 +44,7 @@ module _ (rule : Rule) where
 -- a column that holds f of the records in front, and after them what it held before
 column-whole :
     {A : Type 0} (f : Slot → A) (d : A) (rs : List Slot) (before after : List A) → length after ≡ length before → length rs ≤ length before
-    → ((k : ℕ) → k < length rs → get_or after k d ≡ f (get_or rs k (shown none)))
+    → ((k : ℕ) → k < length rs → get_or after k d ≡ f (get_or rs k (shown None)))
     → ((k : ℕ) → length rs ≤ k → get_or after k d ≡ get_or before k d)
     → after ≡ overlay (map f rs) before
 column-whole f d rs before after level fits low high =
@@ -55,7 +55,7 @@ column-whole f d rs before after level fits low high =
     (λ k l.
     ⊎_elim
     (λ (h : k < length rs).
-    low k h ∙ sym (get_or-append (map f rs) (drop n before) d k (omega arith) ∙ map-inside f rs k (shown none) d h))
+    low k h ∙ sym (get_or-append (map f rs) (drop n before) d k (omega arith) ∙ map-inside f rs k (shown None) d h))
     (λ (h : length rs ≤ k).
     let there : n + (k - n) ≡ k = omega arith in
     high k h
@@ -117,7 +117,7 @@ module _
     (holds : (j : ℕ) → 0 < j → j ≤ end → slot_at c j ≡ shown (best rule j j))
   where
     slots-followed :
-        (n j : ℕ) (x : Double) → j ≤ n → j ≤ end → stands_at rule j ≡ some x → followed_in c n j ≡ followed rule n j
+        (n j : ℕ) (x : Double) → j ≤ n → j ≤ end → stands_at rule j ≡ Some x → followed_in c n j ≡ followed rule n j
     unfolding followed_in shown
     slots-followed zero zero x l inside at = sym (followed-first g 0)
     slots-followed (suc n) zero x l inside at = sym (followed-first g (suc n))
@@ -152,7 +152,7 @@ module _ {end : ℕ} {rule : Rule} (g : Pieces end rule) {come : ℕ → Type 0}
       let there : shown (best rule (0 + k) (0 + k)) ≡ shown (best rule k k) =
       ap (λ (i : ℕ). shown (best rule i i)) (let e : 0 + k ≡ k = omega arith in e)
       in
-      now k ∙ ap f (slot-holds k (omega arith) ∙ sym (record-at rule 0 (end + 1) k (shown none) (omega arith) ∙ there)))
+      now k ∙ ap f (slot-holds k (omega arith) ∙ sym (record-at rule 0 (end + 1) k (shown None) (omega arith) ∙ there)))
       (λ k l. now k ∙ ap f (r.past k (omega arith)) ∙ sym (was k))
 
   pub slots-are : Level b a → Reaching end b → a ≡ slots_left rule end b
@@ -164,7 +164,7 @@ module _ {end : ℕ} {rule : Rule} (g : Pieces end rule) {come : ℕ → Type 0}
 
   -- ---- the path
 
-  module _ (x : Double) (at-end : stands_at rule end ≡ some x) where
+  module _ (x : Double) (at-end : stands_at rule end ≡ Some x) where
     pub falls : end < length a.start → end ≤ max_text → Falling a.start end
     falls inside size = falling g a.start start-holds x inside size at-end
 
@@ -193,8 +193,8 @@ module _ {end : ℕ} {rule : Rule} (g : Pieces end rule) {come : ℕ → Type 0}
 
 -- slots that hold the records meet the law of demand 3, where something stands at the end and wherever is come to
 pub law-of :
-    {come : ℕ → Type 0} {s : List ℕ} {rule : Rule} (g : Pieces (length s) rule) → ((j : ℕ) → j ≤ length s → come j → (x : Double) × (stands_at rule j ≡ some x))
-    → (x : Double) → stands_at rule (length s) ≡ some x → {most : ℕ} → length (best_pieces rule (length s)) ≤ most → (after : Slots)
+    {come : ℕ → Type 0} {s : List ℕ} {rule : Rule} (g : Pieces (length s) rule) → ((j : ℕ) → j ≤ length s → come j → (x : Double) × (stands_at rule j ≡ Some x))
+    → (x : Double) → stands_at rule (length s) ≡ Some x → {most : ℕ} → length (best_pieces rule (length s)) ≤ most → (after : Slots)
     → ((j : ℕ) → 0 < j → j ≤ length s → slot_at after j ≡ shown (best rule j j)) → RecordLaw rule come s most after
 unfolding shown
 law-of {come} {s} {rule} g reach x at-end few after holds =

@@ -1,9 +1,9 @@
 -- Every boundary is reached, by a rule with a piece from each boundary to the next: the last boundary before j has a piece that
 -- ends at j, so by induction there is a cutting before j. Assumes nothing.
+use Rattle.std.specs.Prelude.{Some}
 use mathlib.Core.Path.{◌≡◌, refl, ap, subst, ◌∙◌}
 use mathlib.Core.Bool.{Bool, true, false}
 use mathlib.Core.Logic.{⊎_elim}
-use mathlib.Core.Option.{some}
 use Prim.Native.Nat.{ℕ, zero, suc, ◌≤◌, ◌<◌}
 use native.Mathlib.Omega.{arith}
 use lib.Dec.{T}
@@ -16,8 +16,8 @@ use Rattle.cutting.proofs.Best.{at-most-best}
 -- pieces end at boundaries, and from each before the end there is one that reaches the next
 pub record Reach (boundary : ℕ → Bool) (end : ℕ) (rule : Rule) : Type 0 where
   pub first : boundary 0 ≡ true
-  pub to : (i j k : ℕ) (p : Piece) → nth (rule.pieces i j) k ≡ some p → boundary j ≡ true
-  pub single : (i : ℕ) → i < end → boundary i ≡ true → (j : ℕ) × (k : ℕ) × (p : Piece) × (nth (rule.pieces i j) k ≡ some p) × ((n : ℕ) → i < n → n < j → boundary n ≡ false)
+  pub to : (i j k : ℕ) (p : Piece) → nth (rule.pieces i j) k ≡ Some p → boundary j ≡ true
+  pub single : (i : ℕ) → i < end → boundary i ≡ true → (j : ℕ) × (k : ℕ) × (p : Piece) × (nth (rule.pieces i j) k ≡ Some p) × ((n : ℕ) → i < n → n < j → boundary n ≡ false)
 
 module _ {boundary : ℕ → Bool} {end : ℕ} {rule : Rule} (g : Pieces end rule) (h : Reach boundary end rule) where
   -- every index below suc i is below i or i
@@ -57,10 +57,10 @@ module _ {boundary : ℕ → Bool} {end : ℕ} {rule : Rule} (g : Pieces end rul
       let no_less : v.0 < suc j → ⊥ = λ b. true-false (h.to i v.0 v.1 v.2 v.3) (w.3 v.0 above b) in
       let no_more : suc j < v.0 → ⊥ = λ b. true-false at (v.4 (suc j) w.1 b) in
       then (cutting-to n i (omega (arith, w.1)) (omega (arith, w.1)) w.2) (suc j) v.1 v.2
-      (subst (λ (k : ℕ). nth (rule.pieces i k) v.1 ≡ some v.2) (meet v.0 (suc j) no_less no_more) v.3)
+      (subst (λ (k : ℕ). nth (rule.pieces i k) v.1 ≡ Some v.2) (meet v.0 (suc j) no_less no_more) v.3)
 
   -- "That every boundary has a record" is the Rust's `debug_assert!`.
-  pub all-stand : ((j : ℕ) (c : Cutting rule j) → T (rule.counts (total c))) → (j : ℕ) → j ≤ end → boundary j ≡ true → (x : Double) × (stands_at rule j ≡ some x)
+  pub all-stand : ((j : ℕ) (c : Cutting rule j) → T (rule.counts (total c))) → (j : ℕ) → j ≤ end → boundary j ≡ true → (x : Double) × (stands_at rule j ≡ Some x)
   all-stand counts j inside at =
       let c = cutting-to j j (omega arith) inside at in
       let w = at-most-best g c (counts j c) in

@@ -1,10 +1,10 @@
 -- The path by the start column. The ends before j are those before its start and then j, which is a turn of the code that
 -- counts them and of that which writes them (`turn`). By slots that hold the records, the starts fall from where something
 -- stands. Assumes nothing.
+use Rattle.std.specs.Prelude.{Option, None, Some}
 use mathlib.Core.Path.{◌≡◌, refl, sym, ap, subst, ◌∙◌}
 use mathlib.Core.Bool.{Bool, true, false}
 use mathlib.Core.List.{List, [], ◌∷◌, ◌++◌, append_assoc}
-use mathlib.Core.Option.{Option, none, some}
 use Prim.Native.Nat.{ℕ, zero, suc, ◌≤◌, ◌<◌}
 use native.Mathlib.Omega.{arith}
 use lib.ListN.{length, get_or, take, drop, set, length-append}
@@ -108,16 +108,16 @@ written_back es j path k e l = append_assoc es (j ∷ []) (drop (suc k) path) �
 
 -- whether something stands
 stands? : Option Double → Bool
-stands? none = false
-stands? (some x) = true
+stands? None = false
+stands? (Some x) = true
 
-stands-there : (o : Option Double) → stands? o ≡ true → (x : Double) × (o ≡ some x)
+stands-there : (o : Option Double) → stands? o ≡ true → (x : Double) × (o ≡ Some x)
 unfolding stands?
-stands-there none e = absurd (true-false e refl)
-stands-there (some x) e = (x, refl)
+stands-there None e = absurd (true-false e refl)
+stands-there (Some x) e = (x, refl)
 
 module _ {end : ℕ} {rule : Rule} (g : Pieces end rule) (starts : List ℕ) (holds : (j : ℕ) → j ≤ end → get_or starts j no_id ≡ (shown (best rule j j)).start) where
-  start_is : (j : ℕ) (r : Slot) → j ≤ end → best rule j j ≡ some r → get_or starts j no_id ≡ r.start
+  start_is : (j : ℕ) (r : Slot) → j ≤ end → best rule j j ≡ Some r → get_or starts j no_id ≡ r.start
   unfolding shown
   start_is j r inside e = holds j inside ∙ ap (λ (o : Option Slot). (shown o).start) e
 
@@ -134,7 +134,7 @@ module _ {end : ℕ} {rule : Rule} (g : Pieces end rule) (starts : List ℕ) (ho
       let h : w.0.start < j = sooner-below w.3.below in
       (omega arith, ap (λ (i : ℕ). stands? (stands_at rule i)) e ∙ ap stands? w.3.offer.stands)
 
-  pub falling : (x : Double) → end < length starts → end ≤ max_text → stands_at rule end ≡ some x → Falling starts end
+  pub falling : (x : Double) → end < length starts → end ≤ max_text → stands_at rule end ≡ Some x → Falling starts end
   unfolding marks-at stands?
   falling x inside size at =
       record {

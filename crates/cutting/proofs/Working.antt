@@ -1,10 +1,10 @@
 -- The turns of the work: what a start that has been worked changes in the records, by any rule. A start that is reached offers
 -- its pieces, in their order, to the record where they end; a piece goes forward, so a record at or below the start is settled.
 -- Assumes nothing.
+use Rattle.std.specs.Prelude.{Option, None, Some}
 use mathlib.Core.Path.{◌≡◌, refl, sym, ap, ◌∙◌}
 use mathlib.Core.Bool.{Bool}
 use mathlib.Core.List.{List, [], ◌∷◌}
-use mathlib.Core.Option.{Option, none, some}
 use mathlib.Core.Logic.{◌⊎◌, inl, inr, ⊎_elim}
 use Prim.Native.Nat.{ℕ, zero, suc, ◌≤◌, ◌<◌}
 use native.Mathlib.Omega.{arith}
@@ -17,9 +17,9 @@ use Rattle.refusal.proofs.Lists.{none-some, below_or}
 -- What is asked of a rule. A piece is not empty, ends within the text and has a finite score. A sum that counts is a number,
 -- one that is at least as great counts too, and so does what it was added to.
 pub record Pieces (end : ℕ) (rule : Rule) : Type 0 where
-  pub forward : (i j k : ℕ) (p : Piece) → nth (rule.pieces i j) k ≡ some p → i < j
-  pub inside : (i j k : ℕ) (p : Piece) → nth (rule.pieces i j) k ≡ some p → j ≤ end
-  pub finite : (i j k : ℕ) (p : Piece) → nth (rule.pieces i j) k ≡ some p → T (is_finite p.score)
+  pub forward : (i j k : ℕ) (p : Piece) → nth (rule.pieces i j) k ≡ Some p → i < j
+  pub inside : (i j k : ℕ) (p : Piece) → nth (rule.pieces i j) k ≡ Some p → j ≤ end
+  pub finite : (i j k : ℕ) (p : Piece) → nth (rule.pieces i j) k ≡ Some p → T (is_finite p.score)
   pub zero-counts : T (rule.counts plus_zero)
   pub number : (x : Double) → T (rule.counts x) → T (is_number x)
   pub up : (x y : Double) → T (rule.counts x) → T (at_most x y) → T (rule.counts y)
@@ -29,34 +29,34 @@ pub record Pieces (end : ℕ) (rule : Rule) : Type 0 where
 abbrev pub stands_at : Rule → ℕ → Option Double
 stands_at rule i = standing i (best rule i i)
 
-pub some_same : {A : Type 0} {x y : A} → some x ≡ some y → x ≡ y
+pub some_same : {A : Type 0} {x y : A} → Some x ≡ Some y → x ≡ y
 some_same e = cc
 
 -- there is one, or there is none
-pub looked : {A : Type 0} (o : Option A) → (o ≡ none) ⊎ ((x : A) × (o ≡ some x))
-looked none = inl refl
-looked (some x) = inr (x, refl)
+pub looked : {A : Type 0} (o : Option A) → (o ≡ None) ⊎ ((x : A) × (o ≡ Some x))
+looked None = inl refl
+looked (Some x) = inr (x, refl)
 
 -- no pieces where none has a place
-pub absent : (ps : List Piece) → ((k : ℕ) (p : Piece) → nth ps k ≡ some p → ⊥) → ps ≡ []
+pub absent : (ps : List Piece) → ((k : ℕ) (p : Piece) → nth ps k ≡ Some p → ⊥) → ps ≡ []
 unfolding nth
 absent [] no_such = refl
 absent (p ∷ ps) no_such = absurd (no_such 0 p refl)
 
 -- nothing is offered from where nothing stands
-nowhere : (counts : Double → Bool) (i : ℕ) (ps : List Piece) (o : Option Slot) → offered_all counts none i ps o ≡ o
+nowhere : (counts : Double → Bool) (i : ℕ) (ps : List Piece) (o : Option Slot) → offered_all counts None i ps o ≡ o
 unfolding offered_all
 nowhere counts i [] o = refl
 nowhere counts i (p ∷ ps) o = refl
 
 module _ (rule : Rule) where
   -- the pieces from a start that is reached are offered to the record where they end
-  pub worked : (i j : ℕ) (x : Double) → stands_at rule i ≡ some x → best rule (suc i) j ≡ offered_all rule.counts (some x) i (rule.pieces i j) (best rule i j)
+  pub worked : (i j : ℕ) (x : Double) → stands_at rule i ≡ Some x → best rule (suc i) j ≡ offered_all rule.counts (Some x) i (rule.pieces i j) (best rule i j)
   unfolding best
   worked i j x e = ap (λ (o : Option Double). offered_all rule.counts o i (rule.pieces i j) (best rule i j)) e
 
   -- one that is not changes nothing
-  pub passed : (i j : ℕ) → stands_at rule i ≡ none → best rule (suc i) j ≡ best rule i j
+  pub passed : (i j : ℕ) → stands_at rule i ≡ None → best rule (suc i) j ≡ best rule i j
   unfolding best
   passed i j e = ap (λ (o : Option Double). offered_all rule.counts o i (rule.pieces i j) (best rule i j)) e ∙ nowhere rule.counts i (rule.pieces i j) (best rule i j)
 
@@ -65,7 +65,7 @@ module _ (rule : Rule) where
   unfolding best offered_all
   pieceless i j e = ap (λ (ps : List Piece). offered_all rule.counts (stands_at rule i) i ps (best rule i j)) e
 
-  pub none_before : (j : ℕ) → best rule 0 j ≡ none
+  pub none_before : (j : ℕ) → best rule 0 j ≡ None
   unfolding best
   none_before j = refl
 
@@ -79,23 +79,23 @@ module _ (rule : Rule) where
       (below_or i from)
 
   -- what stands at the start, and after it
-  pub stands-first : stands_at rule 0 ≡ some plus_zero
+  pub stands-first : stands_at rule 0 ≡ Some plus_zero
   unfolding standing
   stands-first = refl
 
-  pub stands-record : (j : ℕ) (r : Slot) → 0 < j → best rule j j ≡ some r → stands_at rule j ≡ some r.score
+  pub stands-record : (j : ℕ) (r : Slot) → 0 < j → best rule j j ≡ Some r → stands_at rule j ≡ Some r.score
   unfolding standing
   stands-record zero r l e = absurd (omega arith)
   stands-record (suc j) r l e = ap (standing (suc j)) e
 
-  pub record-stands : (j : ℕ) (x : Double) → 0 < j → stands_at rule j ≡ some x → (r : Slot) × (best rule j j ≡ some r) × (r.score ≡ x)
+  pub record-stands : (j : ℕ) (x : Double) → 0 < j → stands_at rule j ≡ Some x → (r : Slot) × (best rule j j ≡ Some r) × (r.score ≡ x)
   unfolding standing
   record-stands zero x l e = absurd (omega arith)
   record-stands (suc j) x l e = by-record (best rule (suc j) (suc j)) refl
     where
-      by-record : (o : Option Slot) → best rule (suc j) (suc j) ≡ o → (r : Slot) × (best rule (suc j) (suc j) ≡ some r) × (r.score ≡ x)
-      by-record none h = absurd (none-some (sym (ap (standing (suc j)) h) ∙ e))
-      by-record (some r) h = (r, h, let same : some r.score ≡ some x = sym (ap (standing (suc j)) h) ∙ e in let one : r.score ≡ x = cc in one)
+      by-record : (o : Option Slot) → best rule (suc j) (suc j) ≡ o → (r : Slot) × (best rule (suc j) (suc j) ≡ Some r) × (r.score ≡ x)
+      by-record None h = absurd (none-some (sym (ap (standing (suc j)) h) ∙ e))
+      by-record (Some r) h = (r, h, let same : Some r.score ≡ Some x = sym (ap (standing (suc j)) h) ∙ e in let one : r.score ≡ x = cc in one)
 
 -- records at or below the start come to are settled
 pub settled-le : {end : ℕ} {rule : Rule} → Pieces end rule → (from j : ℕ) → j ≤ from → best rule from j ≡ best rule j j

@@ -1,7 +1,6 @@
 -- Cuttings of a text into pieces, their scores, and which is best at a position. What a piece is, is a parameter, the rule.
 -- Definitions only; assumes nothing.
-use Rattle.std.specs.Prelude.{◌≡◌, ℕ, zero, suc, ◌-◌, ◌≤◌, ◌<◌, Bool, List, [], ◌∷◌, ◌++◌, ◌⊎◌, T, take, drop}
-use Rattle.std.proofs.Math.Option.{Option, none, some}
+use Rattle.std.specs.Prelude.{◌≡◌, ℕ, zero, suc, ◌-◌, ◌≤◌, ◌<◌, Bool, List, [], ◌∷◌, ◌++◌, ◌⊎◌, T, take, drop, Option, None, Some}
 use Rattle.doubles.specs.Double.{Double, plus_zero, sum, same, at_most}
 
 -- a piece: its id and its score
@@ -17,14 +16,14 @@ pub record Rule : Type 0 where
 
 -- the piece in place k
 unfoldable pub nth : List Piece → ℕ → Option Piece
-nth [] k = none
-nth (p ∷ ps) zero = some p
+nth [] k = None
+nth (p ∷ ps) zero = Some p
 nth (p ∷ ps) (suc k) = nth ps k
 
 -- "Allowed cuttings chain such pieces": none of the text, or a cutting of the text before i and then a piece from i to j.
 pub data Cutting (rule : Rule) : ℕ → Type 0 where
   empty : Cutting rule 0
-  then : {i : ℕ} → Cutting rule i → (j k : ℕ) (p : Piece) → nth (rule.pieces i j) k ≡ some p → Cutting rule j
+  then : {i : ℕ} → Cutting rule i → (j k : ℕ) (p : Piece) → nth (rule.pieces i j) k ≡ Some p → Cutting rule j
 
 -- "The start score is 0": the scores, added from the left and rounded at each addition.
 unfoldable pub total : {rule : Rule} {j : ℕ} → Cutting rule j → Double
@@ -36,7 +35,7 @@ pub record Through (rule : Rule) (i j : ℕ) : Type 0 where
   pub before : Cutting rule i
   pub place : ℕ
   pub last : Piece
-  pub is : nth (rule.pieces i j) place ≡ some last
+  pub is : nth (rule.pieces i j) place ≡ Some last
 
 abbrev pub whole : {rule : Rule} {i j : ℕ} → Through rule i j → Cutting rule j
 whole {j = j} t = then t.before j t.place t.last t.is
@@ -70,7 +69,7 @@ Chain rule at [] j [] = at ≡ j
 Chain rule at [] j (p ∷ ps) = ⊥
 Chain rule at (e ∷ es) j [] = ⊥
 Chain rule at (e ∷ es) j (p ∷ ps) =
-    (k : ℕ) × (nth (rule.pieces at e.end) k ≡ some p) × (p.id ≡ e.id) × Chain rule e.end es j ps
+    (k : ℕ) × (nth (rule.pieces at e.end) k ≡ Some p) × (p.id ≡ e.id) × Chain rule e.end es j ps
 
 -- "left-to-right rounded sum": the scores of these pieces added to x from the left, rounded at each addition
 unfoldable pub added : Double → List Piece → Double

@@ -1,6 +1,5 @@
 -- What the lent slot columns hold, and what an offer leaves in them. Definitions only; assumes nothing.
-use Rattle.std.specs.Prelude.{◌≡◌, ℕ, ◌<◌, cond, List, map, eqb, leb, Float, length, get_or}
-use Rattle.std.proofs.Math.Option.{Option, none, some}
+use Rattle.std.specs.Prelude.{◌≡◌, ℕ, ◌<◌, cond, List, map, eqb, leb, Float, length, get_or, Option, None, Some}
 use Rattle.std.specs.Borrow.{MutBor}
 use Rattle.refusal.specs.Lent.{LentMut, had, is}
 use Rattle.doubles.specs.Double.{Double, plus_zero, less}
@@ -49,7 +48,7 @@ pub record PutAt (before : Slots) (j : ℕ) (q : Slot) (after : Slots) : Type 0 
 
 -- every slot but the first n + 1 is as it was, and those are empty
 pub record Cleared (before : Slots) (n : ℕ) (after : Slots) : Type 0 where
-  pub slots : (k : ℕ) → slot_at after k ≡ cond (leb k n) (shown none) (slot_at before k)
+  pub slots : (k : ℕ) → slot_at after k ≡ cond (leb k n) (shown None) (slot_at before k)
 
 -- A slot that is offered q: an empty one takes it, and a full one takes it where its score is greater.
 unfoldable pub taken : Slot → Slot → Slot
@@ -57,5 +56,5 @@ taken r q = cond (eqb r.start no_id) q (cond (less r.score q.score) q r)
 
 -- the slot where a piece from `at` ends, if there is one, once it has been offered it; x stands before the piece
 unfoldable pub after_offer : Option Piece → Double → ℕ → Slot → Slot
-after_offer none x at r = r
-after_offer (some p) x at r = taken r (candidate x at p)
+after_offer None x at r = r
+after_offer (Some p) x at r = taken r (candidate x at p)

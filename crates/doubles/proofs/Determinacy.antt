@@ -1,6 +1,7 @@
 -- Each promise of this crate fixes its answer. A sum, a lower double and a score are promised by their units, and the format
 -- has one value for each double; a number has one pattern. What the format holds is asked of the answers: every `f64` is so.
 -- Assumes nothing.
+use Rattle.std.specs.Prelude.{Option, Some, None, ℕ}
 use mathlib.Core.Path.{◌≡◌, refl, sym, ap, ap₂, ◌∙◌, subst}
 use Prim.Native.Nat.{◌^◌, ◌<◌}
 use mathlib.Core.Bool.{Bool, true, ◌&&◌}
@@ -13,8 +14,6 @@ use Rattle.doubles.specs.Units.{units}
 use Rattle.doubles.specs.Pattern.{Reads, Written}
 use Rattle.doubles.specs.declared.Pattern.{Pattern}
 use Rattle.doubles.specs.declared.Pattern.TheVariants.{Finite, Infinite, NotANumber}
-use Rattle.doubles.specs.declared.Bits.{Bits}
-use Rattle.doubles.specs.declared.Bits.TheVariants.{Of, NotANumber as NoNumber}
 use Rattle.doubles.proofs.Floats.{units-injective}
 use Rattle.doubles.proofs.Patterns.{pattern-injective}
 
@@ -67,15 +66,15 @@ read-once d NotANumber (Infinite t) h k p q = let e : not_a_number ≡ infinite 
 read-once d NotANumber NotANumber h k p q = refl
 
 -- a pattern is a u64
-abbrev pub Word : Bits → Type 0
-Word (Of n) = n < 2 ^ 64
-Word NoNumber = T true
+abbrev pub Word : Option ℕ → Type 0
+Word (Some n) = n < 2 ^ 64
+Word None = T true
 
 -- `to_bits`
-pub written_once : (d : Double) (a b : Bits) → Word a → Word b → Written a d → Written b d → a ≡ b
+pub written_once : (d : Double) (a b : Option ℕ) → Word a → Word b → Written a d → Written b d → a ≡ b
 unfolding is_number
-written_once d (Of m) (Of n) h k p q =
-    ap Of (pattern-injective m n h k (subst (λ (d : Double). T (is_number d)) (sym p.0) p.1) (p.0 ∙ sym q.0))
-written_once d (Of m) NoNumber h k p q = absurd (subst (λ (d : Double). T (is_number d)) q p.1)
-written_once d NoNumber (Of n) h k p q = absurd (subst (λ (d : Double). T (is_number d)) p q.1)
-written_once d NoNumber NoNumber h k p q = refl
+written_once d (Some m) (Some n) h k p q =
+    ap Some (pattern-injective m n h k (subst (λ (d : Double). T (is_number d)) (sym p.0) p.1) (p.0 ∙ sym q.0))
+written_once d (Some m) None h k p q = absurd (subst (λ (d : Double). T (is_number d)) q p.1)
+written_once d None (Some n) h k p q = absurd (subst (λ (d : Double). T (is_number d)) p q.1)
+written_once d None None h k p q = refl

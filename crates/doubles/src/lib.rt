@@ -77,19 +77,12 @@ pub fn from_bits(n: u64) -> Pattern
     Pattern::Finite(f64::from_bits(n))
 }
 
-// A double's bit pattern. A NaN has many, so none is given.
-#[derive(Clone, Copy)]
-pub enum Bits {
-    Of(u64),
-    NotANumber,
-}
-
-// The pattern that `from_bits` reads as x. Only a NaN differs from itself.
-pub fn to_bits(x: f64) -> Bits
+// The pattern that `from_bits` reads as x. A NaN has many, so none is given. Only a NaN differs from itself.
+pub fn to_bits(x: f64) -> Option<u64>
     ensures { Written result (units x) }
 {
     if x == x {
-        return Bits::Of(f64::to_bits(x));
+        return Some(f64::to_bits(x));
     }
-    Bits::NotANumber
+    None
 }

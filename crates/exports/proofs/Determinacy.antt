@@ -1,6 +1,7 @@
 -- Each exported promise fixes its answer and what every lent column holds afterwards: each field is an equation with a value of
 -- the inputs, and of scores, which are promised as doubles, the format has one value each. That the format holds the scores is
 -- so of every `f64` column. Assumes nothing.
+use Rattle.std.specs.Prelude.{Ok, ℕ}
 use mathlib.Core.Path.{◌≡◌, sym, ap, ◌∙◌}
 use Prim.Native.Nat.{ℕ}
 use mathlib.Core.List.{List, [], map}
@@ -9,7 +10,6 @@ use lib.Ieee.{Float}
 use Rattle.doubles.specs.Double.{Double}
 use Rattle.doubles.specs.Units.{units}
 use Rattle.doubles.proofs.Determinacy.{all_held, column-once}
-use Rattle.refusal.specs.declared.CodeAnswer.TheVariants.{Ids}
 use Rattle.refusal.proofs.Codings.{coded-once}
 use Rattle.trie.specs.Trie.{Trie}
 use Rattle.rows.specs.Columns.{Columns}
@@ -61,8 +61,8 @@ module _ {a b c d a' b' c' d' : List ℕ} (x x' : List Float) (held : T (all_hel
       (as-once p q (ap code_number one.0), left.0, left.1, left.2, left.3, left.4)
 
   pub segmented-checked-once :
-      {m : Model} {s : List ℕ} {before : Scratch} {r r' : ℕ} → Segmented m s before (Ids r) (scratch_of a b x c d)
-      → Segmented m s before (Ids r') (scratch_of a' b' x' c' d') → (r ≡ r') × (a ≡ a') × (b ≡ b') × (x ≡ x') × (c ≡ c') × (d ≡ d')
+      {m : Model} {s : List ℕ} {before : Scratch} {r r' : ℕ} → Segmented m s before (Ok r) (scratch_of a b x c d)
+      → Segmented m s before (Ok r') (scratch_of a' b' x' c' d') → (r ≡ r') × (a ≡ a') × (b ≡ b') × (x ≡ x') × (c ≡ c') × (d ≡ d')
   segmented-checked-once {r = r} {r' = r'} p q =
       let once = segment-once x x' held held' p q in
       let count : r ≡ r' = cc once.0 in

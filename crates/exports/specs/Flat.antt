@@ -1,10 +1,7 @@
 -- Answers as numbers, for callers in other languages. Definitions only; assumes nothing.
-use Rattle.std.specs.Prelude.{◌≡◌, ℕ, ◌+◌, ◌*◌, ◌^◌, cond, List, [], ◌∷◌, ltb, length}
-use Rattle.std.proofs.Math.Option.{Option, none, some}
+use Rattle.std.specs.Prelude.{◌≡◌, ℕ, ◌+◌, ◌*◌, ◌^◌, cond, List, [], ◌∷◌, ltb, length, Option, None, Some, Result, Ok, Err}
 use Rattle.doubles.specs.Double.{Double}
 use Rattle.refusal.specs.declared.Fault.{Fault}
-use Rattle.refusal.specs.declared.CodeAnswer.{CodeAnswer}
-use Rattle.refusal.specs.declared.CodeAnswer.TheVariants as code_is
 use Rattle.refusal.specs.declared.Reason.{Reason}
 use Rattle.refusal.specs.declared.Reason.TheVariants.{Call, Row}
 use Rattle.refusal.specs.declared.Fault.TheVariants as fault
@@ -13,11 +10,7 @@ use Rattle.refusal.specs.Sizes.{max_text, no_id, above}
 use Rattle.refusal.specs.Places.{overlay}
 use Rattle.build.specs.Promise.{Told, built, refused}
 use Rattle.text.specs.Text.{text_fault}
-use Rattle.trie.specs.declared.LookupAnswer.{LookupAnswer}
-use Rattle.trie.specs.declared.LookupAnswer.TheVariants.{Found, Absent, Refused}
 use Rattle.scored.specs.Build.{Report}
-use Rattle.wordpiece.specs.declared.BuildAnswer as wordpiece
-use Rattle.wordpiece.specs.declared.BuildAnswer.TheVariants as wordpiece-is
 use Rattle.pack.specs.Build as pack
 use Rattle.output.specs.Output.{max_output, output}
 
@@ -29,8 +22,8 @@ pub record As {A : Type 0} (number : A → ℕ) (Promise : A → Type 0) (answer
 
 -- 0 where there is no fault, else the paper's number
 abbrev pub status : Option Fault → ℕ
-status none = 0
-status (some f) = number f
+status None = 0
+status (Some f) = number f
 
 -- of a text by itself: 1, then 4
 abbrev pub count_fault : List ℕ → Option Fault
@@ -38,19 +31,19 @@ count_fault s = refuse (above max_text (length s)) fault.Size (text_fault s)
 
 -- a count, which is below 2 ^ 32; or 2 ^ 32 and the number of the fault
 abbrev pub count_number : Option Fault → ℕ → ℕ
-count_number none n = n
-count_number (some f) n = 2 ^ 32 + number f
+count_number None n = n
+count_number (Some f) n = 2 ^ 32 + number f
 
 -- a look-up: the id, which is below 2 ^ 32; 2 ^ 32 for none; or that and the number of the fault
-abbrev pub lookup_number : LookupAnswer → ℕ
-lookup_number (Found i) = i
-lookup_number Absent = 2 ^ 32
-lookup_number (Refused f) = 2 ^ 32 + number f
+abbrev pub lookup_number : Result (Option ℕ) Fault → ℕ
+lookup_number (FOUND i) = i
+lookup_number Ok None = 2 ^ 32
+lookup_number (Err f) = 2 ^ 32 + number f
 
 -- how many ids; or 2 ^ 32 and the number of the fault
-abbrev pub code_number : CodeAnswer → ℕ
-code_number (code_is.Ids n) = n
-code_number (code_is.Refused f) = 2 ^ 32 + number f
+abbrev pub code_number : Result ℕ Fault → ℕ
+code_number (Ok n) = n
+code_number (Err f) = 2 ^ 32 + number f
 
 -- ---- builds
 
@@ -60,9 +53,9 @@ reason_number (Call f) = number f * 2 ^ 32 + no_id
 reason_number (Row f i) = number f * 2 ^ 32 + i
 
 -- how many nodes, which is below 2 ^ 32; or why nothing was built
-abbrev pub from_rows_number : wordpiece.BuildAnswer → ℕ
-from_rows_number (wordpiece-is.Built n) = n
-from_rows_number (wordpiece-is.Refused r) = reason_number r
+abbrev pub from_rows_number : (Result ℕ Reason) → ℕ
+from_rows_number (Ok n) = n
+from_rows_number (Err r) = reason_number r
 
 -- what `build` tells: how many nodes, or why nothing was built
 abbrev pub told_number : Told Report → ℕ

@@ -9,10 +9,8 @@ use trie::checked::NodeId;
 pub mod builds;
 pub mod packs;
 
-ghost use Rattle.std.specs.Prelude.{◌≡◌, [], true, ◌+◌, ◌^◌, length};
-ghost use Rattle.std.proofs.Math.Option.{none};
+ghost use Rattle.std.specs.Prelude.{◌≡◌, [], true, ◌+◌, ◌^◌, length, None, Ok};
 ghost use Rattle.doubles.specs.Units.{units, scores_was};
-ghost use Rattle.refusal.specs.declared.CodeAnswer.TheVariants.{Ids};
 ghost use Rattle.refusal.specs.Refusal.{number, unless_fault};
 ghost use Rattle.text.specs.Text.{length_of, valid_up_to, boundary, characters};
 ghost use Rattle.text.specs.Span.{span_fault, span_of};
@@ -192,7 +190,7 @@ fn code_number(a: CodeAnswer) -> usize
     ensures { result ≡ code_number a }
 {
     match a {
-        CodeAnswer::Ids(n) => n,
+        CodeAnswer::Ok(n) => n,
         CodeAnswer::Refused(f) => refused(f),
     }
 }
@@ -300,9 +298,9 @@ pub extern "C" fn sk_segment_checked(
     ids: &mut [u32],
 ) -> usize
     requires { segment_fault (sound_model (model_now edge_at edge_n id score byte to unknown unknown_score)) text.now
-        (lengths_of (scratch_now start slot_id slot_score path ids)) ≡ none }
+        (lengths_of (scratch_now start slot_id slot_score path ids)) ≡ None }
     ensures { Segmented (model edge_at edge_n id score byte to unknown unknown_score) (was text)
-        (scratch_was start slot_id slot_score path ids) (Ids result) (scratch_is start slot_id slot_score path ids) }
+        (scratch_was start slot_id slot_score path ids) (Ok result) (scratch_is start slot_id slot_score path ids) }
 {
     unigram::checked::segment(
         edge_at,

@@ -1,9 +1,9 @@
 -- What is printed of a pack that was judged: the refusal of one that has a fault, and else the lines in the trie that its build
 -- left in the first places of the lent columns, which is the pack's. Assumes nothing.
+use Rattle.std.specs.Prelude.{Option, None, Some, Result, Err, ℕ}
 use mathlib.Core.Path.{◌≡◌, refl, sym, ap, ap₂, ◌∙◌, subst}
 use mathlib.Core.Bool.{Bool, true, false, ◌&&◌}
 use mathlib.Core.List.{List, [], ◌∷◌, map}
-use mathlib.Core.Option.{Option, none, some}
 use Prim.Native.Nat.{ℕ, zero, suc, ◌+◌, ◌-◌, ◌*◌, ◌≤◌, ◌<◌}
 use native.Mathlib.Omega.{arith}
 use borrow.Author.Tests.{ltb-false, le-ltb, lt-ltb, eqb-true, leb-true}
@@ -34,8 +34,6 @@ use Rattle.unigram.specs.Pieces.{Model}
 use Rattle.coder.specs.declared.Coder.TheVariants as coder-is
 use Rattle.coder.specs.Vocabulary.{unigram_of, wordpiece_of}
 use Rattle.coder.specs.Columns.{vocabulary_of}
-use Rattle.pack.specs.declared.PackAnswer.{PackAnswer}
-use Rattle.pack.specs.declared.PackAnswer.TheVariants as answer-is
 use Rattle.pack.specs.Pack.{header_of, laid_out, rows_of, strings_of, prefix_of}
 use Rattle.pack.specs.Build.{nodes_of, pack_fault, the_kind, unigram_model, PackBuilt}
 use Rattle.pack.proofs.Headers.{kind-laid}
@@ -62,13 +60,13 @@ module _ (pack input : List ℕ) where
   -- ---- by what the pack's fault is
 
   abbrev by-fault : Option Reason → List ℕ
-  by-fault o = elim o [ some r ↦ printed_refusal (ascii "pack ") (fault_of r) | none ↦ lines_printed (coded_line (vocabulary_in (the_kind pack) pack)) input ]
+  by-fault o = elim o [ Some r ↦ printed_refusal (ascii "pack ") (fault_of r) | None ↦ lines_printed (coded_line (vocabulary_in (the_kind pack) pack)) input ]
 
-  fault-some : {r : Reason} → pack_fault pack lent_memory ≡ some r → printed_refusal (ascii "pack ") (fault_of r) ≡ output_of pack input
+  fault-some : {r : Reason} → pack_fault pack lent_memory ≡ Some r → printed_refusal (ascii "pack ") (fault_of r) ≡ output_of pack input
   unfolding output_of
   fault-some e = sym (ap by-fault e)
 
-  fault-none : pack_fault pack lent_memory ≡ none → lines_printed (coded_line (vocabulary_in (the_kind pack) pack)) input ≡ output_of pack input
+  fault-none : pack_fault pack lent_memory ≡ None → lines_printed (coded_line (vocabulary_in (the_kind pack) pack)) input ≡ output_of pack input
   unfolding output_of
   fault-none e = sym (ap by-fault e)
 
@@ -86,14 +84,14 @@ zeros (suc n) z e = ap₂ ◌∷◌ e (zeros n z e)
 
 -- the memory that the program lends
 pub lent-built :
-    (pack : List ℕ) (answer : PackAnswer) {after : Memory} (z : Float) → units z ≡ plus_zero
+    (pack : List ℕ) (answer : Result Pack Reason) {after : Memory} (z : Float) → units z ≡ plus_zero
     → PackBuilt pack (with_scores (memory places places places places places (replicate 8_192 0)) (map units (replicate 4_096 z))) answer after
     → PackBuilt pack lent_memory answer after
 unfolding lent_memory
 lent-built pack answer {after = after} z e b =
     subst (λ (ys : List Double). PackBuilt pack (with_scores (memory places places places places places (replicate 8_192 0)) ys) answer after) (zeros 4_096 z e) b
 
-lent-nodes : (pack : List ℕ) → pack_fault pack lent_memory ≡ none → nodes_of (the_kind pack) pack ≤ 4_096
+lent-nodes : (pack : List ℕ) → pack_fault pack lent_memory ≡ None → nodes_of (the_kind pack) pack ≤ 4_096
 unfolding no_scored_room lent_memory
 lent-nodes pack e =
     let n = nodes_of (the_kind pack) pack in
@@ -108,7 +106,7 @@ module _ (pack edge_at edge_n id : List ℕ) (scores : List Float) (byte to : Li
   after work = with_scores (memory edge_at edge_n id byte to work) (map units scores)
 
   -- the lent columns have room for so many nodes
-  cuttable : {answer : PackAnswer} {n : ℕ} → LentBuilt pack answer edge_at edge_n id scores byte to → (1 ≤ n) × (n ≤ 4_096) → Cuttable n edge_at edge_n id scores byte to
+  cuttable : {answer : Result Pack Reason} {n : ℕ} → LentBuilt pack answer edge_at edge_n id scores byte to → (1 ≤ n) × (n ≤ 4_096) → Cuttable n edge_at edge_n id scores byte to
   cuttable j m =
       let p = j.places in
       record {
@@ -122,17 +120,17 @@ module _ (pack edge_at edge_n id : List ℕ) (scores : List Float) (byte to : Li
       }
 
   pub judged-refused :
-      {r : Reason} (input : List ℕ) → LentBuilt pack (answer-is.Refused r) edge_at edge_n id scores byte to
+      {r : Reason} (input : List ℕ) → LentBuilt pack (Err r) edge_at edge_n id scores byte to
       → printed_refusal (ascii "pack ") (fault_of r) ≡ output_of pack input
-  judged-refused {r = r} input j = fault-some pack input ((determined.refused-exactly pack lent_memory (answer-is.Refused r) (after j.work) j.built r).0 refl)
+  judged-refused {r = r} input j = fault-some pack input ((determined.refused-exactly pack lent_memory (Err r) (after j.work) j.built r).0 refl)
 
   -- ---- Unigram
 
-  module _ (n unknown : ℕ) (lowest : Float) (j : LentBuilt pack (answer-is.Unigram n unknown lowest) edge_at edge_n id scores byte to) where
+  module _ (n unknown : ℕ) (lowest : Float) (j : LentBuilt pack (PACKU n unknown lowest) edge_at edge_n id scores byte to) where
     abbrev left : Memory
     left = after j.work
 
-    accepted : pack_fault pack lent_memory ≡ none
+    accepted : pack_fault pack lent_memory ≡ None
     accepted = packs.unigram-accepted pack lent_memory left n unknown lowest good j.built
 
     is-unigram : the_kind pack ≡ Unigram
@@ -171,11 +169,11 @@ module _ (pack edge_at edge_n id : List ℕ) (scores : List Float) (byte to : Li
 
   -- ---- WordPiece
 
-  module _ (n unknown most off len : ℕ) (j : LentBuilt pack (answer-is.WordPiece n unknown most off len) edge_at edge_n id scores byte to) where
+  module _ (n unknown most off len : ℕ) (j : LentBuilt pack (PACKW n unknown most off len) edge_at edge_n id scores byte to) where
     abbrev left' : Memory
     left' = after j.work
 
-    accepted' : pack_fault pack lent_memory ≡ none
+    accepted' : pack_fault pack lent_memory ≡ None
     accepted' = packs.wordpiece-accepted pack lent_memory left' n unknown most off len good j.built
 
     is-wordpiece : the_kind pack ≡ WordPiece
@@ -206,7 +204,7 @@ module _ (pack edge_at edge_n id : List ℕ) (scores : List Float) (byte to : Li
         )
 
     -- the prefix that is given back is the pack's
-    prefix-fine : span_fault (strings_of pack) off len ≡ none
+    prefix-fine : span_fault (strings_of pack) off len ≡ None
     unfolding strings_of
     prefix-fine =
         let strings = strings_of pack in

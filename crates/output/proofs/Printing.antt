@@ -1,8 +1,9 @@
 -- What an answer of the coder says of the line to print: a refusal is the fault, and else the first places hold the ids, no
 -- more than the line has bytes. Assumes nothing.
+use Rattle.std.specs.Result.{result_err}
+use Rattle.std.specs.Prelude.{Option, Result, Ok, Err, ℕ}
 use mathlib.Core.Path.{◌≡◌, sym, ap, ◌∙◌}
 use mathlib.Core.List.{List, []}
-use mathlib.Core.Option.{Option}
 use Prim.Native.Nat.{ℕ, ◌≤◌}
 use native.Mathlib.Omega.{arith}
 use lib.Ieee.{Float}
@@ -10,14 +11,12 @@ use lib.ListN.{length, take, drop, length-map}
 use lib.Seq.{take-append_seam}
 use Rattle.doubles.specs.Units.{units}
 use Rattle.refusal.specs.declared.Fault.{Fault}
-use Rattle.refusal.specs.declared.CodeAnswer.{CodeAnswer}
-use Rattle.refusal.specs.declared.CodeAnswer.TheVariants.{Ids, Refused}
 use Rattle.refusal.specs.Places.{overlay}
 use Rattle.refusal.proofs.Codings.{refused-exactly, told-ids}
 use Rattle.text.proofs.Boundaries.{characters-le}
 use Rattle.unigram.specs.Segment.{Scratch, Lengths, lengths, lengths_of}
 use Rattle.unigram.specs.Checked.{scratch_of}
-use Rattle.coder.specs.Vocabulary.{Vocabulary, fault_in, ids_in, CodedIn}
+use Rattle.coder.specs.Vocabulary.{Vocabulary, result_err, ids_in, CodedIn}
 use Rattle.coder.proofs.Codes.{ids-few, places-enough, ids-stand}
 use Rattle.output.specs.Lines.{printed_ids, printed_refusal}
 use Rattle.output.specs.Output.{lent_places, printed, coded_line}
@@ -50,19 +49,19 @@ pub record Shown (w after : List ℕ) (n : ℕ) (line : List ℕ) : Type 0 where
   pub text : printed_ids (take n after) ≡ line
 
 module _
-    {v : Vocabulary} {s : List ℕ} {before after : Scratch} {answer : CodeAnswer} (lent : lengths_of before ≡ lent_places)
+    {v : Vocabulary} {s : List ℕ} {before after : Scratch} {answer : Result ℕ Fault} (lent : lengths_of before ≡ lent_places)
     (p : CodedIn v s before answer after)
   where
     -- what a line prints, given what was found
-    prints : {o : Option Fault} → fault_in v s (lengths_of before) ≡ o → printed o (ids_in v s) ≡ coded_line v s
+    prints : {o : Option Fault} → result_err v s (lengths_of before) ≡ o → printed o (ids_in v s) ≡ coded_line v s
     unfolding coded_line
-    prints e = ap (λ (x : Option Fault). printed x (ids_in v s)) (sym e ∙ ap (fault_in v s) lent)
+    prints e = ap (λ (x : Option Fault). printed x (ids_in v s)) (sym e ∙ ap (result_err v s) lent)
 
-    pub line_refused : {f : Fault} → answer ≡ Refused f → printed_refusal [] f ≡ coded_line v s
+    pub line_refused : {f : Fault} → answer ≡ Err f → printed_refusal [] f ≡ coded_line v s
     unfolding printed
     line_refused q = prints ((refused-exactly p.coded _).0 q)
 
-    pub line-ids : {n : ℕ} → answer ≡ Ids n → Shown s after.ids n (coded_line v s)
+    pub line-ids : {n : ℕ} → answer ≡ Ok n → Shown s after.ids n (coded_line v s)
     unfolding printed
     line-ids {n = n} q =
         let t = told-ids p.coded q in

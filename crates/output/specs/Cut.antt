@@ -1,5 +1,5 @@
 -- A pack's prefix, and a trie in the first places of lent columns. Definitions only; assumes nothing.
-use Rattle.std.specs.Prelude.{List, [], map, ℕ, ◌-◌, ◌≤◌, ◌≡◌, Float, length, take}
+use Rattle.std.specs.Prelude.{List, [], map, ℕ, ◌-◌, ◌≤◌, ◌≡◌, Float, length, take, Result}
 use Rattle.doubles.specs.Units.{units}
 use Rattle.refusal.specs.Refusal.{unless_fault}
 use Rattle.text.specs.Span.{span_of, span_fault}
@@ -7,7 +7,6 @@ use Rattle.build.specs.Memory.{memory, with_scores}
 use Rattle.coder.specs.declared.Coder.{Coder}
 use Rattle.coder.specs.Vocabulary.{Vocabulary}
 use Rattle.coder.specs.Columns.{vocabulary_of}
-use Rattle.pack.specs.declared.PackAnswer.{PackAnswer}
 use Rattle.pack.specs.Pack.{strings_of}
 use Rattle.pack.specs.Build.{PackBuilt}
 use Rattle.output.specs.Output.{lent_memory}
@@ -35,7 +34,7 @@ cut_to coder n edge_at edge_n id score byte to prefix =
 
 -- the pack was judged, and built where it is fine, in the columns that the program lends; what the work places hold afterwards
 -- is no matter
-pub record LentBuilt (pack : List ℕ) (answer : PackAnswer) (edge_at edge_n id : List ℕ) (scores : List Float)
+pub record LentBuilt (pack : List ℕ) (answer : Result Pack Reason) (edge_at edge_n id : List ℕ) (scores : List Float)
     (byte to : List ℕ) : Type 0 where
   pub work : List ℕ
   pub built : PackBuilt pack lent_memory answer (with_scores (memory edge_at edge_n id byte to work) (map units scores))

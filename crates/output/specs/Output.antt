@@ -1,8 +1,8 @@
 -- What the program `ids` prints: a function of the bytes of `vocab.pack` and of standard input. Definitions only; assumes
 -- nothing.
-use Rattle.std.specs.Prelude.{ℕ, ◌+◌, ◌*◌, true, false, length, replicate}
+use Rattle.std.specs.Result.{result_err}
+use Rattle.std.specs.Prelude.{ℕ, ◌+◌, ◌*◌, true, false, length, replicate, Option, None, Some}
 use mathlib.Core.List.{List, [], flat_map}
-use Rattle.std.proofs.Math.Option.{Option, none, some}
 use Rattle.doubles.specs.Double.{Double, plus_zero}
 use Rattle.refusal.specs.declared.Fault.{Fault}
 use Rattle.refusal.specs.declared.Fault.TheVariants as fault
@@ -14,7 +14,7 @@ use Rattle.rows.specs.declared.Kind.TheVariants.{Unigram, WordPiece}
 use Rattle.build.specs.Memory.{Memory, memory, with_scores}
 use Rattle.build.specs.Promise.{trie_in}
 use Rattle.unigram.specs.Segment.{Lengths, lengths}
-use Rattle.coder.specs.Vocabulary.{Vocabulary, unigram_of, wordpiece_of, fault_in, ids_in}
+use Rattle.coder.specs.Vocabulary.{Vocabulary, unigram_of, wordpiece_of, result_err, ids_in}
 use Rattle.pack.specs.Pack.{header_of, rows_of, strings_of, prefix_of}
 use Rattle.pack.specs.Build.{pack_fault, the_kind, unigram_model}
 use Rattle.output.specs.Lines.{lines, printed_ids, printed_refusal}
@@ -46,12 +46,12 @@ lent_places = lengths 4_096 4_096 4_096 4_096 4_096
 
 -- what a line prints, given its first fault and its ids
 unfoldable pub printed : Option Fault → List ℕ → List ℕ
-printed none ids = printed_ids ids
-printed (some f) ids = printed_refusal [] f
+printed None ids = printed_ids ids
+printed (Some f) ids = printed_refusal [] f
 
 -- what one line prints in a vocabulary
 unfoldable pub coded_line : Vocabulary → List ℕ → List ℕ
-coded_line v line = printed (fault_in v line lent_places) (ids_in v line)
+coded_line v line = printed (result_err v line lent_places) (ids_in v line)
 
 -- the vocabulary of a pack of this kind that is not refused
 unfoldable pub vocabulary_in : Kind → List ℕ → Vocabulary
@@ -72,8 +72,8 @@ lines_printed f input =
 unfoldable pub output_of : List ℕ → List ℕ → List ℕ
 output_of bytes input =
     elim (pack_fault bytes lent_memory) [
-      | some r ↦ printed_refusal (ascii "pack ") (fault_of r)
-      | none ↦ lines_printed (coded_line (vocabulary_in (the_kind bytes) bytes)) input
+      | Some r ↦ printed_refusal (ascii "pack ") (fault_of r)
+      | None ↦ lines_printed (coded_line (vocabulary_in (the_kind bytes) bytes)) input
     ]
 
 -- "(1 if too large)". "The pack is judged first."

@@ -1,10 +1,10 @@
 -- What a reader may rely on after `build`: the lent columns, cut to the counts, are the pack's trie, with its scores for
 -- Unigram; these parts are sound, so `segment` and `encode` never refuse them with 8. The cut is the trie since N nodes have N
 -- places of each node column and N - 1 edges, and the rest of each column is behind them. Assumes nothing.
+use Rattle.std.specs.Prelude.{Option, None, Some, ℕ}
 use mathlib.Core.Path.{◌≡◌, refl, sym, ap, ◌∙◌, subst}
 use mathlib.Core.Bool.{true}
 use mathlib.Core.List.{List}
-use mathlib.Core.Option.{Option, none, some}
 use Prim.Native.Nat.{ℕ, ◌+◌, ◌≤◌}
 use native.Mathlib.Omega.{arith}
 use lib.Dec.{T}
@@ -36,7 +36,6 @@ use Rattle.unigram.specs.Segment.{Lengths, segment_fault, sound_model}
 use Rattle.unigram.proofs.BuiltTries as tries
 use Rattle.wordpiece.specs.Encode.{encode_fault}
 use Rattle.wordpiece.proofs.BuiltTries as words
-use Rattle.pack.specs.declared.PackAnswer.TheVariants as answer-is
 use Rattle.pack.specs.Pack.{header_of, kind_of, rows_of, strings_of, prefix_of}
 use Rattle.pack.specs.Build.{nodes_of, content_fault, pack_judged, pack_fault, Report, unigram, wordpiece, told, report_of, the_kind, unigram_model, PackBuilt}
 use Rattle.pack.specs.Reading.{PackFine}
@@ -46,19 +45,19 @@ use Rattle.pack.proofs.Promised.{few-rows}
 
 -- ---- a pack that was built has no fault
 
-fine-pack : (bytes : List ℕ) {kind : Kind} → kind_of bytes ≡ some kind → content_fault kind bytes ≡ none → PackFine bytes kind (header_of bytes)
+fine-pack : (bytes : List ℕ) {kind : Kind} → kind_of bytes ≡ Some kind → content_fault kind bytes ≡ None → PackFine bytes kind (header_of bytes)
 fine-pack bytes laid fine = record { header = refl; laid = laid; fine = fine }
 
-module _ (bytes : List ℕ) (accepted : pack_judged bytes ≡ none) where
-  pub accepted-kind : kind_of bytes ≡ some (the_kind bytes)
+module _ (bytes : List ℕ) (accepted : pack_judged bytes ≡ None) where
+  pub accepted-kind : kind_of bytes ≡ Some (the_kind bytes)
   unfolding the_kind
   accepted-kind = go (kind_of bytes) refl
     where
-      go : (o : Option Kind) → kind_of bytes ≡ o → o ≡ some (elim o [ none ↦ Unigram | some k ↦ k ])
-      go (some k) e = refl
-      go none e = let z : none ≡ some (reason.Call fault.Pack) = sym accepted ∙ judged-wrong bytes e in cc
+      go : (o : Option Kind) → kind_of bytes ≡ o → o ≡ Some (elim o [ None ↦ Unigram | Some k ↦ k ])
+      go (Some k) e = refl
+      go None e = let z : None ≡ Some (reason.Call fault.Pack) = sym accepted ∙ judged-wrong bytes e in cc
 
-  pub accepted-fine : content_fault (the_kind bytes) bytes ≡ none
+  pub accepted-fine : content_fault (the_kind bytes) bytes ≡ None
   accepted-fine = sym (judged-laid bytes accepted-kind) ∙ accepted
 
 -- ---- the trie of a fine pack
@@ -72,7 +71,7 @@ rest-bytes bytes k b i h =
 pattern-double : (b : ℕ) → T (is_double (of_pattern b))
 pattern-double b = subst (λ (d : Double). T (is_double d)) (pattern-is-double b) (units-is-double (of_bits binary64 b) (of_bits-fits binary64 b))
 
-module _ (bytes : List ℕ) (good : Bytes bytes) {kind : Kind} (laid : kind_of bytes ≡ some kind) (fine : content_fault kind bytes ≡ none) where
+module _ (bytes : List ℕ) (good : Bytes bytes) {kind : Kind} (laid : kind_of bytes ≡ Some kind) (fine : content_fault kind bytes ≡ None) where
   strings-bytes : Bytes (strings_of bytes)
   unfolding strings_of
   strings-bytes = rest-bytes bytes (header_of bytes).strings_off good
@@ -90,7 +89,7 @@ module _ (bytes : List ℕ) (good : Bytes bytes) {kind : Kind} (laid : kind_of b
       → sound_scored (unigram_trie (strings_of bytes) (rows_of Unigram bytes)) (unigram_scores (strings_of bytes) (rows_of Unigram bytes)) (unknown_score (scores_of (rows_of Unigram bytes))) ≡ true
   unfolding rows_of
   pack-sound-scored k =
-      rows-scored (strings_of bytes) (rows_of Unigram bytes) (rows-fine Unigram bytes (subst (λ (y : Kind). content_fault y bytes ≡ none) k fine)) strings-bytes
+      rows-scored (strings_of bytes) (rows_of Unigram bytes) (rows-fine Unigram bytes (subst (λ (y : Kind). content_fault y bytes ≡ None) k fine)) strings-bytes
       (omega (arith, few, ap (λ (y : Kind). length (rows_of y bytes)) k)) doubles
     where
       doubles : Doubles (scores_of (rows_of Unigram bytes))
@@ -145,28 +144,28 @@ told-wordpiece bytes {n = n} {u = u} {c = c} {off = off} {len = len} e =
     record { kind = k; count = cc; unknown = cc; most = cc; start = cc; size = cc }
 
 -- of a Unigram pack
-module _ (bytes : List ℕ) (m after : Memory) (n unknown : ℕ) (lowest : Float) (good : Bytes bytes) (b : PackBuilt bytes m (answer-is.Unigram n unknown lowest) after) where
+module _ (bytes : List ℕ) (m after : Memory) (n unknown : ℕ) (lowest : Float) (good : Bytes bytes) (b : PackBuilt bytes m (PACKU n unknown lowest) after) where
   said : ToldUnigram bytes n unknown (units lowest)
   unfolding told
   said = told-unigram bytes (built-says b refl)
 
-  judged : pack_judged bytes ≡ none
+  judged : pack_judged bytes ≡ None
   unfolding told
   judged = built-fine b refl
 
   -- it has no fault, and is a Unigram pack
-  pub unigram-accepted : pack_fault bytes m ≡ none
+  pub unigram-accepted : pack_fault bytes m ≡ None
   unfolding told
   unigram-accepted = (none-exactly _ _).1 (judged, built-roomy b refl)
 
   pub unigram-is : the_kind bytes ≡ Unigram
   unigram-is = said.kind
 
-  pub unigram-kind : kind_of bytes ≡ some Unigram
-  unigram-kind = accepted-kind bytes judged ∙ ap some said.kind
+  pub unigram-kind : kind_of bytes ≡ Some Unigram
+  unigram-kind = accepted-kind bytes judged ∙ ap Some said.kind
 
-  fine : content_fault Unigram bytes ≡ none
-  fine = subst (λ (k : Kind). content_fault k bytes ≡ none) said.kind (accepted-fine bytes judged)
+  fine : content_fault Unigram bytes ≡ None
+  fine = subst (λ (k : Kind). content_fault k bytes ≡ None) said.kind (accepted-fine bytes judged)
 
   -- what it answers is the pack's
   pub unigram-count : n ≡ nodes_of Unigram bytes
@@ -211,32 +210,32 @@ module _ (bytes : List ℕ) (m after : Memory) (n unknown : ℕ) (lowest : Float
       (λ i. sound_scored (unigram-parts i) (unigram-scores i) (unigram-score i)) ∙ pack-sound-scored bytes good unigram-kind fine refl
 
   -- so `segment` does not find 8 in it, whatever the text and the scratch
-  pub unigram-not-refused : (text : List ℕ) (lent : Lengths) → segment_fault (sound_model given) text lent ≡ some fault.Trie → ⊥
+  pub unigram-not-refused : (text : List ℕ) (lent : Lengths) → segment_fault (sound_model given) text lent ≡ Some fault.Trie → ⊥
   unigram-not-refused = tries.sound-not-refused given unigram-sound
 
 -- of a WordPiece pack
-module _ (bytes : List ℕ) (m after : Memory) (n unknown most off len : ℕ) (good : Bytes bytes) (b : PackBuilt bytes m (answer-is.WordPiece n unknown most off len) after) where
+module _ (bytes : List ℕ) (m after : Memory) (n unknown most off len : ℕ) (good : Bytes bytes) (b : PackBuilt bytes m (PACKW n unknown most off len) after) where
   spoke : ToldWordPiece bytes n unknown most off len
   unfolding told
   spoke = told-wordpiece bytes (built-says b refl)
 
-  found_none : pack_judged bytes ≡ none
+  found_none : pack_judged bytes ≡ None
   unfolding told
   found_none = built-fine b refl
 
   -- it has no fault, and is a WordPiece pack
-  pub wordpiece-accepted : pack_fault bytes m ≡ none
+  pub wordpiece-accepted : pack_fault bytes m ≡ None
   unfolding told
   wordpiece-accepted = (none-exactly _ _).1 (found_none, built-roomy b refl)
 
   pub wordpiece-is : the_kind bytes ≡ WordPiece
   wordpiece-is = spoke.kind
 
-  pub wordpiece-kind : kind_of bytes ≡ some WordPiece
-  wordpiece-kind = accepted-kind bytes found_none ∙ ap some spoke.kind
+  pub wordpiece-kind : kind_of bytes ≡ Some WordPiece
+  wordpiece-kind = accepted-kind bytes found_none ∙ ap Some spoke.kind
 
-  nothing-wrong : content_fault WordPiece bytes ≡ none
-  nothing-wrong = subst (λ (k : Kind). content_fault k bytes ≡ none) spoke.kind (accepted-fine bytes found_none)
+  nothing-wrong : content_fault WordPiece bytes ≡ None
+  nothing-wrong = subst (λ (k : Kind). content_fault k bytes ≡ None) spoke.kind (accepted-fine bytes found_none)
 
   -- what it answers is the pack's
   pub wordpiece-count : n ≡ nodes_of WordPiece bytes
@@ -270,5 +269,5 @@ module _ (bytes : List ℕ) (m after : Memory) (n unknown most off len : ℕ) (g
   wordpiece-sound = ap sound wordpiece-parts ∙ pack-sound bytes good wordpiece-kind nothing-wrong
 
   -- so `encode` does not find 8 in them, whatever the prefix, the word and the places
-  pub wordpiece-not-refused : (prefix word : List ℕ) (places : ℕ) → encode_fault (sound (parts_in n after)) prefix word places ≡ some fault.Trie → ⊥
+  pub wordpiece-not-refused : (prefix word : List ℕ) (places : ℕ) → encode_fault (sound (parts_in n after)) prefix word places ≡ Some fault.Trie → ⊥
   wordpiece-not-refused prefix word places = words.sound-not-refused (parts_in n after) prefix word places wordpiece-sound

@@ -1,11 +1,11 @@
 -- The promise of a build from a pack fixes what it answers and what it leaves: each field is an equation with a value of the
 -- inputs. Scores are promised as doubles, of which the format has one value each. And it is refused with r exactly where r is
 -- the pack's fault. Assumes nothing.
+use Rattle.std.specs.Prelude.{None, Some, Result, Err, ℕ}
 use mathlib.Core.Path.{◌≡◌, ap}
 use mathlib.Core.Logic.{◌↔◌}
 use mathlib.Core.Bool.{Bool, true}
 use mathlib.Core.List.{List, [], map}
-use mathlib.Core.Option.{none, some}
 use Prim.Native.Nat.{ℕ}
 use lib.Dec.{T}
 use lib.Ieee.{Float}
@@ -18,36 +18,34 @@ use Rattle.build.specs.Memory.{Memory, with_scores}
 use Rattle.build.specs.Promise.{built, refused}
 use Rattle.build.proofs.Promises as builds
 use Rattle.build.proofs.Promises.{promised-once}
-use Rattle.pack.specs.declared.PackAnswer.{PackAnswer}
-use Rattle.pack.specs.declared.PackAnswer.TheVariants as answer-is
 use Rattle.pack.specs.Build.{pack_fault, told, report_of, the_kind, PackBuilt}
 
 -- the score that an answer has is one that the format holds, as every `f64` is
-abbrev pub held_in : PackAnswer → Bool
-held_in (answer-is.Unigram n u x) = held x
-held_in (answer-is.WordPiece n u c off len) = true
-held_in (answer-is.Refused r) = true
+abbrev pub held_in : Result Pack Reason → Bool
+held_in (PACKU n u x) = held x
+held_in (PACKW n u c off len) = true
+held_in (Err r) = true
 
 -- an answer is known by what it tells
-told-known : (a b : PackAnswer) → T (held_in a) → T (held_in b) → told a ≡ told b → a ≡ b
+told-known : (a b : Result Pack Reason) → T (held_in a) → T (held_in b) → told a ≡ told b → a ≡ b
 unfolding told
-told-known (answer-is.Unigram n u x) (answer-is.Unigram k v y) h j e =
+told-known (PACKU n u x) (PACKU k v y) h j e =
     let p : n ≡ k = cc in
     let q : u ≡ v = cc in
     let r : units x ≡ units y = cc in
     let s : x ≡ y = units-injective x y h j r in
     cc
-told-known (answer-is.Unigram n u x) (answer-is.WordPiece k v c off len) h j e = cc
-told-known (answer-is.Unigram n u x) (answer-is.Refused r) h j e = cc
-told-known (answer-is.WordPiece n u c off len) (answer-is.Unigram k v y) h j e = cc
-told-known (answer-is.WordPiece n u c off len) (answer-is.WordPiece k v d at long) h j e = cc
-told-known (answer-is.WordPiece n u c off len) (answer-is.Refused r) h j e = cc
-told-known (answer-is.Refused q) (answer-is.Unigram k v y) h j e = cc
-told-known (answer-is.Refused q) (answer-is.WordPiece k v c off len) h j e = cc
-told-known (answer-is.Refused q) (answer-is.Refused r) h j e = cc
+told-known (PACKU n u x) (PACKW k v c off len) h j e = cc
+told-known (PACKU n u x) (Err r) h j e = cc
+told-known (PACKW n u c off len) (PACKU k v y) h j e = cc
+told-known (PACKW n u c off len) (PACKW k v d at long) h j e = cc
+told-known (PACKW n u c off len) (Err r) h j e = cc
+told-known (Err q) (PACKU k v y) h j e = cc
+told-known (Err q) (PACKW k v c off len) h j e = cc
+told-known (Err q) (Err r) h j e = cc
 
 -- one answer, and one content of every lent column. That the format holds the scores is so of every column.
-module _ (bytes : List ℕ) (m m₁ m₂ : Memory) (a b : PackAnswer) (x₁ x₂ : List Float)
+module _ (bytes : List ℕ) (m m₁ m₂ : Memory) (a b : Result Pack Reason) (x₁ x₂ : List Float)
     (p : PackBuilt bytes m a (with_scores m₁ (map units x₁))) (q : PackBuilt bytes m b (with_scores m₂ (map units x₂)))
     (h : T (held_in a)) (k : T (held_in b)) (h₁ : T (all_held x₁)) (h₂ : T (all_held x₂)) where
   pub built-once : (a ≡ b) × (with_scores m₁ [] ≡ with_scores m₂ []) × (x₁ ≡ x₂)
@@ -59,18 +57,18 @@ module _ (bytes : List ℕ) (m m₁ m₂ : Memory) (a b : PackAnswer) (x₁ x₂
       )
 
 -- an answer that says a reason is that refusal
-told-refused : (a : PackAnswer) (r : Reason) → told a ≡ refused r → a ≡ answer-is.Refused r
+told-refused : (a : Result Pack Reason) (r : Reason) → told a ≡ refused r → a ≡ Err r
 unfolding told
-told-refused (answer-is.Unigram n u x) r e = absurd (zero_one cc)
-told-refused (answer-is.WordPiece n u c off len) r e = absurd (zero_one cc)
-told-refused (answer-is.Refused q) r e = let same : q ≡ r = cc in ap answer-is.Refused same
+told-refused (PACKU n u x) r e = absurd (zero_one cc)
+told-refused (PACKW n u c off len) r e = absurd (zero_one cc)
+told-refused (Err q) r e = let same : q ≡ r = cc in ap Err same
 
 -- "exactly when", both ways: refused with r exactly where r is the fault, and what the pack gives is told exactly where there
 -- is none
-module _ (bytes : List ℕ) (m : Memory) (answer : PackAnswer) (after : Memory) (p : PackBuilt bytes m answer after) where
-  pub refused-exactly : (r : Reason) → (answer ≡ answer-is.Refused r) ↔ (pack_fault bytes m ≡ some r)
+module _ (bytes : List ℕ) (m : Memory) (answer : Result Pack Reason) (after : Memory) (p : PackBuilt bytes m answer after) where
+  pub refused-exactly : (r : Reason) → (answer ≡ Err r) ↔ (pack_fault bytes m ≡ Some r)
   unfolding told
   refused-exactly r = let two = builds.refused-exactly p r in (λ q. two.0 (ap told q), λ e. told-refused answer r (two.1 e))
 
-  pub accepted-exactly : (told answer ≡ built (report_of (the_kind bytes) bytes)) ↔ (pack_fault bytes m ≡ none)
+  pub accepted-exactly : (told answer ≡ built (report_of (the_kind bytes) bytes)) ↔ (pack_fault bytes m ≡ None)
   accepted-exactly = builds.accepted-exactly p

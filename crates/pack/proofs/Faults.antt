@@ -1,9 +1,9 @@
 -- Which fault a pack has, by its tests in their order. All but the last come before the room, and none of them has the number
 -- 7. Assumes nothing.
+use Rattle.std.specs.Prelude.{Option, None, Some}
 use mathlib.Core.Path.{◌≡◌, refl, sym, ap, ◌∙◌}
 use mathlib.Core.Bool.{true, false}
 use mathlib.Core.List.{List}
-use mathlib.Core.Option.{Option, none, some}
 use Prim.Native.Nat.{ℕ, ◌+◌, ◌-◌, ◌≤◌}
 use native.Mathlib.Omega.{arith}
 use lib.ListN.{length, take, drop, length-drop}
@@ -26,7 +26,7 @@ use Rattle.pack.proofs.Headers.{strings-end, kind-laid}
 
 -- ---- the strings
 
-module _ (bytes : List ℕ) {kind : Kind} (laid : kind_of bytes ≡ some kind) where
+module _ (bytes : List ℕ) {kind : Kind} (laid : kind_of bytes ≡ Some kind) where
   right : laid_out bytes (header_of bytes) ≡ true
   right = kind-laid bytes laid
 
@@ -50,35 +50,35 @@ module _ (kind : Kind) (bytes : List ℕ) where
   abbrev bad : Option Reason
   bad = first_bad kind (strings_of bytes) 0 (rows_of kind bytes)
 
-  pub before-large : large_header (header_of bytes) ≡ true → content_fault kind bytes ≡ some (reason.Call fault.Size)
+  pub before-large : large_header (header_of bytes) ≡ true → content_fault kind bytes ≡ Some (reason.Call fault.Size)
   unfolding content_fault
   before-large e = found _ _ _ e
 
   module _ (fits : large_header (header_of bytes) ≡ false) where
-    pub before-rows : {r : Reason} → bad ≡ some r → content_fault kind bytes ≡ some r
+    pub before-rows : {r : Reason} → bad ≡ Some r → content_fault kind bytes ≡ Some r
     unfolding content_fault
     before-rows e = not_found _ _ _ fits ∙ found_first _ e
 
     -- the prefix decides where no row is bad, by its span in a table that is not too large
     pub before-prefix :
-        bad ≡ none → length (strings_of bytes) ≤ max_table
+        bad ≡ None → length (strings_of bytes) ≤ max_table
         → content_fault kind bytes ≡ called (span_fault (strings_of bytes) (header_of bytes).prefix_off (header_of bytes).prefix_len)
     unfolding content_fault
     before-prefix fine l = not_found _ _ _ fits ∙ none_first _ fine ∙ sym (ap called (fault-part (strings_of bytes) _ _ l))
 
   -- what is known where none is found
-  module _ (none-found : content_fault kind bytes ≡ none) where
-    sizes : (large_header (header_of bytes) ≡ false) × (first bad (called (prefix_fault bytes)) ≡ none)
+  module _ (none-found : content_fault kind bytes ≡ None) where
+    sizes : (large_header (header_of bytes) ≡ false) × (first bad (called (prefix_fault bytes)) ≡ None)
     unfolding content_fault
     sizes = passed _ _ _ none-found
 
     pub not-large : large_header (header_of bytes) ≡ false
     not-large = sizes.0
 
-    pub rows-fine : bad ≡ none
+    pub rows-fine : bad ≡ None
     rows-fine = (both-passed bad (called (prefix_fault bytes)) sizes.1).0
 
-    prefixes : prefix_fault bytes ≡ none
+    prefixes : prefix_fault bytes ≡ None
     prefixes = called-none (prefix_fault bytes) (both-passed bad (called (prefix_fault bytes)) sizes.1).1
 
     pub prefix-inside : (header_of bytes).prefix_off + (header_of bytes).prefix_len ≤ length (strings_of bytes)
@@ -89,7 +89,7 @@ module _ (kind : Kind) (bytes : List ℕ) where
     prefix-text = part-text (strings_of bytes) (header_of bytes).prefix_off (header_of bytes).prefix_len prefixes
 
 -- no fault before the room has the number 7
-pub content-early : (kind : Kind) (bytes : List ℕ) {r : Reason} → content_fault kind bytes ≡ some r → NotOf 7 r
+pub content-early : (kind : Kind) (bytes : List ℕ) {r : Reason} → content_fault kind bytes ≡ Some r → NotOf 7 r
 unfolding content_fault
 content-early kind bytes e =
     let h = header_of bytes in
@@ -101,18 +101,18 @@ content-early kind bytes e =
 -- ---- what `judge` finds
 
 module _ (bytes : List ℕ) where
-  pub judged-wrong : kind_of bytes ≡ none → pack_judged bytes ≡ some (reason.Call fault.Pack)
+  pub judged-wrong : kind_of bytes ≡ None → pack_judged bytes ≡ Some (reason.Call fault.Pack)
   unfolding pack_judged
   judged-wrong e = rw (e, pack_judged)
 
-  pub judged-laid : {kind : Kind} → kind_of bytes ≡ some kind → pack_judged bytes ≡ content_fault kind bytes
+  pub judged-laid : {kind : Kind} → kind_of bytes ≡ Some kind → pack_judged bytes ≡ content_fault kind bytes
   unfolding pack_judged
   judged-laid e = rw (e, pack_judged)
 
   -- and none of this has the number 7
-  pub judged-early : {r : Reason} → pack_judged bytes ≡ some r → NotOf 7 r
+  pub judged-early : {r : Reason} → pack_judged bytes ≡ Some r → NotOf 7 r
   judged-early {r = r} found = go (kind_of bytes) refl
     where
       go : (o : Option Kind) → kind_of bytes ≡ o → NotOf 7 r
-      go none e = some-so (NotOf 7) (sym (judged-wrong e) ∙ found) refl
-      go (some kind) e = content-early kind bytes (sym (judged-laid e) ∙ found)
+      go None e = some-so (NotOf 7) (sym (judged-wrong e) ∙ found) refl
+      go (Some kind) e = content-early kind bytes (sym (judged-laid e) ∙ found)

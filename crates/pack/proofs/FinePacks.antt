@@ -1,5 +1,6 @@
 -- A pack in which nothing is wrong: its rows are fine, its strings are the rest of the file, and what its header gives is
 -- answered. Assumes nothing.
+use Rattle.std.specs.Prelude.{ℕ}
 use mathlib.Core.Path.{◌≡◌, refl, sym, ap, ◌∙◌, subst}
 use mathlib.Core.List.{List}
 use Prim.Native.Nat.{ℕ, ◌-◌, ◌≤◌}
@@ -16,7 +17,6 @@ use Rattle.build.specs.Rules.{scores_of}
 use Rattle.build.specs.Memory.{zero_scores}
 use Rattle.scored.specs.NodeScores.{filled_scores}
 use Rattle.pack.specs.declared.header.Header.{Header}
-use Rattle.pack.specs.declared.PackAnswer.TheVariants as answer-is
 use Rattle.pack.specs.Pack.{header_of, rows_from, rows_of, strings_of}
 use Rattle.build.specs.Promise.{built}
 use Rattle.pack.specs.Build.{nodes_of, unigram, wordpiece, told, report_of}
@@ -75,7 +75,7 @@ module _ {bytes : List ℕ} {kind : Kind} {h : Header} (f : PackFine bytes kind 
 
   pub told-unigram :
       {n : ℕ} (x : Float) → kind ≡ Unigram → units x ≡ unknown_score (scores_of (rows_from Unigram bytes 36 h.rows)) → n ≡ nodes_of kind bytes
-      → told (answer-is.Unigram n h.unknown x) ≡ built (report_of kind bytes)
+      → told (PACKU n h.unknown x) ≡ built (report_of kind bytes)
   unfolding told
   told-unigram {n = n} x k e c =
       let u : h.unknown ≡ (header_of bytes).unknown = ap (λ (y : Header). y.unknown) f.header in
@@ -85,7 +85,7 @@ module _ {bytes : List ℕ} {kind : Kind} {h : Header} (f : PackFine bytes kind 
 
   pub told-wordpiece :
       {n : ℕ} → kind ≡ WordPiece → n ≡ nodes_of kind bytes
-      → told (answer-is.WordPiece n h.unknown h.max_chars h.prefix_off h.prefix_len) ≡ built (report_of kind bytes)
+      → told (PACKW n h.unknown h.max_chars h.prefix_off h.prefix_len) ≡ built (report_of kind bytes)
   unfolding told
   told-wordpiece {n = n} k c =
       let count : n ≡ nodes_of WordPiece bytes = c ∙ ap (λ (y : Kind). nodes_of y bytes) k in

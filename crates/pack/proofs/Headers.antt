@@ -1,8 +1,8 @@
 -- The header's tests: each way through the code, and what it says of the definitions. Assumes nothing.
+use Rattle.std.specs.Prelude.{None, Some}
 use mathlib.Core.Path.{◌≡◌, refl, sym, ap, ◌∙◌}
 use mathlib.Core.Bool.{Bool, true, false, ◌&&◌, ◌||◌, cond}
 use mathlib.Core.List.{List}
-use mathlib.Core.Option.{none, some}
 use Prim.Native.Nat.{ℕ, ◌+◌, ◌*◌, ◌≤◌, ◌<◌}
 use native.Mathlib.Omega.{arith}
 use borrow.Author.Tests.{le-leb, eq-eqb, ne_eqb, eqb-true, lt-leb}
@@ -74,25 +74,25 @@ module _ (bytes : List ℕ) (h : Header) where
 
   -- ---- the kind
 
-  pub kind-bare : {b : Bool} → b ≡ (eqb h.max_chars 0 && eqb h.prefix_off 0 && eqb h.prefix_len 0) → h.kind ≡ 1 → cond b (some Unigram) none ≡ kind_laid_out bytes h
+  pub kind-bare : {b : Bool} → b ≡ (eqb h.max_chars 0 && eqb h.prefix_off 0 && eqb h.prefix_len 0) → h.kind ≡ 1 → cond b (Some Unigram) None ≡ kind_laid_out bytes h
   unfolding kind_laid_out
-  kind-bare e k = rw (eq-eqb h.kind 1 k) (ap (λ (b : Bool). cond b (some Unigram) none) e)
+  kind-bare e k = rw (eq-eqb h.kind 1 k) (ap (λ (b : Bool). cond b (Some Unigram) None) e)
 
   module _ (other : h.kind ≡ 1 → ⊥) where
-    pub kind-none : (h.kind ≡ 2 → ⊥) → none ≡ kind_laid_out bytes h
+    pub kind-none : (h.kind ≡ 2 → ⊥) → None ≡ kind_laid_out bytes h
     unfolding kind_laid_out
     kind-none k = rw (ne_eqb h.kind 1 other, ne_eqb h.kind 2 k)
 
     pub kind-padded :
         {b : Bool} → b ≡ every h.rows (λ i. eqb (word bytes (36 + 16 * i + 12)) 0) → h.kind ≡ 2
-        → cond b (some WordPiece) none ≡ kind_laid_out bytes h
+        → cond b (Some WordPiece) None ≡ kind_laid_out bytes h
     unfolding kind_laid_out
-    kind-padded e k = rw (ne_eqb h.kind 1 other, eq-eqb h.kind 2 k) (ap (λ (b : Bool). cond b (some WordPiece) none) e)
+    kind-padded e k = rw (ne_eqb h.kind 1 other, eq-eqb h.kind 2 k) (ap (λ (b : Bool). cond b (Some WordPiece) None) e)
 
 -- ---- the file's own header
 
 module _ (bytes : List ℕ) where
-  pub kind-wrong : laid_out bytes (header_of bytes) ≡ false → kind_of bytes ≡ none
+  pub kind-wrong : laid_out bytes (header_of bytes) ≡ false → kind_of bytes ≡ None
   unfolding kind_of
   kind-wrong e = rw (e, kind_of)
 
@@ -100,12 +100,12 @@ module _ (bytes : List ℕ) where
   unfolding kind_of
   kind-right e = rw (e, kind_of)
 
-  pub kind-laid : {kind : Kind} → kind_of bytes ≡ some kind → laid_out bytes (header_of bytes) ≡ true
+  pub kind-laid : {kind : Kind} → kind_of bytes ≡ Some kind → laid_out bytes (header_of bytes) ≡ true
   kind-laid {kind = kind} e = go (laid_out bytes (header_of bytes)) refl
     where
       go : (b : Bool) → laid_out bytes (header_of bytes) ≡ b → b ≡ true
       go true p = refl
-      go false p = let z : none ≡ some kind = sym (kind-wrong p) ∙ e in cc
+      go false p = let z : None ≡ Some kind = sym (kind-wrong p) ∙ e in cc
 
 -- ---- the sizes
 

@@ -1,8 +1,8 @@
 -- What `build` promises of a fine pack: the room, that of the score column too, decides; and what the core says of the rows is
 -- said of the pack. Assumes nothing.
+use Rattle.std.specs.Prelude.{Option, None, Some, Err, ℕ}
 use mathlib.Core.Path.{◌≡◌, refl, sym, ap, ◌∙◌, subst}
 use mathlib.Core.List.{List, [], map}
-use mathlib.Core.Option.{Option, none, some}
 use Prim.Native.Nat.{ℕ, ◌-◌, ◌≤◌, min}
 use native.Mathlib.Omega.{arith}
 use lib.Dec.{ltb}
@@ -17,8 +17,6 @@ use Rattle.refusal.specs.Places.{filled}
 use Rattle.rows.specs.declared.Kind.{Kind}
 use Rattle.rows.specs.declared.Kind.TheVariants.{Unigram, WordPiece}
 use Rattle.rows.specs.Rows.{Row}
-use Rattle.build.specs.declared.Built as core
-use Rattle.build.specs.declared.Built.TheVariants.{Nodes, NoRoom}
 use Rattle.build.specs.Memory.{Memory, with_scores, no_scored_room, holding, zero_scores}
 use Rattle.build.specs.Checked.{room_of, BuiltOf}
 use Rattle.build.specs.Promise.{trie_in, scores_in, Told, built, refused, Promised}
@@ -27,7 +25,6 @@ use Rattle.build.proofs.Outcomes.{core-fits, core-room}
 use Rattle.build.proofs.Promises.{built-bad, core-short, core-left, core-held}
 use Rattle.scored.proofs.Builds.{scores-filled}
 use Rattle.pack.specs.declared.header.Header.{Header}
-use Rattle.pack.specs.declared.PackAnswer.TheVariants as answer-is
 use Rattle.pack.specs.Pack.{rows_from, rows_of, strings_of}
 use Rattle.pack.specs.Build.{nodes_of, pack_judged, Report, told, report_of, the_kind, PackBuilt}
 use Rattle.pack.specs.Reading.{FineRows, PackFine, ScoresLeft}
@@ -36,7 +33,7 @@ use Rattle.pack.proofs.Faults.{judged-laid, judged-early, rows-fine}
 use Rattle.pack.proofs.FinePacks.{lent-strings, fine-rows, rows-read}
 
 -- a pack that is refused before the room
-pub pack-bad : (bytes : List ℕ) {r : Reason} (m : Memory) → pack_judged bytes ≡ some r → PackBuilt bytes m (answer-is.Refused r) m
+pub pack-bad : (bytes : List ℕ) {r : Reason} (m : Memory) → pack_judged bytes ≡ Some r → PackBuilt bytes m (Err r) m
 unfolding told
 pack-bad bytes m b =
     let kind = the_kind bytes in built-bad kind (strings_of bytes) (rows_of kind bytes) (report_of kind bytes) m b (judged-early bytes b)
@@ -62,7 +59,7 @@ module _ {bytes : List ℕ} {kind : Kind} {h : Header} (f : PackFine bytes kind 
 
   kind-is : kind ≡ the_kind bytes
   unfolding the_kind
-  kind-is = sym (ap (λ (o : Option Kind). elim o [ none ↦ Unigram | some k ↦ k ]) f.laid)
+  kind-is = sym (ap (λ (o : Option Kind). elim o [ None ↦ Unigram | Some k ↦ k ]) f.laid)
 
   module _ (m after : Memory) (xs : List Float) {room : ℕ} (r : room ≡ min (room_of m) (length xs)) where
     abbrev was : List Double
@@ -85,27 +82,27 @@ module _ {bytes : List ℕ} {kind : Kind} {h : Header} (f : PackFine bytes kind 
     Of k answer later =
         Promised k strings (rows_of k bytes) (pack_judged bytes) (no_scored_room (nodes_of k bytes) (with_scores m was)) (report_of k bytes) (with_scores m was) answer later
 
-    module _ {answer : core.Built} (d : BuiltOf kind lent (rows_from kind bytes 36 h.rows) room m after answer) where
+    module _ {answer : (Option ℕ)} (d : BuiltOf kind lent (rows_from kind bytes 36 h.rows) room m after answer) where
       said : BuiltOf kind strings rows room m after answer
       said =
           subst (λ (l : List Row). BuiltOf kind strings l room m after answer) (rows-read f kind)
           (subst (λ (s : List ℕ). BuiltOf kind s (rows_from kind bytes 36 h.rows) room m after answer) (lent-strings f) d)
 
-      fine : pack_judged bytes ≡ none
+      fine : pack_judged bytes ≡ None
       fine = judged-laid bytes f.laid ∙ f.fine
 
       decides : no_scored_room (nodes_of kind bytes) (with_scores m was) ≡ ltb room (nodes_of kind bytes)
       decides = scored-decides m was same-room (nodes_of kind bytes) (nodes-some strings rows) (omega (arith, nodes-small))
 
       pub fine-full :
-          {ys : List Double} → answer ≡ NoRoom → ys ≡ zero_scores was
-          → PackBuilt bytes (with_scores m was) (answer-is.Refused (reason.Call fault.Room)) (with_scores after ys)
+          {ys : List Double} → answer ≡ None → ys ≡ zero_scores was
+          → PackBuilt bytes (with_scores m was) (Err (reason.Call fault.Room)) (with_scores after ys)
       unfolding told
       fine-full {ys = ys} e s =
           subst (λ (k : Kind). Of k (refused (reason.Call fault.Room)) (with_scores after ys)) kind-is
           (core-short kind strings rows (report_of kind bytes) m after was ys said fine decides e s)
 
-      module _ {n : ℕ} (e : answer ≡ Nodes n) where
+      module _ {n : ℕ} (e : answer ≡ Some n) where
         pub ids-there : n ≤ length m.parts.id
         ids-there = omega (arith, core-room said e, every.roomy.ids)
 

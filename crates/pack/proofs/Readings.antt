@@ -1,8 +1,8 @@
 -- One row as the code reads it: the very row where it is fine, and its fault in any case. Assumes nothing.
+use Rattle.std.specs.Prelude.{None}
 use mathlib.Core.Path.{◌≡◌, refl, sym, ap, ◌∙◌, subst}
 use mathlib.Core.Bool.{Bool, true, false, not}
 use mathlib.Core.List.{List}
-use mathlib.Core.Option.{none}
 use Prim.Native.Nat.{ℕ, ◌+◌}
 use lib.Dec.{T}
 use lib.Ieee.{Float, of_bits, binary64}
@@ -66,8 +66,8 @@ score-none {d = d} r e i =
 
 score-faults : {x d : Double} → ScoreRead x d → (b : Bool) → is_finite d ≡ b → worth_fault Unigram (score x) ≡ worth_fault Unigram (score d)
 unfolding worth_fault
-score-faults s true e = ap (λ y. refuse (not (is_finite y)) fault.Score none) (s.very e)
-score-faults s false e = ap (λ (b : Bool). refuse (not b) fault.Score none) (s.endless e ∙ sym e)
+score-faults s true e = ap (λ y. refuse (not (is_finite y)) fault.Score None) (s.very e)
+score-faults s false e = ap (λ (b : Bool). refuse (not b) fault.Score None) (s.endless e ∙ sym e)
 
 pub worth-score : {x d : Double} → ScoreRead x d → WorthRead Unigram (score x) (score d)
 worth-score {x = x} {d = d} s =

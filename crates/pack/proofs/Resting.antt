@@ -1,7 +1,7 @@
 -- The rows of a pack from row i on, for loops over them. Assumes nothing.
+use Rattle.std.specs.Prelude.{Option, None, Some}
 use mathlib.Core.Path.{◌≡◌, refl, sym, ap, ap₂, ◌∙◌}
 use mathlib.Core.List.{List, [], ◌∷◌}
-use mathlib.Core.Option.{Option, none, some}
 use Prim.Native.Nat.{ℕ, zero, suc, ◌+◌, ◌-◌, ◌*◌, ◌≤◌, ◌<◌}
 use native.Mathlib.Omega.{arith}
 use native.Mathlib.Numerals.{add-one}
@@ -62,22 +62,22 @@ module _ (kind : Kind) (bytes : List ℕ) where
       pub bad-start : first_bad kind strings 0 all ≡ bad_from 0
       bad-start = ap (first_bad kind strings 0) rest_all
 
-      pub bad-turn : (i : ℕ) → i < rows → row_fault kind strings (row_at kind bytes (row_start i)) ≡ none → bad_from i ≡ bad_from (i + 1)
+      pub bad-turn : (i : ℕ) → i < rows → row_fault kind strings (row_at kind bytes (row_start i)) ≡ None → bad_from i ≡ bad_from (i + 1)
       bad-turn i h e =
           ap (first_bad kind strings i) (rest-next i h) ∙ fine-here kind strings i _ _ e
           ∙ ap (λ (k : ℕ). first_bad kind strings k (rest (i + 1))) (sym (add-one i))
 
       pub bad-found :
-          (i : ℕ) (f : Fault) → i < rows → row_fault kind strings (row_at kind bytes (row_start i)) ≡ some f
-          → bad_from i ≡ some (reason.Row f i)
+          (i : ℕ) (f : Fault) → i < rows → row_fault kind strings (row_at kind bytes (row_start i)) ≡ Some f
+          → bad_from i ≡ Some (reason.Row f i)
       bad-found i f h e = ap (first_bad kind strings i) (rest-next i h) ∙ bad-here kind strings i _ _ f e
 
-      pub bad-stop : (i : ℕ) → rows ≤ i → bad_from i ≡ none
+      pub bad-stop : (i : ℕ) → rows ≤ i → bad_from i ≡ None
       unfolding first_bad
       bad-stop i h = ap (first_bad kind strings i) (rest-none i h)
 
       -- where none is bad, each is fine
-      pub none-bad : first_bad kind strings 0 all ≡ none → (i : ℕ) → i < rows → row_fault kind strings (row_at kind bytes (row_start i)) ≡ none
+      pub none-bad : first_bad kind strings 0 all ≡ None → (i : ℕ) → i < rows → row_fault kind strings (row_at kind bytes (row_start i)) ≡ None
       none-bad e i h =
           let d = row_at kind bytes 0 in
           ap (row_fault kind strings) (sym (from_at d 36 rows i h))

@@ -1,6 +1,5 @@
 -- What `pack::build` promises: the promise of every build, of the pack's rows. Definitions only; assumes nothing.
-use Rattle.std.specs.Prelude.{ℕ, Bool, ◌||◌, List}
-use Rattle.std.proofs.Math.Option.{Option, none, some}
+use Rattle.std.specs.Prelude.{ℕ, Bool, ◌||◌, List, Option, None, Some, Result, Err}
 use Rattle.doubles.specs.Double.{Double}
 use Rattle.doubles.specs.Units.{units}
 use Rattle.refusal.specs.declared.Fault.{Fault}
@@ -20,8 +19,6 @@ use Rattle.build.specs.Checked as builds
 use Rattle.build.specs.Memory.{Memory, no_scored_room}
 use Rattle.build.specs.Promise.{trie_in, scores_in, build_fault, Told, built, refused, Promised}
 use Rattle.unigram.specs.Pieces.{Model}
-use Rattle.pack.specs.declared.PackAnswer.{PackAnswer}
-use Rattle.pack.specs.declared.PackAnswer.TheVariants as answer-is
 use Rattle.pack.specs.declared.header.Header.{Header}
 use Rattle.pack.specs.Pack.{header_of, kind_of, rows_of, strings_of}
 
@@ -46,17 +43,17 @@ content_fault kind bytes =
 
 -- "Order for a pack: 11," and then the rest but 7
 unfoldable pub pack_judged : List ℕ → Option Reason
-pack_judged bytes = elim (kind_of bytes) [ none ↦ some (reason.Call fault.Pack) | some kind ↦ content_fault kind bytes ]
+pack_judged bytes = elim (kind_of bytes) [ None ↦ Some (reason.Call fault.Pack) | Some kind ↦ content_fault kind bytes ]
 
 -- what is reported: N, unknown id and score; or N, unknown id, max_chars and the prefix's span
 pub data Report : Type 0 where
   unigram : ℕ → ℕ → Double → Report
   wordpiece : ℕ → ℕ → ℕ → ℕ → ℕ → Report
 
-unfoldable pub told : PackAnswer → Told Report
-told (answer-is.Unigram n u x) = built (unigram n u (units x))
-told (answer-is.WordPiece n u c off len) = built (wordpiece n u c off len)
-told (answer-is.Refused r) = refused r
+unfoldable pub told : Result Pack Reason → Told Report
+told (PACKU n u x) = built (unigram n u (units x))
+told (PACKW n u c off len) = built (wordpiece n u c off len)
+told (Err r) = refused r
 
 unfoldable pub report_of : Kind → List ℕ → Report
 report_of Unigram bytes =
@@ -67,7 +64,7 @@ report_of WordPiece bytes =
 
 -- the kind of a pack that is not refused
 unfoldable pub the_kind : List ℕ → Kind
-the_kind bytes = elim (kind_of bytes) [ none ↦ Unigram | some kind ↦ kind ]
+the_kind bytes = elim (kind_of bytes) [ None ↦ Unigram | Some kind ↦ kind ]
 
 -- all of "11, 1, rows, 2, 4, 7", with this memory lent
 abbrev pub pack_fault : List ℕ → Memory → Option Reason
@@ -83,7 +80,7 @@ unigram_model bytes =
     }
 
 -- What `build` promises of its answer and of the memory lent to it, before and after.
-abbrev pub PackBuilt : List ℕ → Memory → PackAnswer → Memory → Type 0
+abbrev pub PackBuilt : List ℕ → Memory → Result Pack Reason → Memory → Type 0
 PackBuilt bytes before answer after =
     let kind = the_kind bytes in
     Promised kind (strings_of bytes) (rows_of kind bytes) (pack_judged bytes) (no_scored_room (nodes_of kind bytes) before)

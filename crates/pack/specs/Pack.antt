@@ -1,7 +1,6 @@
 -- "The pack": its header, its layout, its rows. Definitions only; assumes nothing.
-use Rattle.std.specs.Prelude.{ℕ, zero, suc, ◌+◌, ◌*◌, ◌^◌, Bool, true, false, ◌&&◌, cond, leb, eqb}
+use Rattle.std.specs.Prelude.{ℕ, zero, suc, ◌+◌, ◌*◌, ◌^◌, Bool, true, false, ◌&&◌, cond, leb, eqb, Option, None, Some}
 use Rattle.std.specs.Prelude.{List, [], ◌∷◌, length, get_or, drop}
-use Rattle.std.proofs.Math.Option.{Option, none, some}
 use Rattle.doubles.specs.Double.{of_pattern}
 use Rattle.text.specs.Span.{span_of}
 use Rattle.trie.specs.Sound.{every}
@@ -40,16 +39,16 @@ laid_out bytes h =
 -- "For kind 1 the last three are 0." "a row is 16 bytes: .. an id (u32, then four zero bytes)".
 unfoldable pub kind_laid_out : List ℕ → Header → Option Kind
 kind_laid_out bytes h =
-    let unigram = cond (eqb h.max_chars 0 && eqb h.prefix_off 0 && eqb h.prefix_len 0) (some Unigram) none in
-    let wordpiece = cond (every h.rows (λ i. eqb (word bytes (36 + 16 * i + 12)) 0)) (some WordPiece) none in
-    let other = cond (eqb h.kind 2) wordpiece none in
+    let unigram = cond (eqb h.max_chars 0 && eqb h.prefix_off 0 && eqb h.prefix_len 0) (Some Unigram) None in
+    let wordpiece = cond (every h.rows (λ i. eqb (word bytes (36 + 16 * i + 12)) 0)) (Some WordPiece) None in
+    let other = cond (eqb h.kind 2) wordpiece None in
     cond (eqb h.kind 1) unigram other
 
 -- the kind of a pack; "Anything else is 11": none
 unfoldable pub kind_of : List ℕ → Option Kind
 kind_of bytes =
     let h = header_of bytes in
-    elim (laid_out bytes h) [ true ↦ kind_laid_out bytes h | false ↦ none ]
+    elim (laid_out bytes h) [ true ↦ kind_laid_out bytes h | false ↦ None ]
 
 -- "its worth, a score (f64 bits) or an id"
 unfoldable pub worth_at : Kind → List ℕ → ℕ → Worth

@@ -1,7 +1,6 @@
 -- What the code's header, layout and rows stand for, and what is known of a pack whose rows are read. Definitions only; assumes
 -- nothing.
-use Rattle.std.specs.Prelude.{◌≡◌, true, false, List, ℕ, ◌+◌, ◌*◌, ◌^◌, ◌≤◌, ◌<◌, length, take}
-use Rattle.std.proofs.Math.Option.{Option, none, some}
+use Rattle.std.specs.Prelude.{◌≡◌, true, false, List, ℕ, ◌+◌, ◌*◌, ◌^◌, ◌≤◌, ◌<◌, length, take, Option, None, Some, Result, Err}
 use Rattle.doubles.specs.Double.{Double, is_finite, of_pattern}
 use Rattle.refusal.specs.Sizes.{max_rows}
 use Rattle.rows.specs.declared.Kind.{Kind}
@@ -12,17 +11,13 @@ use Rattle.build.specs.Memory.{zero_scores}
 use Rattle.build.specs.Rules.{scores_of}
 use Rattle.scored.specs.NodeScores.{filled_scores}
 use Rattle.pack.specs.declared.header.Header.{Header}
-use Rattle.pack.specs.declared.header.Layout.{Layout}
-use Rattle.pack.specs.declared.header.Layout.TheVariants.{Of, Wrong}
-use Rattle.pack.specs.declared.judge.Found.{Found}
-use Rattle.pack.specs.declared.judge.Found.TheVariants.{Refused, Fine}
 use Rattle.pack.specs.Pack.{header_of, kind_of, word, row_at, rows_of}
 use Rattle.pack.specs.Build.{content_fault, pack_judged}
 
 -- the kind that a layout names
-abbrev pub kind_in : Layout → Option Kind
-kind_in (Of kind) = some kind
-kind_in Wrong = none
+abbrev pub kind_in : Option Kind → Option Kind
+kind_in (Some kind) = Some kind
+kind_in None = None
 
 -- ---- one row
 
@@ -38,12 +33,12 @@ pub record ScoreRead (x d : Double) : Type 0 where
 -- w is read for the worth v, which it is where v is fine; its fault is that of v in any case
 pub record WorthRead (kind : Kind) (w v : Worth) : Type 0 where
   pub faults : worth_fault kind w ≡ worth_fault kind v
-  pub very : worth_fault kind v ≡ none → w ≡ v
+  pub very : worth_fault kind v ≡ None → w ≡ v
 
 -- r is read for the row s, which it is where s is fine; its fault is that of s in any case, for every table
 pub record RowRead (kind : Kind) (r s : Row) : Type 0 where
   pub faults : (tab : List ℕ) → row_fault kind tab r ≡ row_fault kind tab s
-  pub very : (tab : List ℕ) → row_fault kind tab s ≡ none → r ≡ s
+  pub very : (tab : List ℕ) → row_fault kind tab s ≡ None → r ≡ s
 
 -- ---- the rows
 
@@ -55,7 +50,7 @@ row_start i = 36 + 16 * i
 pub record FineRows (kind : Kind) (bytes strings : List ℕ) (n : ℕ) : Type 0 where
   pub few : n ≤ max_rows
   pub inside : row_start n ≤ length bytes
-  pub fine : (i : ℕ) → i < n → row_fault kind strings (row_at kind bytes (row_start i)) ≡ none
+  pub fine : (i : ℕ) → i < n → row_fault kind strings (row_at kind bytes (row_start i)) ≡ None
 
 -- n rows stand in the file, and each has a finite score
 pub record FiniteRows (bytes : List ℕ) (n : ℕ) : Type 0 where
@@ -72,7 +67,7 @@ value_in i (id v) = v
 pub record RowReady (kind : Kind) (bytes strings edge_n id work : List ℕ) (room n i : ℕ) : Type 0 where
   pub small : i < max_rows
   pub inside : row_start i + 16 ≤ length bytes
-  pub fine : row_fault kind strings (row_at kind bytes (row_start i)) ≡ none
+  pub fine : row_fault kind strings (row_at kind bytes (row_start i)) ≡ None
   pub enterable : Enterable edge_n id work room 0 n
 
 -- ---- what is found
@@ -80,13 +75,13 @@ pub record RowReady (kind : Kind) (bytes strings edge_n id work : List ℕ) (roo
 -- nothing is wrong with the pack: only the room may be too little
 pub record PackFine (bytes : List ℕ) (kind : Kind) (h : Header) : Type 0 where
   pub header : h ≡ header_of bytes
-  pub laid : kind_of bytes ≡ some kind
-  pub fine : content_fault kind bytes ≡ none
+  pub laid : kind_of bytes ≡ Some kind
+  pub fine : content_fault kind bytes ≡ None
 
 -- what was found before the room is looked at
-abbrev pub FoundIs : List ℕ → Found → Type 0
-FoundIs bytes (Refused r) = pack_judged bytes ≡ some r
-FoundIs bytes (Fine kind h) = PackFine bytes kind h
+abbrev pub FoundIs : List ℕ → Result (Kind × Header) Reason → Type 0
+FoundIs bytes (Err r) = pack_judged bytes ≡ Some r
+FoundIs bytes (FINE kind h) = PackFine bytes kind h
 
 -- ---- the score column
 

@@ -1,7 +1,6 @@
 // A pack judged: everything but the room in the lent columns. Nothing is written.
-ghost use Rattle.std.specs.Prelude.{◌≡◌};
-ghost use Rattle.std.proofs.Math.Option.{some};
-ghost use Rattle.rows.specs.Answers.{reason_in};
+ghost use Rattle.std.specs.Result.{result_err};
+ghost use Rattle.std.specs.Prelude.{◌≡◌, Some};
 ghost use Rattle.pack.specs.Pack.{header_of, kind_of};
 ghost use Rattle.pack.specs.Build.{large_header, content_fault};
 ghost use Rattle.pack.specs.Reading.{FoundIs};
@@ -31,8 +30,8 @@ fn is_large(h: Header) -> bool
 
 // The sizes, the rows, and then the prefix's span and text.
 fn judge_rows(kind: Kind, bytes: &[u8], h: Header) -> RowsAnswer
-    requires { (h ≡ header_of bytes.now) × (kind_of bytes.now ≡ some kind) }
-    ensures { reason_in result ≡ content_fault kind (was bytes) }
+    requires { (h ≡ header_of bytes.now) × (kind_of bytes.now ≡ Some kind) }
+    ensures { result_err result ≡ content_fault kind (was bytes) }
 {
     if is_large(h) {
         return RowsAnswer::Refused(Reason::Call(Fault::Size));

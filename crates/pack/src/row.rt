@@ -1,10 +1,10 @@
 // One row of the pack, decoded, and the first bad row.
+ghost use Rattle.std.specs.Result.{result_err};
 ghost use Rattle.std.specs.Prelude.{◌≡◌, false, ◌+◌, ◌≤◌, length};
 ghost use Rattle.doubles.specs.Double.{infinite};
 ghost use Rattle.doubles.specs.Units.{units};
 ghost use Rattle.refusal.specs.Sizes.{max_rows};
 ghost use Rattle.rows.specs.Rows.{worth_is, row_is, first_bad};
-ghost use Rattle.rows.specs.Answers.{reason_in};
 ghost use Rattle.pack.specs.Pack.{worth_at, row_at, rows_from};
 ghost use Rattle.pack.specs.Reading.{double_at, ScoreRead, WorthRead, RowRead, row_start};
 ghost use Rattle.refusal.specs.Lent.{was};
@@ -66,7 +66,7 @@ pub fn row_at(kind: Kind, bytes: &[u8], at: usize) -> Row
 // The first bad one of the rows.
 pub fn first_bad(kind: Kind, bytes: &[u8], strings: &[u8], rows: usize) -> RowsAnswer
     requires { (row_start rows ≤ length bytes.now) × (rows ≤ max_rows) }
-    ensures { reason_in result ≡ first_bad kind (was strings) 0 (rows_from kind (was bytes) 36 rows) }
+    ensures { result_err result ≡ first_bad kind (was strings) 0 (rows_from kind (was bytes) 36 rows) }
 {
     let mut i: usize = 0;
     while i < rows {

@@ -1,31 +1,29 @@
 -- The promise of every coding: met from its fault or from its ids, what an answer tells both ways, and that it fixes all.
 -- Assumes nothing.
+use Rattle.std.specs.Prelude.{Option, None, Some, Result, Ok, Err, ℕ}
 use mathlib.Core.Path.{◌≡◌, refl, sym, ap, ◌∙◌}
 use mathlib.Core.List.{List}
 use mathlib.Core.Logic.{◌↔◌}
-use mathlib.Core.Option.{Option, none, some}
 use Prim.Native.Nat.{ℕ}
 use lib.ListN.{length}
 use Rattle.refusal.specs.declared.Fault.{Fault}
-use Rattle.refusal.specs.declared.CodeAnswer.{CodeAnswer}
-use Rattle.refusal.specs.declared.CodeAnswer.TheVariants.{Ids, Refused}
 use Rattle.refusal.specs.Refusal.{unless_fault}
 use Rattle.refusal.specs.Coding.{code_answer, Coded}
 
-refused_says : (o : Option Fault) (n : ℕ) {f : Fault} → code_answer o n ≡ Refused f → o ≡ some f
+refused_says : (o : Option Fault) (n : ℕ) {f : Fault} → code_answer o n ≡ Err f → o ≡ Some f
 unfolding code_answer
-refused_says none n e = cc
-refused_says (some g) n e = cc
+refused_says None n e = cc
+refused_says (Some g) n e = cc
 
-ids-say : (o : Option Fault) (n : ℕ) {k : ℕ} → code_answer o n ≡ Ids k → (o ≡ none) × (k ≡ n)
+ids-say : (o : Option Fault) (n : ℕ) {k : ℕ} → code_answer o n ≡ Ok k → (o ≡ None) × (k ≡ n)
 unfolding code_answer
-ids-say none n e = (refl, cc)
-ids-say (some g) n e = (cc, cc)
+ids-say None n e = (refl, cc)
+ids-say (Some g) n e = (cc, cc)
 
 module _ {A : Type 0} {fault : Option Fault} {ids : List ℕ} {written before : A} where
   -- ---- the promise, from the fault that was found or from what was written
 
-  pub coded-refused : {f : Fault} → fault ≡ some f → Coded fault ids written before (Refused f) before
+  pub coded-refused : {f : Fault} → fault ≡ Some f → Coded fault ids written before (Err f) before
   unfolding code_answer unless_fault
   coded-refused e =
       record {
@@ -33,19 +31,19 @@ module _ {A : Type 0} {fault : Option Fault} {ids : List ℕ} {written before : 
         left = sym (ap (λ (o : Option Fault). unless_fault o written before) e);
       }
 
-  pub coded-ids : {n : ℕ} {after : A} → fault ≡ none → n ≡ length ids → after ≡ written → Coded fault ids written before (Ids n) after
+  pub coded-ids : {n : ℕ} {after : A} → fault ≡ None → n ≡ length ids → after ≡ written → Coded fault ids written before (Ok n) after
   unfolding code_answer unless_fault
   coded-ids e count left =
       record {
-        answered = ap Ids count ∙ sym (ap (λ (o : Option Fault). code_answer o (length ids)) e);
+        answered = ap Ok count ∙ sym (ap (λ (o : Option Fault). code_answer o (length ids)) e);
         left = left ∙ sym (ap (λ (o : Option Fault). unless_fault o written before) e);
       }
 
   -- ---- what it tells
 
-  module _ {answer : CodeAnswer} {after : A} (p : Coded fault ids written before answer after) where
+  module _ {answer : Result ℕ Fault} {after : A} (p : Coded fault ids written before answer after) where
     -- refused exactly with the first fault
-    pub refused-exactly : (f : Fault) → (answer ≡ Refused f) ↔ (fault ≡ some f)
+    pub refused-exactly : (f : Fault) → (answer ≡ Err f) ↔ (fault ≡ Some f)
     unfolding code_answer
     refused-exactly f = (
       λ q. refused_says fault (length ids) (sym p.answered ∙ q),
@@ -53,7 +51,7 @@ module _ {A : Type 0} {fault : Option Fault} {ids : List ℕ} {written before : 
     )
 
     -- the number of the ids exactly where there is none
-    pub accepted-exactly : (answer ≡ Ids (length ids)) ↔ (fault ≡ none)
+    pub accepted-exactly : (answer ≡ Ok (length ids)) ↔ (fault ≡ None)
     unfolding code_answer
     accepted-exactly = (
       λ q. (ids-say fault (length ids) (sym p.answered ∙ q)).0,
@@ -61,7 +59,7 @@ module _ {A : Type 0} {fault : Option Fault} {ids : List ℕ} {written before : 
     )
 
     -- so many ids are all of them, and then it was written
-    pub told-ids : {n : ℕ} → answer ≡ Ids n → (fault ≡ none) × (n ≡ length ids) × (after ≡ written)
+    pub told-ids : {n : ℕ} → answer ≡ Ok n → (fault ≡ None) × (n ≡ length ids) × (after ≡ written)
     unfolding unless_fault
     told-ids q =
         let s = ids-say fault (length ids) (sym p.answered ∙ q) in
@@ -69,6 +67,6 @@ module _ {A : Type 0} {fault : Option Fault} {ids : List ℕ} {written before : 
 
   -- the promise met twice gives the same answer, and leaves the same
   pub coded-once :
-      {a₁ a₂ : CodeAnswer} {x₁ x₂ : A} → Coded fault ids written before a₁ x₁ → Coded fault ids written before a₂ x₂
+      {a₁ a₂ : Result ℕ Fault} {x₁ x₂ : A} → Coded fault ids written before a₁ x₁ → Coded fault ids written before a₂ x₂
       → (a₁ ≡ a₂) × (x₁ ≡ x₂)
   coded-once p q = (p.answered ∙ sym q.answered, p.left ∙ sym q.left)

@@ -1,9 +1,9 @@
 -- Numbers and lists: what more than one layer asks of them. Assumes nothing.
+use Rattle.std.specs.Prelude.{None, Some}
 use mathlib.Core.Path.{◌≡◌, refl, ap}
 use mathlib.Core.Bool.{Bool, true, false}
 use mathlib.Core.List.{List, [], ◌∷◌, map}
 use mathlib.Core.Logic.{◌⊎◌, inl, inr}
-use mathlib.Core.Option.{none, some}
 use Prim.Native.Nat.{ℕ, zero, suc, ◌≤◌, ◌<◌}
 use native.Mathlib.Omega.{arith}
 use borrow.Author.Tests.{leb-true, leb-false}
@@ -15,7 +15,7 @@ pub zero_one : ◌≡◌ {A = ℕ} 0 1 → ⊥
 zero_one e = omega (arith, e)
 
 -- nothing is not something, and false is not true: from there anything follows
-pub none-some {ℓ} : {A : Type 0} {B : Type ℓ} {x : A} → none ≡ some x → B
+pub none-some {ℓ} : {A : Type 0} {B : Type ℓ} {x : A} → None ≡ Some x → B
 none-some e = absurd (zero_one cc)
 
 pub false-true {ℓ} : {B : Type ℓ} → false ≡ true → B

@@ -1,16 +1,15 @@
 -- Faults tested one after the other: a test that finds its fault, one that does not, and what is known where none is found.
 -- Then what an answer tells of the fault. Assumes nothing.
+use Rattle.std.specs.Result.{result_err}
+use Rattle.std.specs.Prelude.{Option, None, Some, Result, ⊤, Ok, Err}
 use mathlib.Core.Path.{◌≡◌, refl, sym, ap, ◌∙◌, subst}
 use mathlib.Core.Bool.{Bool, true, false, ◌||◌}
 use mathlib.Core.Logic.{◌↔◌}
-use mathlib.Core.Option.{Option, none, some}
 use Prim.Native.Nat.{ℕ}
 use lib.Dec.{eqb}
 use Rattle.refusal.specs.declared.Fault.{Fault}
 use Rattle.refusal.specs.declared.Reason.{Reason}
-use Rattle.refusal.specs.declared.Judged.{Judged}
-use Rattle.refusal.specs.declared.Judged.TheVariants.{Fine, Bad}
-use Rattle.refusal.specs.Refusal.{number, fault_of, called, refuse, first, fault_in}
+use Rattle.refusal.specs.Refusal.{number, fault_of, called, refuse, first}
 use Rattle.refusal.proofs.Lists.{zero_one}
 
 -- ---- of two tests, either or neither
@@ -33,7 +32,7 @@ neither-says false b e = (refl, e)
 
 module _ {A : Type 0} (test : Bool) (f : A) (later : Option A) where
   -- a test that finds something decides
-  pub found : test ≡ true → refuse test f later ≡ some f
+  pub found : test ≡ true → refuse test f later ≡ Some f
   unfolding refuse
   found e = ap (λ (b : Bool). refuse b f later) e
 
@@ -42,43 +41,43 @@ module _ {A : Type 0} (test : Bool) (f : A) (later : Option A) where
   not_found e = ap (λ (b : Bool). refuse b f later) e
 
 -- nothing is refused where no test finds anything, and then no test did
-pub passed : {A : Type 0} (test : Bool) (f : A) (later : Option A) → refuse test f later ≡ none → (test ≡ false) × (later ≡ none)
+pub passed : {A : Type 0} (test : Bool) (f : A) (later : Option A) → refuse test f later ≡ None → (test ≡ false) × (later ≡ None)
 unfolding refuse
 passed true f later e = (cc, cc)
 passed false f later e = (refl, e)
 
 -- what is found first decides, and where it is nothing, the later
 module _ {A : Type 0} {o : Option A} (later : Option A) where
-  pub found_first : {f : A} → o ≡ some f → first o later ≡ some f
+  pub found_first : {f : A} → o ≡ Some f → first o later ≡ Some f
   unfolding first
   found_first e = ap (λ (x : Option A). first x later) e
 
-  pub none_first : o ≡ none → first o later ≡ later
+  pub none_first : o ≡ None → first o later ≡ later
   unfolding first
   none_first e = ap (λ (x : Option A). first x later) e
 
-pub both-passed : {A : Type 0} (o later : Option A) → first o later ≡ none → (o ≡ none) × (later ≡ none)
+pub both-passed : {A : Type 0} (o later : Option A) → first o later ≡ None → (o ≡ None) × (later ≡ None)
 unfolding first
-both-passed none later e = (refl, e)
-both-passed (some f) later e = (e, cc)
+both-passed None later e = (refl, e)
+both-passed (Some f) later e = (e, cc)
 
 -- ---- what holds of every fault that a test can find holds of the fault that is found
 
 module _ {A : Type 0} (P : A → Type 0) where
-  pub some-so : {f g : A} → some g ≡ some f → P g → P f
+  pub some-so : {f g : A} → Some g ≡ Some f → P g → P f
   some-so {f = f} {g = g} e p = let s : g ≡ f = cc in subst P s p
 
-  pub refused-so : {f : A} (test : Bool) (g : A) (later : Option A) → P g → (later ≡ some f → P f) → refuse test g later ≡ some f → P f
+  pub refused-so : {f : A} (test : Bool) (g : A) (later : Option A) → P g → (later ≡ Some f → P f) → refuse test g later ≡ Some f → P f
   unfolding refuse
   refused-so true g later p q e = some-so e p
   refused-so false g later p q e = q e
 
-  pub first_so : {f : A} (o later : Option A) → (o ≡ some f → P f) → (later ≡ some f → P f) → first o later ≡ some f → P f
+  pub first_so : {f : A} (o later : Option A) → (o ≡ Some f → P f) → (later ≡ Some f → P f) → first o later ≡ Some f → P f
   unfolding first
-  first_so none later p q e = q e
-  first_so (some g) later p q e = p e
+  first_so None later p q e = q e
+  first_so (Some g) later p q e = p e
 
-  pub nothing-so : {f : A} → none ≡ some f → P f
+  pub nothing-so : {f : A} → None ≡ Some f → P f
   nothing-so e = absurd (zero_one cc)
 
 -- the fault's number is not k, and the reason's
@@ -88,38 +87,38 @@ Not k f = eqb (number f) k ≡ false
 abbrev pub NotOf : ℕ → Reason → Type 0
 NotOf k r = Not k (fault_of r)
 
-pub called-none : (o : Option Fault) → called o ≡ none → o ≡ none
+pub called-none : (o : Option Fault) → called o ≡ None → o ≡ None
 unfolding called
-called-none none e = refl
-called-none (some f) e = cc
+called-none None e = refl
+called-none (Some f) e = cc
 
-pub called-so : (P : Fault → Type 0) (o : Option Fault) {r : Reason} → ((f : Fault) → o ≡ some f → P f) → called o ≡ some r → P (fault_of r)
+pub called-so : (P : Fault → Type 0) (o : Option Fault) {r : Reason} → ((f : Fault) → o ≡ Some f → P f) → called o ≡ Some r → P (fault_of r)
 unfolding called
-called-so P none p e = absurd (zero_one cc)
-called-so P (some f) p e = some-so (λ (r : Reason). P (fault_of r)) e (p f refl)
+called-so P None p e = absurd (zero_one cc)
+called-so P (Some f) p e = some-so (λ (r : Reason). P (fault_of r)) e (p f refl)
 
 -- ---- what an answer tells
 
-bad-told : (a : Judged) {f : Fault} → fault_in a ≡ some f → a ≡ Bad f
-bad-told Fine e = cc
-bad-told (Bad g) e = cc
+err-told : {A E : Type 0} (a : Result A E) {f : E} → result_err a ≡ Some f → a ≡ Err f
+err-told (Ok x) e = cc
+err-told (Err g) e = cc
 
-fine-told : (a : Judged) → fault_in a ≡ none → a ≡ Fine
-fine-told Fine e = refl
-fine-told (Bad g) e = cc
+ok-told : {E : Type 0} (a : Result ⊤ E) → result_err a ≡ None → a ≡ Ok tt
+ok-told (Ok x) e = refl
+ok-told (Err g) e = cc
 
-module _ (a : Judged) {o : Option Fault} (e : fault_in a ≡ o) where
-  -- bad exactly where there is a fault, and then with that fault; fine exactly where there is none
-  pub bad-exactly : (f : Fault) → (a ≡ Bad f) ↔ (o ≡ some f)
-  bad-exactly f = (λ p. sym e ∙ ap fault_in p, λ p. bad-told a (e ∙ p))
+module _ {E : Type 0} (a : Result ⊤ E) {o : Option E} (e : result_err a ≡ o) where
+  -- an error exactly where something is wrong, and then what that is; `Ok` exactly where nothing is
+  pub err-exactly : (f : E) → (a ≡ Err f) ↔ (o ≡ Some f)
+  err-exactly f = (λ p. sym e ∙ ap result_err p, λ p. err-told a (e ∙ p))
 
-  pub fine-exactly : (a ≡ Fine) ↔ (o ≡ none)
-  fine-exactly = (λ p. sym e ∙ ap fault_in p, λ p. fine-told a (e ∙ p))
+  pub ok-exactly : (a ≡ Ok tt) ↔ (o ≡ None)
+  ok-exactly = (λ p. sym e ∙ ap result_err p, λ p. ok-told a (e ∙ p))
 
--- the answer is determined by the fault
-pub judged-once : (a b : Judged) {o : Option Fault} → fault_in a ≡ o → fault_in b ≡ o → a ≡ b
+-- the answer is determined by what is wrong
+pub judged-once : {E : Type 0} (a b : Result ⊤ E) {o : Option E} → result_err a ≡ o → result_err b ≡ o → a ≡ b
 judged-once a b {o} p q = go o refl
   where
-    go : (x : Option Fault) → o ≡ x → a ≡ b
-    go none e = (fine-exactly a p).1 e ∙ sym ((fine-exactly b q).1 e)
-    go (some f) e = (bad-exactly a p f).1 e ∙ sym ((bad-exactly b q f).1 e)
+    go : (x : Option _) → o ≡ x → a ≡ b
+    go None e = (ok-exactly a p).1 e ∙ sym ((ok-exactly b q).1 e)
+    go (Some f) e = (err-exactly a p f).1 e ∙ sym ((err-exactly b q f).1 e)

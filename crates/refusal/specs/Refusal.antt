@@ -1,13 +1,10 @@
 -- The paper's number of each fault, which row a reason names, and what an answer says was found. Definitions only; assumes
 -- nothing.
-use Rattle.std.specs.Prelude.{ℕ, Bool, true, false}
-use Rattle.std.proofs.Math.Option.{Option, none, some}
+use Rattle.std.specs.Prelude.{ℕ, Bool, true, false, Option, None, Some, Result, ⊤, Ok, Err}
 use Rattle.refusal.specs.declared.Fault.{Fault}
 use Rattle.refusal.specs.declared.Fault.TheVariants.{Size, Span, Token, Text, Score, Id, Room, Trie, Scratch, Ids, Pack}
 use Rattle.refusal.specs.declared.Reason.{Reason}
 use Rattle.refusal.specs.declared.Reason.TheVariants.{Call, Row}
-use Rattle.refusal.specs.declared.Judged.{Judged}
-use Rattle.refusal.specs.declared.Judged.TheVariants.{Fine, Bad}
 
 -- the paper's table of refusal numbers
 abbrev pub number : Fault → ℕ
@@ -33,31 +30,26 @@ number_of r = number (fault_of r)
 
 -- a fault of the call, not of a row
 unfoldable pub called : Option Fault → Option Reason
-called none = none
-called (some f) = some (Call f)
+called None = None
+called (Some f) = Some (Call f)
 
 -- "and for 2 to 6 which row (none for a prefix)"
 abbrev pub row_of : Reason → Option ℕ
-row_of (Call f) = none
-row_of (Row f i) = some i
+row_of (Call f) = None
+row_of (Row f i) = Some i
 
 -- `refuse test f later`: f where the test finds it, else what is found later. Faults written one below the other are tested in
 -- that order.
-unfoldable pub refuse {ℓ} : {A : Type ℓ} → Bool → A → Option A → Option A
-refuse true f later = some f
+unfoldable pub refuse : {A : Type 0} → Bool → A → Option A → Option A
+refuse true f later = Some f
 refuse false f later = later
 
 -- the first of two answers that finds something
-unfoldable pub first {ℓ} : {A : Type ℓ} → Option A → Option A → Option A
-first none later = later
-first (some f) later = some f
-
--- the fault that was found
-abbrev pub fault_in : Judged → Option Fault
-fault_in Fine = none
-fault_in (Bad f) = some f
+unfoldable pub first : {A : Type 0} → Option A → Option A → Option A
+first None later = later
+first (Some f) later = Some f
 
 -- `unless_fault found accepted refused`: the one where no fault is found, the other where there is one
 unfoldable pub unless_fault : {A : Type 0} → Option Fault → A → A → A
-unless_fault none accepted refused = accepted
-unless_fault (some f) accepted refused = refused
+unless_fault None accepted refused = accepted
+unless_fault (Some f) accepted refused = refused

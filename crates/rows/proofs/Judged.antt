@@ -1,10 +1,11 @@
 -- Which reason is given, and that the answer of `judge` follows from the inputs. A row is named exactly where it is the lowest
 -- with a fault, 1 is given exactly where a size is wrong, and an answer is known by the reason that it names. Assumes nothing.
+use Rattle.std.specs.Result.{result_err}
+use Rattle.std.specs.Prelude.{None, Some, Result, ⊤, Ok, Err, ℕ}
 use mathlib.Core.Path.{◌≡◌, refl, sym, ap, ◌∙◌}
 use mathlib.Core.Bool.{Bool, true, false}
 use mathlib.Core.List.{List}
 use mathlib.Core.Logic.{◌↔◌, ◌⊎◌, inl, inr, ⊎_elim}
-use mathlib.Core.Option.{none, some}
 use Prim.Native.Nat.{ℕ, ◌+◌, ◌<◌}
 use native.Mathlib.Omega.{arith}
 use borrow.Author.Tests.{ltb-true, ltb-false, lt-ltb}
@@ -16,11 +17,8 @@ use Rattle.refusal.specs.declared.Reason.{Reason}
 use Rattle.refusal.specs.declared.Reason.TheVariants as reason
 use Rattle.refusal.specs.Sizes.{max_rows, max_table, above}
 use Rattle.rows.specs.declared.Kind.{Kind}
-use Rattle.rows.specs.declared.columns.RowsAnswer.{RowsAnswer}
-use Rattle.rows.specs.declared.columns.RowsAnswer.TheVariants as rows_are
 use Rattle.rows.specs.Rows.{row_fault}
 use Rattle.rows.specs.Columns.{Columns, row_at, rows_of, too_large, level, columns_fault}
-use Rattle.rows.specs.Answers.{reason_in}
 use Rattle.refusal.proofs.Tests.{or_right, found}
 use Rattle.rows.proofs.RowLists.{rows-length, rows_at}
 use Rattle.rows.proofs.FirstBad.{IsFirstBad, first-bad-says, first-bad-exactly}
@@ -31,8 +29,8 @@ use Rattle.rows.proofs.ListFaults.{size, rows_left, sizes-first, many-rows, too_
 -- row i has the fault f, and no row before it has any
 pub record IsBadRow (kind : Kind) (tab : List ℕ) (c : Columns) (f : Fault) (i : ℕ) : Type 0 where
   pub inside : i < length c.off
-  pub bad : row_fault kind tab (row_at c i) ≡ some f
-  pub earlier : (k : ℕ) → k < i → row_fault kind tab (row_at c k) ≡ none
+  pub bad : row_fault kind tab (row_at c i) ≡ Some f
+  pub earlier : (k : ℕ) → k < i → row_fault kind tab (row_at c k) ≡ None
 
 module _ (kind : Kind) (tab : List ℕ) (c : Columns) (f : Fault) (i : ℕ) where
   to-rows : IsBadRow kind tab c f i → IsFirstBad kind tab (row_at c 0) (rows_of c) f i
@@ -53,7 +51,7 @@ module _ (kind : Kind) (tab : List ℕ) (c : Columns) (f : Fault) (i : ℕ) wher
       }
 
   -- a row is named exactly where the sizes are fine, it has the fault and no row before it has any
-  pub row-says : columns_fault kind tab c ≡ some (reason.Row f i) → Sized tab c × IsBadRow kind tab c f i
+  pub row-says : columns_fault kind tab c ≡ Some (reason.Row f i) → Sized tab c × IsBadRow kind tab c f i
   row-says e = go (size kind tab c) refl
     where
       go : (t : Bool) → size kind tab c ≡ t → Sized tab c × IsBadRow kind tab c f i
@@ -63,10 +61,10 @@ module _ (kind : Kind) (tab : List ℕ) (c : Columns) (f : Fault) (i : ℕ) wher
           let s = unsized kind tab c p in
           (s, from-rows ((first-bad-exactly kind tab (row_at c 0) (rows_of c) f i).0 (sym (within kind tab c s) ∙ e)))
 
-  pub row-found : Sized tab c → IsBadRow kind tab c f i → columns_fault kind tab c ≡ some (reason.Row f i)
+  pub row-found : Sized tab c → IsBadRow kind tab c f i → columns_fault kind tab c ≡ Some (reason.Row f i)
   row-found s b = within kind tab c s ∙ (first-bad-exactly kind tab (row_at c 0) (rows_of c) f i).1 (to-rows b)
 
-  pub row-exactly : (columns_fault kind tab c ≡ some (reason.Row f i)) ↔ (Sized tab c × IsBadRow kind tab c f i)
+  pub row-exactly : (columns_fault kind tab c ≡ Some (reason.Row f i)) ↔ (Sized tab c × IsBadRow kind tab c f i)
   row-exactly = (row-says, λ p. row-found p.0 p.1)
 
 -- a size is wrong
@@ -75,7 +73,7 @@ Oversized tab c = (max_rows < length c.off) ⊎ ((max_table < length tab) ⊎ (l
 
 module _ (kind : Kind) (tab : List ℕ) (c : Columns) where
   -- 1 is given exactly where a size is wrong
-  pub size-says : columns_fault kind tab c ≡ some (reason.Call fault.Size) → Oversized tab c
+  pub size-says : columns_fault kind tab c ≡ Some (reason.Call fault.Size) → Oversized tab c
   size-says e = go (above max_rows (length c.off)) (above max_table (length tab)) (level c) refl refl refl
     where
       go : (s t u : Bool) → above max_rows (length c.off) ≡ s → above max_table (length tab) ≡ t → level c ≡ u → Oversized tab c
@@ -89,7 +87,7 @@ module _ (kind : Kind) (tab : List ℕ) (c : Columns) where
           let named : reason.Call fault.Size ≡ reason.Row w.0 (0 + w.1) = w.2 in
           absurd (zero_one cc)
 
-  pub size-found : Oversized tab c → columns_fault kind tab c ≡ some (reason.Call fault.Size)
+  pub size-found : Oversized tab c → columns_fault kind tab c ≡ Some (reason.Call fault.Size)
   size-found o =
       ⊎_elim (λ h. too_large_found kind tab c (sym (many-rows (length c.off) (length tab) h)))
       (λ p. ⊎_elim (λ h. too_large_found kind tab c (table-large h)) (uneven kind tab c) p) o
@@ -97,29 +95,29 @@ module _ (kind : Kind) (tab : List ℕ) (c : Columns) where
       table-large : max_table < length tab → too_large (length c.off) (length tab) ≡ true
       table-large h = or_right (above max_rows (length c.off)) (above max_table (length tab)) (lt-ltb max_table (length tab) h)
 
-  pub size-exactly : (columns_fault kind tab c ≡ some (reason.Call fault.Size)) ↔ Oversized tab c
+  pub size-exactly : (columns_fault kind tab c ≡ Some (reason.Call fault.Size)) ↔ Oversized tab c
   size-exactly = (size-says, size-found)
 
 -- ---- the answer
 
 -- an answer is known by the reason that it names
-unnamed : (a b : RowsAnswer) → reason_in a ≡ reason_in b → a ≡ b
-unnamed rows_are.Fine rows_are.Fine e = refl
-unnamed rows_are.Fine (rows_are.Refused r) e = cc
-unnamed (rows_are.Refused r) rows_are.Fine e = cc
-unnamed (rows_are.Refused r) (rows_are.Refused s) e = cc
+unnamed : (a b : Result ⊤ Reason) → result_err a ≡ result_err b → a ≡ b
+unnamed Ok tt Ok tt e = refl
+unnamed Ok tt (Err r) e = cc
+unnamed (Err r) Ok tt e = cc
+unnamed (Err r) (Err s) e = cc
 
-module _ (kind : Kind) (tab : List ℕ) (c : Columns) {answer : RowsAnswer} (a : reason_in answer ≡ columns_fault kind tab c) where
+module _ (kind : Kind) (tab : List ℕ) (c : Columns) {answer : Result ⊤ Reason} (a : result_err answer ≡ columns_fault kind tab c) where
   -- refused exactly where there is a reason, and with that reason
-  pub refused-exactly : (r : Reason) → (answer ≡ rows_are.Refused r) ↔ (columns_fault kind tab c ≡ some r)
-  refused-exactly r = (λ e. sym a ∙ ap reason_in e, λ e. unnamed answer (rows_are.Refused r) (a ∙ e))
+  pub refused-exactly : (r : Reason) → (answer ≡ Err r) ↔ (columns_fault kind tab c ≡ Some r)
+  refused-exactly r = (λ e. sym a ∙ ap result_err e, λ e. unnamed answer (Err r) (a ∙ e))
 
   -- fine exactly where there is none
-  pub fine-exactly : (answer ≡ rows_are.Fine) ↔ (columns_fault kind tab c ≡ none)
-  fine-exactly = (λ e. sym a ∙ ap reason_in e, λ e. unnamed answer rows_are.Fine (a ∙ e))
+  pub fine-exactly : (answer ≡ Ok tt) ↔ (columns_fault kind tab c ≡ None)
+  fine-exactly = (λ e. sym a ∙ ap result_err e, λ e. unnamed answer Ok tt (a ∙ e))
 
 -- the promise met twice gives the same answer
 pub judge-determined :
-    (kind : Kind) (tab : List ℕ) (c : Columns) {a b : RowsAnswer}
-    → reason_in a ≡ columns_fault kind tab c → reason_in b ≡ columns_fault kind tab c → a ≡ b
+    (kind : Kind) (tab : List ℕ) (c : Columns) {a b : Result ⊤ Reason}
+    → result_err a ≡ columns_fault kind tab c → result_err b ≡ columns_fault kind tab c → a ≡ b
 judge-determined kind tab c {a = a} {b = b} p q = unnamed a b (p ∙ sym q)

@@ -1,10 +1,10 @@
 -- A row list as a whole: 1 for its sizes, then the first bad row. A list without a fault is within its sizes and each of its
 -- rows is fine, so its tokens are short text inside the table and its worths are finite scores, or real ids. Assumes nothing.
+use Rattle.std.specs.Prelude.{Option, None, Some}
 use mathlib.Core.Path.{◌≡◌, refl, sym, ap, ◌∙◌}
 use mathlib.Core.Bool.{Bool, true, false, not, ◌||◌, cond}
 use mathlib.Core.List.{List}
 use mathlib.Core.Logic.{◌↔◌}
-use mathlib.Core.Option.{Option, none, some}
 use Prim.Native.Nat.{ℕ, ◌+◌, ◌≤◌, ◌<◌}
 use native.Mathlib.Omega.{arith}
 use borrow.Author.Tests.{lt-ltb, le-ltb, ltb-false, not-false}
@@ -56,10 +56,10 @@ module _ (kind : Kind) (tab : List ℕ) (c : Columns) where
   unfolding columns_fault
   sizes-first = refl
 
-  pub too_large_found : large ≡ true → columns_fault kind tab c ≡ some (reason.Call fault.Size)
+  pub too_large_found : large ≡ true → columns_fault kind tab c ≡ Some (reason.Call fault.Size)
   too_large_found e = sizes-first ∙ found size _ _ (or_left large (not (level c)) e)
 
-  pub uneven : level c ≡ false → columns_fault kind tab c ≡ some (reason.Call fault.Size)
+  pub uneven : level c ≡ false → columns_fault kind tab c ≡ Some (reason.Call fault.Size)
   uneven e = sizes-first ∙ found size _ _ (or_right large (not (level c)) (ap not e))
 
   pub within-sizes : large ≡ false → level c ≡ true → columns_fault kind tab c ≡ first_bad kind tab 0 (rows_of c)
@@ -76,7 +76,7 @@ pub record Sized (tab : List ℕ) (c : Columns) : Type 0 where
 -- the list is within its sizes, and no row has a fault
 pub record AllFine (kind : Kind) (tab : List ℕ) (c : Columns) : Type 0 where
   pub sized : Sized tab c
-  pub row : (i : ℕ) → i < length c.off → row_fault kind tab (row_at c i) ≡ none
+  pub row : (i : ℕ) → i < length c.off → row_fault kind tab (row_at c i) ≡ None
 
 module _ (kind : Kind) (tab : List ℕ) (c : Columns) where
   -- past the tests of the sizes
@@ -92,17 +92,17 @@ module _ (kind : Kind) (tab : List ℕ) (c : Columns) where
       let t = le-ltb max_table (length tab) s.small in
       within-sizes kind tab c (neither (above max_rows (length c.off)) (above max_table (length tab)) r t) s.flat
 
-  row_fine : first_bad kind tab 0 (rows_of c) ≡ none → (i : ℕ) → i < length c.off → row_fault kind tab (row_at c i) ≡ none
+  row_fine : first_bad kind tab 0 (rows_of c) ≡ None → (i : ℕ) → i < length c.off → row_fault kind tab (row_at c i) ≡ None
   row_fine e i h =
       ap (row_fault kind tab) (sym (rows_at c (row_at c i) i h))
       ∙ none-bad-says kind tab (row_at c i) 0 (rows_of c) e i (omega (arith, rows-length c))
 
-  pub none-says : columns_fault kind tab c ≡ none → AllFine kind tab c
+  pub none-says : columns_fault kind tab c ≡ None → AllFine kind tab c
   none-says e =
       let p = passed _ _ _ (sym (sizes-first kind tab c) ∙ e) in
       record { sized = unsized p.0; row = row_fine p.1 }
 
-  pub none_found : AllFine kind tab c → columns_fault kind tab c ≡ none
+  pub none_found : AllFine kind tab c → columns_fault kind tab c ≡ None
   none_found a =
       within a.sized
       ∙ none-bad-found kind tab (row_at c 0) 0 (rows_of c)
@@ -111,10 +111,10 @@ module _ (kind : Kind) (tab : List ℕ) (c : Columns) where
       ap (row_fault kind tab) (rows_at c (row_at c 0) k inside) ∙ a.row k inside)
 
   -- no fault exactly where the sizes and all rows are fine
-  pub none-exactly : (columns_fault kind tab c ≡ none) ↔ AllFine kind tab c
+  pub none-exactly : (columns_fault kind tab c ≡ None) ↔ AllFine kind tab c
   none-exactly = (none-says, none_found)
 
-  module _ (fine : columns_fault kind tab c ≡ none) where
+  module _ (fine : columns_fault kind tab c ≡ None) where
     pub rows_few : length c.off ≤ max_rows
     rows_few = (none-says fine).sized.few
 
@@ -122,7 +122,7 @@ module _ (kind : Kind) (tab : List ℕ) (c : Columns) where
     columns-level = (none-says fine).sized.flat
 
     module _ (i : ℕ) (h : i < length c.off) where
-      pub row-has-none : row_fault kind tab (row_at c i) ≡ none
+      pub row-has-none : row_fault kind tab (row_at c i) ≡ None
       row-has-none = (none-says fine).row i h
 
       -- its token's span lies inside the table
@@ -141,7 +141,7 @@ picked-id false x n m e = (refl, cc)
 
 module _ (tab : List ℕ) (c : Columns) (i : ℕ) (h : i < length c.off) where
   -- a Unigram row has a finite score
-  module _ (fine : columns_fault Unigram tab c ≡ none) where
+  module _ (fine : columns_fault Unigram tab c ≡ None) where
     unigram-worth : (get_or c.scored i false ≡ true) × (is_finite (get_or c.score i plus_zero) ≡ true)
     unfolding row_at
     unigram-worth =
@@ -157,7 +157,7 @@ module _ (tab : List ℕ) (c : Columns) (i : ℕ) (h : i < length c.off) where
     unigram-row = rw unigram-scored
 
   -- a WordPiece row has an id that is not the mark for none
-  module _ (fine : columns_fault WordPiece tab c ≡ none) where
+  module _ (fine : columns_fault WordPiece tab c ≡ None) where
     wordpiece-worth : (get_or c.scored i false ≡ false) × (get_or c.id i 0 ≡ no_id → ⊥)
     unfolding row_at
     wordpiece-worth =
@@ -169,7 +169,7 @@ module _ (tab : List ℕ) (c : Columns) (i : ℕ) (h : i < length c.off) where
     wordpiece-numbered = wordpiece-worth.0
 
 -- so the column of kinds of a Unigram list without a fault says of every row that it has a score
-pub all-scored : (tab : List ℕ) (c : Columns) → columns_fault Unigram tab c ≡ none → c.scored ≡ replicate (length c.off) true
+pub all-scored : (tab : List ℕ) (c : Columns) → columns_fault Unigram tab c ≡ None → c.scored ≡ replicate (length c.off) true
 all-scored tab c fine =
     let n = length c.off in
     let long = level-scored c (columns-level Unigram tab c fine) in

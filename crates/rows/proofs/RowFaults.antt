@@ -1,9 +1,9 @@
 -- One row: which test gives which fault, and what a row without a fault says. The first test that finds a fault decides, so a
 -- fault of a later test is given only where each test before it found nothing. Assumes nothing.
+use Rattle.std.specs.Prelude.{None, Some}
 use mathlib.Core.Path.{◌≡◌, refl, ◌∙◌}
 use mathlib.Core.Bool.{true, false}
 use mathlib.Core.List.{List}
-use mathlib.Core.Option.{none, some}
 use Prim.Native.Nat.{ℕ, ◌+◌, ◌≤◌, ◌<◌}
 use native.Mathlib.Omega.{arith}
 use borrow.Author.Tests.{lt-ltb, le-ltb, ltb-false, eq-eqb, ne_eqb, eqb-false, not-false}
@@ -29,40 +29,40 @@ use Rattle.rows.specs.Rows.{Worth, score, id, Row, worth_is, token_of, worth_fau
 -- ---- the worth, as the code holds it
 
 module _ {w : code-worth.Worth} where
-  pub no-score : {i : ℕ} → w ≡ code-worth-is.Id i → worth_fault Unigram (worth_is w) ≡ some fault.Score
+  pub no-score : {i : ℕ} → w ≡ code-worth-is.Id i → worth_fault Unigram (worth_is w) ≡ Some fault.Score
   unfolding worth_fault worth_is
   no-score e = rw e
 
-  pub finite-score : {x : Float} → w ≡ code-worth-is.Score x → is_finite (units x) ≡ true → worth_fault Unigram (worth_is w) ≡ none
+  pub finite-score : {x : Float} → w ≡ code-worth-is.Score x → is_finite (units x) ≡ true → worth_fault Unigram (worth_is w) ≡ None
   unfolding worth_fault worth_is refuse
   finite-score e f = rw (e, f)
 
-  pub endless-score : {x : Float} → w ≡ code-worth-is.Score x → is_finite (units x) ≡ false → worth_fault Unigram (worth_is w) ≡ some fault.Score
+  pub endless-score : {x : Float} → w ≡ code-worth-is.Score x → is_finite (units x) ≡ false → worth_fault Unigram (worth_is w) ≡ Some fault.Score
   unfolding worth_fault worth_is refuse
   endless-score e f = rw (e, f)
 
-  pub no-id : {x : Float} → w ≡ code-worth-is.Score x → worth_fault WordPiece (worth_is w) ≡ some fault.Id
+  pub no-id : {x : Float} → w ≡ code-worth-is.Score x → worth_fault WordPiece (worth_is w) ≡ Some fault.Id
   unfolding worth_fault worth_is
   no-id e = rw e
 
-  pub real-id : {i : ℕ} → w ≡ code-worth-is.Id i → (i ≡ no_id → ⊥) → worth_fault WordPiece (worth_is w) ≡ none
+  pub real-id : {i : ℕ} → w ≡ code-worth-is.Id i → (i ≡ no_id → ⊥) → worth_fault WordPiece (worth_is w) ≡ None
   unfolding worth_fault worth_is refuse
   real-id {i = i} e f = rw (e, ne_eqb i no_id f)
 
-  pub mark-id : {i : ℕ} → w ≡ code-worth-is.Id i → i ≡ no_id → worth_fault WordPiece (worth_is w) ≡ some fault.Id
+  pub mark-id : {i : ℕ} → w ≡ code-worth-is.Id i → i ≡ no_id → worth_fault WordPiece (worth_is w) ≡ Some fault.Id
   unfolding worth_fault worth_is refuse
   mark-id {i = i} e f = rw (e, eq-eqb i no_id f)
 
 -- ---- the worth of a row without a fault
 
 -- of a Unigram row a finite score
-pub fine-score : (w : Worth) → worth_fault Unigram w ≡ none → (x : Double) × (w ≡ score x) × (is_finite x ≡ true)
+pub fine-score : (w : Worth) → worth_fault Unigram w ≡ None → (x : Double) × (w ≡ score x) × (is_finite x ≡ true)
 unfolding worth_fault
 fine-score (score x) e = (x, refl, not-false (is_finite x) (passed _ _ _ e).0)
 fine-score (id i) e = absurd (zero_one cc)
 
 -- of a WordPiece row an id that is not the mark for none
-pub fine-id : (w : Worth) → worth_fault WordPiece w ≡ none → (i : ℕ) × (w ≡ id i) × (i ≡ no_id → ⊥)
+pub fine-id : (w : Worth) → worth_fault WordPiece w ≡ None → (i : ℕ) × (w ≡ id i) × (i ≡ no_id → ⊥)
 unfolding worth_fault
 fine-id (score x) e = absurd (zero_one cc)
 fine-id (id i) e = (i, refl, eqb-false i no_id (passed _ _ _ e).0)
@@ -70,12 +70,12 @@ fine-id (id i) e = (i, refl, eqb-false i no_id (passed _ _ _ e).0)
 -- ---- the row
 
 module _ (kind : Kind) (tab : List ℕ) (r : Row) where
-  pub fault-span : length tab < r.off + r.len → row_fault kind tab r ≡ some fault.Span
+  pub fault-span : length tab < r.off + r.len → row_fault kind tab r ≡ Some fault.Span
   unfolding row_fault
   fault-span h = found _ _ _ (lt-ltb (length tab) (r.off + r.len) h)
 
   module _ (inside : r.off + r.len ≤ length tab) where
-    pub fault-token : max_token < r.len → row_fault kind tab r ≡ some fault.Token
+    pub fault-token : max_token < r.len → row_fault kind tab r ≡ Some fault.Token
     unfolding row_fault
     fault-token h = not_found _ _ _ (le-ltb (length tab) (r.off + r.len) inside) ∙ found _ _ _ (lt-ltb max_token r.len h)
 
@@ -88,24 +88,24 @@ module _ (kind : Kind) (tab : List ℕ) (r : Row) where
       past-token =
           not_found _ _ _ (le-ltb (length tab) (r.off + r.len) inside) ∙ not_found _ _ _ (le-ltb max_token r.len short)
 
-      pub fault-text : {f : Fault} → text_fault (token_of tab r) ≡ some f → row_fault kind tab r ≡ some f
+      pub fault-text : {f : Fault} → text_fault (token_of tab r) ≡ Some f → row_fault kind tab r ≡ Some f
       fault-text e = past-token ∙ found_first _ e
 
-      pub fault-worth : text_fault (token_of tab r) ≡ none → row_fault kind tab r ≡ worth_fault kind r.worth
+      pub fault-worth : text_fault (token_of tab r) ≡ None → row_fault kind tab r ≡ worth_fault kind r.worth
       fault-worth e = past-token ∙ none_first _ e
 
   -- a row without a fault: its token lies inside the table, is short enough, is text, and its worth has no fault
-  module _ (fine : row_fault kind tab r ≡ none) where
+  module _ (fine : row_fault kind tab r ≡ None) where
     spanned :
         (ltb (length tab) (r.off + r.len) ≡ false)
-        × (refuse (ltb max_token r.len) fault.Token (first (text_fault (token_of tab r)) (worth_fault kind r.worth)) ≡ none)
+        × (refuse (ltb max_token r.len) fault.Token (first (text_fault (token_of tab r)) (worth_fault kind r.worth)) ≡ None)
     unfolding row_fault
     spanned = passed _ _ _ fine
 
-    sized : (ltb max_token r.len ≡ false) × (first (text_fault (token_of tab r)) (worth_fault kind r.worth) ≡ none)
+    sized : (ltb max_token r.len ≡ false) × (first (text_fault (token_of tab r)) (worth_fault kind r.worth) ≡ None)
     sized = passed _ _ _ spanned.1
 
-    read : (text_fault (token_of tab r) ≡ none) × (worth_fault kind r.worth ≡ none)
+    read : (text_fault (token_of tab r) ≡ None) × (worth_fault kind r.worth ≡ None)
     read = both-passed _ _ sized.1
 
     pub fine-inside : r.off + r.len ≤ length tab
@@ -120,5 +120,5 @@ module _ (kind : Kind) (tab : List ℕ) (r : Row) where
     pub fine-text : well_formed (token_of tab r) ≡ true
     fine-text = text.fine-text (token_of tab r) read.0
 
-    pub fine-worth : worth_fault kind r.worth ≡ none
+    pub fine-worth : worth_fault kind r.worth ≡ None
     fine-worth = read.1

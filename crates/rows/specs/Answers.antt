@@ -1,17 +1,10 @@
 -- What the answers about rows say, and the columns of a row list as one value. Definitions only; assumes nothing.
-use Rattle.std.specs.Prelude.{◌≡◌, ℕ, Bool, true, List, map, Float, length, replicate}
-use Rattle.std.proofs.Math.Option.{Option, none, some}
+use Rattle.std.specs.Result.{result_err}
+use Rattle.std.specs.Prelude.{◌≡◌, ℕ, Bool, true, List, map, Float, length, replicate, Option, None, Some, Result, ⊤, Ok, Err}
 use Rattle.doubles.specs.Units.{units}
 use Rattle.refusal.specs.Lent.{Lent, was}
 use Rattle.refusal.specs.declared.Reason.{Reason}
-use Rattle.rows.specs.declared.columns.RowsAnswer.{RowsAnswer}
-use Rattle.rows.specs.declared.columns.RowsAnswer.TheVariants as rows_are
 use Rattle.rows.specs.Columns.{Columns}
-
--- the reason that an answer about a row list names
-abbrev pub reason_in : RowsAnswer → Option Reason
-reason_in rows_are.Fine = none
-reason_in (rows_are.Refused r) = some r
 
 -- the lent lists as columns
 abbrev pub columns : List ℕ → List ℕ → List Bool → List Float → List ℕ → Columns

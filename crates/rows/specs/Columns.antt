@@ -1,6 +1,5 @@
 -- A row list as it is lent: a column for each part of a row. Definitions only; assumes nothing.
-use Rattle.std.specs.Prelude.{ℕ, zero, suc, Bool, false, not, ◌&&◌, ◌||◌, cond, List, [], ◌∷◌, eqb, length, get_or}
-use Rattle.std.proofs.Math.Option.{Option}
+use Rattle.std.specs.Prelude.{ℕ, zero, suc, Bool, false, not, ◌&&◌, ◌||◌, cond, List, [], ◌∷◌, eqb, length, get_or, Option}
 use Rattle.doubles.specs.Double.{Double, plus_zero}
 use Rattle.refusal.specs.declared.Fault.TheVariants as fault
 use Rattle.refusal.specs.declared.Reason.{Reason}

@@ -1,6 +1,5 @@
 -- Rows, and the first bad one. Definitions only; assumes nothing.
-use Rattle.std.specs.Prelude.{ℕ, suc, not, List, [], ◌∷◌, eqb}
-use Rattle.std.proofs.Math.Option.{Option, none, some}
+use Rattle.std.specs.Prelude.{ℕ, suc, not, List, [], ◌∷◌, eqb, Option, None, Some}
 use Rattle.doubles.specs.Double.{Double, is_finite}
 use Rattle.doubles.specs.Units.{units}
 use Rattle.refusal.specs.declared.Fault.{Fault}
@@ -43,10 +42,10 @@ token_of tab r = span_of tab r.off r.len
 -- 5: "a Unigram row's worth is no score, or a NaN or an infinity"; 6: "a WordPiece row's worth is no id, or the id
 -- 4,294,967,295"
 unfoldable pub worth_fault : Kind → Worth → Option Fault
-worth_fault Unigram (score x) = refuse (not (is_finite x)) fault.Score none
-worth_fault Unigram (id i) = some fault.Score
-worth_fault WordPiece (score x) = some fault.Id
-worth_fault WordPiece (id i) = refuse (eqb i no_id) fault.Id none
+worth_fault Unigram (score x) = refuse (not (is_finite x)) fault.Score None
+worth_fault Unigram (id i) = Some fault.Score
+worth_fault WordPiece (score x) = Some fault.Id
+worth_fault WordPiece (id i) = refuse (eqb i no_id) fault.Id None
 
 -- one row: "tested in the order 2, 3, 4, then 5 or 6"
 unfoldable pub row_fault : Kind → List ℕ → Row → Option Fault
@@ -57,6 +56,6 @@ row_fault kind tab r =
 
 -- "the first bad row", the first of these rows being row i
 unfoldable pub first_bad : Kind → List ℕ → ℕ → List Row → Option Reason
-first_bad kind tab i [] = none
+first_bad kind tab i [] = None
 first_bad kind tab i (r ∷ rs) =
-    elim (row_fault kind tab r) [ some f ↦ some (reason.Row f i) | none ↦ first_bad kind tab (suc i) rs ]
+    elim (row_fault kind tab r) [ Some f ↦ Some (reason.Row f i) | None ↦ first_bad kind tab (suc i) rs ]

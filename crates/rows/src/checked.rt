@@ -1,14 +1,14 @@
 // For callers that have tested their lists: what stands here asks for lists of one length.
+ghost use Rattle.std.specs.Result.{result_err};
 ghost use Rattle.std.specs.Prelude.{◌≡◌, ◌<◌, ◌≤◌, length};
 ghost use Rattle.refusal.specs.Sizes.{max_rows};
 ghost use Rattle.rows.specs.Rows.{row_is, first_bad};
 ghost use Rattle.rows.specs.Columns.{row_at, rows_of};
-ghost use Rattle.rows.specs.Answers.{reason_in, Level, columns_was};
+ghost use Rattle.rows.specs.Answers.{Level, columns_was};
 ghost use Rattle.refusal.specs.Lent.{was};
 
-use crate::columns::RowsAnswer;
 use crate::{Kind, Row, Worth};
-use refusal::{Judged, Reason};
+use refusal::Reason;
 
 // The row at i, of lists of one length.
 pub fn row_at(off: &[u32], len: &[u32], scored: &[bool], score: &[f64], id: &[u32], i: usize) -> Row
@@ -39,18 +39,18 @@ pub fn first_bad(
     scored: &[bool],
     score: &[f64],
     id: &[u32],
-) -> RowsAnswer
+) -> Result<(), Reason>
     requires level { Level off.now len.now scored.now score.now id.now }
     requires off_len_bound { length off.now ≤ max_rows }
-    ensures { reason_in result ≡ first_bad kind (was tab) 0 (rows_of (columns_was off len scored score id)) }
+    ensures { result_err result ≡ first_bad kind (was tab) 0 (rows_of (columns_was off len scored score id)) }
 {
     let mut i: usize = 0;
     while i < off.len() {
         let row = row_at(off, len, scored, score, id, i);
-        if let Judged::Bad(f) = crate::row_fault(kind, tab, row) {
-            return RowsAnswer::Refused(Reason::Row(f, i as u32));
+        if let Err(f) = crate::row_fault(kind, tab, row) {
+            return Err(Reason::Row(f, i as u32));
         }
         i += 1;
     }
-    RowsAnswer::Fine
+    Ok(())
 }

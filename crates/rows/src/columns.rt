@@ -1,18 +1,12 @@
 // A row list as it is lent: a column for each part of a row, judged as a whole.
+ghost use Rattle.std.specs.Result.{result_err};
 ghost use Rattle.std.specs.Prelude.{◌≡◌};
 ghost use Rattle.rows.specs.Columns.{too_large, level, columns_fault};
-ghost use Rattle.rows.specs.Answers.{reason_in, columns_was};
+ghost use Rattle.rows.specs.Answers.{columns_was};
 ghost use Rattle.refusal.specs.Lent.{was};
 
 use crate::{Kind, checked};
 use refusal::{Fault, MAX_ROWS, MAX_TABLE, Reason};
-
-// What is found of a row list.
-#[derive(Clone, Copy)]
-pub enum RowsAnswer {
-    Fine,
-    Refused(Reason),
-}
 
 // Whether there are more rows, or more bytes of string table, than a list may have.
 pub fn is_large(rows: usize, table: usize) -> bool
@@ -51,14 +45,14 @@ pub fn judge(
     scored: &[bool],
     score: &[f64],
     id: &[u32],
-) -> RowsAnswer
-    ensures { reason_in result ≡ columns_fault kind (was tab) (columns_was off len scored score id) }
+) -> Result<(), Reason>
+    ensures { result_err result ≡ columns_fault kind (was tab) (columns_was off len scored score id) }
 {
     if is_large(off.len(), tab.len()) {
-        return RowsAnswer::Refused(Reason::Call(Fault::Size));
+        return Err(Reason::Call(Fault::Size));
     }
     if !is_level(off, len, scored, score, id) {
-        return RowsAnswer::Refused(Reason::Call(Fault::Size));
+        return Err(Reason::Call(Fault::Size));
     }
     checked::first_bad(kind, tab, off, len, scored, score, id)
 }

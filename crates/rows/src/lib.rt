@@ -1,7 +1,8 @@
 // The rows of a vocabulary: a token's span in the string table and its worth, and which row is the first bad one.
 #![tactic(auto)]
 
-use refusal::{Fault, Judged, MAX_TOKEN, NO_ID};
+ghost use Rattle.std.specs.Result.{result_err};
+use refusal::{Fault, MAX_TOKEN, NO_ID};
 
 mod checked;
 pub mod columns;
@@ -9,7 +10,6 @@ pub mod scores;
 
 ghost use Rattle.std.specs.Prelude.{◌≡◌};
 ghost use Rattle.rows.specs.Rows.{worth_is, row_is, worth_fault, row_fault};
-ghost use Rattle.refusal.specs.Refusal.{fault_in};
 ghost use Rattle.rows.specs.declared.Kind.TheVariants.{Unigram, WordPiece};
 ghost use Rattle.refusal.specs.Lent.{was};
 
@@ -36,47 +36,45 @@ pub struct Row {
 }
 
 // A Unigram row's worth is a score, and finite.
-fn score_fault(worth: Worth) -> Judged
-    ensures { fault_in result ≡ worth_fault Unigram (worth_is worth) }
+fn score_fault(worth: Worth) -> Result<(), Fault>
+    ensures { result_err result ≡ worth_fault Unigram (worth_is worth) }
 {
     let Worth::Score(x) = worth else {
-        return Judged::Bad(Fault::Score);
+        return Err(Fault::Score);
     };
     if doubles::is_finite(x) {
-        return Judged::Fine;
+        return Ok(());
     }
-    Judged::Bad(Fault::Score)
+    Err(Fault::Score)
 }
 
 // A WordPiece row's worth is an id, and not the mark for none.
-fn id_fault(worth: Worth) -> Judged
-    ensures { fault_in result ≡ worth_fault WordPiece (worth_is worth) }
+fn id_fault(worth: Worth) -> Result<(), Fault>
+    ensures { result_err result ≡ worth_fault WordPiece (worth_is worth) }
 {
     let Worth::Id(i) = worth else {
-        return Judged::Bad(Fault::Id);
+        return Err(Fault::Id);
     };
     if i == NO_ID {
-        return Judged::Bad(Fault::Id);
+        return Err(Fault::Id);
     }
-    Judged::Fine
+    Ok(())
 }
 
 // One row's fault: its span, its length, its text, then its worth.
-pub fn row_fault(kind: Kind, tab: &[u8], row: Row) -> Judged
-    ensures { fault_in result ≡ row_fault kind (was tab) (row_is row) }
+pub fn row_fault(kind: Kind, tab: &[u8], row: Row) -> Result<(), Fault>
+    ensures { result_err result ≡ row_fault kind (was tab) (row_is row) }
 {
     let off = row.off;
     let len = row.len;
     if text::is_outside(tab, off, len) {
-        return Judged::Bad(Fault::Span);
+        return Err(Fault::Span);
     }
     if MAX_TOKEN < len {
-        return Judged::Bad(Fault::Token);
+        return Err(Fault::Token);
     }
     let token = text::checked::span(tab, off, len);
-    if let Judged::Bad(f) = text::utf8::judge(token) {
-        return Judged::Bad(f);
-    }
+    text::utf8::judge(token)?;
     let worth = row.worth;
     match kind {
         Kind::Unigram => score_fault(worth),

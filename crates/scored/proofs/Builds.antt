@@ -1,10 +1,10 @@
 -- What the build of Unigram rows in columns promises: the room, that of the score column too, decides; what the core says of
 -- its rows is said of the columns' rows; and the score column, filled by the ids of the nodes, is that of the rows. Assumes
 -- nothing.
+use Rattle.std.specs.Prelude.{Option, None, Some, unwrap_or, Err, ℕ}
 use mathlib.Core.Path.{◌≡◌, refl, sym, ap, ◌∙◌}
 use mathlib.Core.Bool.{Bool}
 use mathlib.Core.List.{List, [], ◌∷◌, map}
-use mathlib.Core.Option.{Option, none, some, get_or}
 use Prim.Native.Nat.{ℕ, ◌≤◌, ◌<◌, min}
 use native.Mathlib.Omega.{arith}
 use lib.Dec.{ltb}
@@ -25,8 +25,6 @@ use Rattle.rows.specs.Answers.{columns}
 use Rattle.rows.specs.Scores.{unknown_score}
 use Rattle.rows.proofs.ListFaults.{columns-level, unigram-row}
 use Rattle.rows.proofs.RowLists.{rows-length, rows_at, level-score, get_or-map-inside}
-use Rattle.build.specs.declared.Built as core
-use Rattle.build.specs.declared.Built.TheVariants.{Nodes, NoRoom}
 use Rattle.build.specs.Names.{names}
 use Rattle.build.specs.Parts.{lay, trie_of}
 use Rattle.build.specs.Rules.{tokens_of, first_row, score_of, scores_of, node_score_of, unigram_trie, unigram_scores}
@@ -39,14 +37,13 @@ use Rattle.build.proofs.Outcomes.{core-fits, core-room}
 use Rattle.build.proofs.Judging.{few-rows, nodes-small, columns-built}
 use Rattle.build.proofs.Promises.{core-short, core-left, core-held}
 use Rattle.build.proofs.Sounds.{length-id}
-use Rattle.scored.specs.declared.BuildAnswer.TheVariants as answer-is
 use Rattle.scored.specs.Build.{Report, report_of, told, Built}
 use Rattle.scored.specs.NodeScores.{row_score, filled_scores}
 
 -- ---- the scores
 
 -- the rows' scores are the score column
-pub scores-are : (tab : List ℕ) (c : Columns) → columns_fault Unigram tab c ≡ none → scores_of (rows_of c) ≡ c.score
+pub scores-are : (tab : List ℕ) (c : Columns) → columns_fault Unigram tab c ≡ None → scores_of (rows_of c) ≡ c.score
 unfolding scores_of score_of
 scores-are tab c fine =
     let rows = rows_of c in
@@ -61,8 +58,8 @@ scores-are tab c fine =
 -- a node's score by its id: past all scores stands the mark for none
 node-score : (scores : List Double) → length scores ≤ no_id → (o : Option ℕ) → row_score scores (get_or o no_id) ≡ node_score_of scores o
 unfolding node_score_of
-node-score scores h none = get_or-eq_default scores plus_zero h
-node-score scores h (some i) = refl
+node-score scores h None = get_or-eq_default scores plus_zero h
+node-score scores h (Some i) = refl
 
 map_both : {A : Type 0} (f : ℕ → Double) (g : A → ℕ) (h : A → Double) → ((a : A) → f (g a) ≡ h a) → (xs : List A) → map f (map g xs) ≡ map h xs
 map_both f g h e [] = refl
@@ -102,8 +99,8 @@ pub record Placed (n k : ℕ) (m : Memory) : Type 0 where
   pub small : n ≤ 4_294_967_295
 
 pub nodes-placed :
-    {kind : Kind} {tab : List ℕ} {rows : List Row} {m after : Memory} {room n : ℕ} {answer : core.Built} (xs : List Float)
-    → room ≡ min (room_of m) (length xs) → BuiltOf kind tab rows room m after answer → answer ≡ Nodes n → Placed n (length xs) m
+    {kind : Kind} {tab : List ℕ} {rows : List Row} {m after : Memory} {room n : ℕ} {answer : (Option ℕ)} (xs : List Float)
+    → room ≡ min (room_of m) (length xs) → BuiltOf kind tab rows room m after answer → answer ≡ Some n → Placed n (length xs) m
 nodes-placed {m = m} xs r d e =
     let same = r ∙ ap (min (room_of m)) (sym (length-map xs units)) in
     let every = (room_for m _ (scored-room m (map units xs) same)).roomy in
@@ -115,7 +112,7 @@ nodes-placed {m = m} xs r d e =
     }
 
 module _ (tab off len : List ℕ) (score : List Float) (ids : List ℕ) (m after : Memory) (before : List Float) {room : ℕ}
-    (r : room ≡ min (room_of m) (length before)) (flags : List Bool) (fine : columns_fault Unigram tab (columns off len flags score ids) ≡ none)
+    (r : room ≡ min (room_of m) (length before)) (flags : List Bool) (fine : columns_fault Unigram tab (columns off len flags score ids) ≡ None)
   where
     abbrev c : Columns
     c = columns off len flags score ids
@@ -133,13 +130,13 @@ module _ (tab off len : List ℕ) (score : List Float) (ids : List ℕ) (m after
         (omega (arith, nodes-small Unigram tab c fine))
 
     pub lists-full :
-        {answer : core.Built} {ys : List Double} → BuiltOf Unigram tab (given off len ids) room m after answer → answer ≡ NoRoom → ys ≡ zero_scores was
-        → Built tab c (with_scores m was) (answer-is.Refused (reason.Call fault.Room)) (with_scores after ys)
+        {answer : (Option ℕ)} {ys : List Double} → BuiltOf Unigram tab (given off len ids) room m after answer → answer ≡ None → ys ≡ zero_scores was
+        → Built tab c (with_scores m was) (Err (reason.Call fault.Room)) (with_scores after ys)
     unfolding told
     lists-full {ys = ys} d e s = core-short Unigram tab rows (report_of tab rows) m after was ys (columns-built Unigram tab c fine d) fine decides e s
 
     pub lists-built :
-        {answer : core.Built} {n : ℕ} {said : Told Report} {ys : List Double} → BuiltOf Unigram tab (given off len ids) room m after answer → answer ≡ Nodes n
+        {answer : (Option ℕ)} {n : ℕ} {said : Told Report} {ys : List Double} → BuiltOf Unigram tab (given off len ids) room m after answer → answer ≡ Some n
         → said ≡ built (record { nodes = n; unknown = unknown_score (map units score) }) → ys ≡ filled_scores (map units score) (take n after.parts.id) was
         → Promised Unigram tab rows (columns_fault Unigram tab c) (no_scored_room (nodes_of tab rows) (with_scores m was)) (report_of tab rows) (with_scores m was) said (with_scores after ys)
     lists-built {n = n} {ys = ys} d e t s =

@@ -1,9 +1,9 @@
 -- The promise of `build` fixes what it answers and what it leaves. Scores are promised as doubles, of which the format has one
 -- value each, so that the answer and the score column themselves are fixed too.
+use Rattle.std.specs.Prelude.{None, Some, Result, Ok, Err, ℕ}
 use mathlib.Core.Path.{◌≡◌, ap, ap₂}
 use mathlib.Core.Bool.{Bool, true}
 use mathlib.Core.Logic.{◌↔◌}
-use mathlib.Core.Option.{none, some}
 use Prim.Native.Nat.{ℕ}
 use mathlib.Core.List.{List, [], map}
 use lib.Dec.{T}
@@ -20,22 +20,20 @@ use Rattle.build.specs.Memory.{Memory, with_scores, no_scored_room}
 use Rattle.build.specs.Checked.{nodes_of}
 use Rattle.build.specs.Promise.{Told, built, refused, build_fault}
 use Rattle.build.proofs.Promises.{promised-once, refused-exactly, accepted-exactly}
-use Rattle.scored.specs.declared.BuildAnswer.{BuildAnswer}
-use Rattle.scored.specs.declared.BuildAnswer.TheVariants as answer-is
 use Rattle.scored.specs.Build.{Report, report_of, told, Built}
 
 -- the score that an answer has is one that the format holds, as every `f64` is
-abbrev pub held_in : BuildAnswer → Bool
-held_in (answer-is.Built s) = held s.unknown_score
-held_in (answer-is.Refused r) = true
+abbrev pub held_in : Result Summary Reason → Bool
+held_in (Ok s) = held s.unknown_score
+held_in (Err r) = true
 
 -- an answer is known by what it tells
-pub told-known : (a b : BuildAnswer) → T (held_in a) → T (held_in b) → told a ≡ told b → a ≡ b
+pub told-known : (a b : Result Summary Reason) → T (held_in a) → T (held_in b) → told a ≡ told b → a ≡ b
 unfolding told
-told-known (answer-is.Built s) (answer-is.Built t) h k e =
+told-known (Ok s) (Ok t) h k e =
     let n : s.nodes ≡ t.nodes = ap (nodes-in 0) e in
     let x : units s.unknown_score ≡ units t.unknown_score = ap (unknown-in (units s.unknown_score)) e in
-    ap₂ (λ (n : ℕ) (x : Float). answer-is.Built (record { nodes = n; unknown_score = x })) n
+    ap₂ (λ (n : ℕ) (x : Float). Ok (record { nodes = n; unknown_score = x })) n
     (units-injective s.unknown_score t.unknown_score h k x)
   where
     nodes-in : ℕ → Told Report → ℕ
@@ -45,13 +43,13 @@ told-known (answer-is.Built s) (answer-is.Built t) h k e =
     unknown-in : Double → Told Report → Double
     unknown-in d (built r) = r.unknown
     unknown-in d (refused r) = d
-told-known (answer-is.Built s) (answer-is.Refused r) h k e = cc
-told-known (answer-is.Refused r) (answer-is.Built t) h k e = cc
-told-known (answer-is.Refused q) (answer-is.Refused r) h k e = let same : q ≡ r = cc in ap answer-is.Refused same
+told-known (Ok s) (Err r) h k e = cc
+told-known (Err r) (Ok t) h k e = cc
+told-known (Err q) (Err r) h k e = let same : q ≡ r = cc in ap Err same
 
 -- `build` on the same rows and memory: one answer, and one content of every lent column. That the format holds the scores is so
 -- of every column.
-module _ (tab : List ℕ) (c : Columns) (m m₁ m₂ : Memory) (a b : BuildAnswer) (x₁ x₂ : List Float)
+module _ (tab : List ℕ) (c : Columns) (m m₁ m₂ : Memory) (a b : Result Summary Reason) (x₁ x₂ : List Float)
     (p : Built tab c m a (with_scores m₁ (map units x₁))) (q : Built tab c m b (with_scores m₂ (map units x₂)))
     (h : T (held_in a)) (k : T (held_in b)) (h₁ : T (all_held x₁)) (h₂ : T (all_held x₂)) where
   pub built-once : (a ≡ b) × (with_scores m₁ [] ≡ with_scores m₂ []) × (x₁ ≡ x₂)
@@ -64,20 +62,20 @@ module _ (tab : List ℕ) (c : Columns) (m m₁ m₂ : Memory) (a b : BuildAnswe
 
 -- "exactly when", both ways: a build is refused with r exactly when r is its fault, and says N and the unknown score exactly
 -- when there is none
-pub told-refused : (b : BuildAnswer) (r : Reason) → (b ≡ answer-is.Refused r) ↔ (told b ≡ refused r)
+pub told-refused : (b : Result Summary Reason) (r : Reason) → (b ≡ Err r) ↔ (told b ≡ refused r)
 unfolding told
 told-refused b r = (λ e. ap told e, says b)
   where
-    says : (b : BuildAnswer) → told b ≡ refused r → b ≡ answer-is.Refused r
-    says (answer-is.Built s) e = absurd (zero_one cc)
-    says (answer-is.Refused q) e = let same : q ≡ r = cc in ap answer-is.Refused same
+    says : (b : Result Summary Reason) → told b ≡ refused r → b ≡ Err r
+    says (Ok s) e = absurd (zero_one cc)
+    says (Err q) e = let same : q ≡ r = cc in ap Err same
 
-module _ (tab : List ℕ) (c : Columns) (m : Memory) (answer : BuildAnswer) (after : Memory) (p : Built tab c m answer after) where
-  pub build-refused-exactly : (r : Reason) → (answer ≡ answer-is.Refused r) ↔ (build_fault (columns_fault Unigram tab c) (no_scored_room (nodes_of tab (rows_of c)) m) ≡ some r)
+module _ (tab : List ℕ) (c : Columns) (m : Memory) (answer : Result Summary Reason) (after : Memory) (p : Built tab c m answer after) where
+  pub build-refused-exactly : (r : Reason) → (answer ≡ Err r) ↔ (build_fault (columns_fault Unigram tab c) (no_scored_room (nodes_of tab (rows_of c)) m) ≡ Some r)
   build-refused-exactly r =
       let one = told-refused answer r in
       let two = refused-exactly p r in
       (λ q. two.0 (one.0 q), λ e. one.1 (two.1 e))
 
-  pub build-accepted-exactly : (told answer ≡ built (report_of tab (rows_of c))) ↔ (build_fault (columns_fault Unigram tab c) (no_scored_room (nodes_of tab (rows_of c)) m) ≡ none)
+  pub build-accepted-exactly : (told answer ≡ built (report_of tab (rows_of c))) ↔ (build_fault (columns_fault Unigram tab c) (no_scored_room (nodes_of tab (rows_of c)) m) ≡ None)
   build-accepted-exactly = accepted-exactly p

@@ -1,5 +1,5 @@
 -- What `scored::build` promises: the promise of every build, of Unigram rows in columns. Definitions only; assumes nothing.
-use Rattle.std.specs.Prelude.{ℕ, List}
+use Rattle.std.specs.Prelude.{ℕ, List, Result, Ok, Err}
 use Rattle.doubles.specs.Double.{Double}
 use Rattle.doubles.specs.Units.{units}
 use Rattle.rows.specs.declared.Kind.TheVariants as kind
@@ -10,8 +10,6 @@ use Rattle.build.specs.Rules.{scores_of}
 use Rattle.build.specs.Checked.{nodes_of}
 use Rattle.build.specs.Memory.{Memory, no_scored_room}
 use Rattle.build.specs.Promise.{Told, built, refused, Promised}
-use Rattle.scored.specs.declared.BuildAnswer.{BuildAnswer}
-use Rattle.scored.specs.declared.BuildAnswer.TheVariants as answer-is
 
 -- "a summary: N and, for Unigram, the unknown score"
 pub record Report : Type 0 where
@@ -21,12 +19,12 @@ pub record Report : Type 0 where
 abbrev pub report_of : List ℕ → List Row → Report
 report_of tab rows = record { nodes = nodes_of tab rows; unknown = unknown_score (scores_of rows) }
 
-unfoldable pub told : BuildAnswer → Told Report
-told (answer-is.Built s) = built (record { nodes = s.nodes; unknown = units s.unknown_score })
-told (answer-is.Refused r) = refused r
+unfoldable pub told : Result Summary Reason → Told Report
+told (Ok s) = built (record { nodes = s.nodes; unknown = units s.unknown_score })
+told (Err r) = refused r
 
 -- What `build` promises of its answer and of the memory lent to it, before and after.
-abbrev pub Built : List ℕ → Columns → Memory → BuildAnswer → Memory → Type 0
+abbrev pub Built : List ℕ → Columns → Memory → Result Summary Reason → Memory → Type 0
 Built tab c before answer after =
     let rows = rows_of c in
     Promised kind.Unigram tab rows (columns_fault kind.Unigram tab c) (no_scored_room (nodes_of tab rows) before)

@@ -1,6 +1,5 @@
 // The build of fine rows, for a layer above that has found no fault in them.
-ghost use Rattle.std.specs.Prelude.{◌≡◌, min, length};
-ghost use Rattle.std.proofs.Math.Option.{none};
+ghost use Rattle.std.specs.Prelude.{◌≡◌, min, length, None};
 ghost use Rattle.rows.specs.declared.Kind.TheVariants.{Unigram};
 ghost use Rattle.rows.specs.Columns.{columns_fault};
 ghost use Rattle.rows.specs.Answers.{scored_columns, scored_was};
@@ -50,7 +49,7 @@ pub fn build_rows(
     to: &mut [u32],
     work: &mut [u32],
 ) -> BuildAnswer
-    requires { columns_fault Unigram tab.now (scored_columns off.now len.now score.now id.now) ≡ none }
+    requires { columns_fault Unigram tab.now (scored_columns off.now len.now score.now id.now) ≡ None }
     ensures { promise.Built (was tab) (scored_was off len score id)
         (scored_memory_was edge_at edge_n node_id node_score byte to work) result
         (scored_memory_is edge_at edge_n node_id node_score byte to work) }

@@ -3,7 +3,6 @@
 
 use refusal::Reason;
 use rows::Kind;
-use rows::columns::RowsAnswer;
 
 pub mod checked;
 pub mod scores;
@@ -18,13 +17,6 @@ ghost use Rattle.refusal.specs.Lent.{was};
 pub struct Summary {
     pub nodes: u32,
     pub unknown_score: f64,
-}
-
-// What `build` answers.
-#[derive(Clone, Copy)]
-pub enum BuildAnswer {
-    Built(Summary),
-    Refused(Reason),
 }
 
 // The trie of the rows, in the lent columns. Refused are sizes above their limits or lists of unequal length, then the first
@@ -44,16 +36,13 @@ pub fn build(
     byte: &mut [u8],
     to: &mut [u32],
     work: &mut [u32],
-) -> BuildAnswer
+) -> Result<Summary, Reason>
     ensures { promise.Built (was tab) (columns_was off len scored score id)
         (scored_memory_was edge_at edge_n node_id node_score byte to work) result
         (scored_memory_is edge_at edge_n node_id node_score byte to work) }
 {
-    let found = rows::columns::judge(Kind::Unigram, tab, off, len, scored, score, id);
-    match found {
-        RowsAnswer::Refused(r) => BuildAnswer::Refused(r),
-        RowsAnswer::Fine => checked::build_rows(
-            tab, off, len, score, id, edge_at, edge_n, node_id, node_score, byte, to, work,
-        ),
-    }
+    rows::columns::judge(Kind::Unigram, tab, off, len, scored, score, id)?;
+    checked::build_rows(
+        tab, off, len, score, id, edge_at, edge_n, node_id, node_score, byte, to, work,
+    )
 }

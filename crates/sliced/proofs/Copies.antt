@@ -1,10 +1,10 @@
 -- The promise of `build_rows`, from what its steps promise. Rows without a fault that were put in the columns are the rows of
 -- the first places, so that what is built from these is what the rows ask for; where there is a fault or too little room,
 -- nothing was put. Assumes nothing.
+use Rattle.std.specs.Prelude.{Option, None, Some, Result, Err, ℕ}
 use mathlib.Core.Path.{◌≡◌, refl, sym, ap, ◌∙◌, subst}
 use mathlib.Core.Bool.{Bool, true, false, ◌||◌, cond}
 use mathlib.Core.List.{List, [], ◌∷◌, map}
-use mathlib.Core.Option.{Option, none, some}
 use Prim.Native.Nat.{ℕ, zero, suc, ◌≤◌, ◌<◌}
 use native.Mathlib.Omega.{arith}
 use borrow.Author.Tests.{ltb-false, eq-eqb}
@@ -34,8 +34,6 @@ use Rattle.build.specs.Checked.{nodes_of}
 use Rattle.build.specs.Memory.{Memory, any_below, no_scored_room, cleared, zero_scores, leaves}
 use Rattle.build.specs.Promise.{build_fault, Promised}
 use Rattle.build.proofs.Promises.{fault-found, fault-left, built-bad, built-short, refused-moved}
-use Rattle.scored.specs.declared.BuildAnswer.{BuildAnswer}
-use Rattle.scored.specs.declared.BuildAnswer.TheVariants as answer-is
 use Rattle.scored.specs.Build.{report_of, told}
 use Rattle.sliced.specs.BuildRows.{RowPlaces, row_places, zero_rows, short_of, rows_judged, short_for, PlacesBuilt, RowsBuilt}
 use Rattle.sliced.specs.Copied.{put_row, first_places, RowsCopied}
@@ -147,7 +145,7 @@ module _ (rs : List Row) (off len : List ℕ) (scores : List Float) (start : Row
 
 -- ---- rows without a fault
 
-worth-scored : (w : Worth) → worth_fault Unigram w ≡ none → score (score_of w) ≡ w
+worth-scored : (w : Worth) → worth_fault Unigram w ≡ None → score (score_of w) ≡ w
 unfolding worth_fault score_of
 worth-scored (score x) e = refl
 worth-scored (id i) e = absurd (zero_one cc)
@@ -155,8 +153,8 @@ worth-scored (id i) e = absurd (zero_one cc)
 no_row : Row
 no_row = record { off = 0; len = 0; worth = id 0 }
 
-module _ (tab : List ℕ) (rs : List Row) (fine : rows_judged tab rs ≡ none) where
-  sizes : (too_large (length rs) (length tab) ≡ false) × (first_bad Unigram tab 0 rs ≡ none)
+module _ (tab : List ℕ) (rs : List Row) (fine : rows_judged tab rs ≡ None) where
+  sizes : (too_large (length rs) (length tab) ≡ false) × (first_bad Unigram tab 0 rs ≡ None)
   unfolding rows_judged
   sizes = passed (too_large (length rs) (length tab)) (reason.Call fault.Size) (first_bad Unigram tab 0 rs) fine
 
@@ -194,7 +192,7 @@ module _ (tab : List ℕ) (rs : List Row) (fine : rows_judged tab rs ≡ none) w
       rw (eq-eqb _ _ (l ∙ sym k), eq-eqb _ _ (f ∙ sym k), eq-eqb _ _ (s ∙ sym k), eq-eqb (length (map (λ (r : Row). r.off) rs)) (length (map (λ (r : Row). r.off) rs)) refl)
 
   -- and have no fault
-  columns-fine : columns_fault Unigram tab (columns_for rs) ≡ none
+  columns-fine : columns_fault Unigram tab (columns_for rs) ≡ None
   unfolding columns_for
   columns-fine =
       within-sizes Unigram tab (columns_for rs) (ap (λ (k : ℕ). too_large k (length tab)) (length-map rs (λ (r : Row). r.off)) ∙ sizes.0) flat
@@ -202,12 +200,12 @@ module _ (tab : List ℕ) (rs : List Row) (fine : rows_judged tab rs ≡ none) w
       ∙ sizes.1
 
 -- no fault of rows is 7
-judged-number : (tab : List ℕ) (rs : List Row) (r : Reason) → rows_judged tab rs ≡ some r → eqb (number_of r) 7 ≡ false
+judged-number : (tab : List ℕ) (rs : List Row) (r : Reason) → rows_judged tab rs ≡ Some r → eqb (number_of r) 7 ≡ false
 unfolding rows_judged
 judged-number tab rs r e = sized-not-room _ _ (bad-not-room Unigram tab 0 rs) e
 
 -- after success and after 7 the zeros stand
-zeros : {A : Type 0} (none_left before : A) (t : Bool) → none_left ≡ leaves (refuse t (reason.Call fault.Room) none) none_left none_left before
+zeros : {A : Type 0} (none_left before : A) (t : Bool) → none_left ≡ leaves (refuse t (reason.Call fault.Room) None) none_left none_left before
 unfolding leaves refuse
 zeros none_left before true = refl
 zeros none_left before false = refl
@@ -219,12 +217,12 @@ module _ (n : ℕ) (tab : List ℕ) (rows : List Row) (lent : RowPlaces) (m : Me
   short = short_for n tab rows lent m
 
   -- the places of the rows, where nothing was found
-  pub zeros-left : {o : Option Reason} → o ≡ none → zero_rows lent ≡ leaves (build_fault o (short_for n tab rows lent m)) (zero_rows lent) (zero_rows lent) lent
+  pub zeros-left : {o : Option Reason} → o ≡ None → zero_rows lent ≡ leaves (build_fault o (short_for n tab rows lent m)) (zero_rows lent) (zero_rows lent) lent
   zeros-left {o = o} e =
       zeros (zero_rows lent) lent short ∙ sym (ap (λ (f : Option Reason). leaves f (zero_rows lent) (zero_rows lent) lent) (fault-left o short e refl))
 
   pub copied-bad :
-      {o : Option Reason} {r : Reason} → o ≡ some r → eqb (number_of r) 7 ≡ false → PlacesBuilt o n tab rows lent m (answer-is.Refused r) lent m
+      {o : Option Reason} {r : Reason} → o ≡ Some r → eqb (number_of r) 7 ≡ false → PlacesBuilt o n tab rows lent m (Err r) lent m
   unfolding told leaves
   copied-bad {o = o} e p =
       record {
@@ -236,21 +234,21 @@ module _ (n : ℕ) (tab : List ℕ) (rows : List Row) (lent : RowPlaces) (m : Me
       }
 
   pub copied-short :
-      {o : Option Reason} {answer : BuildAnswer} {lent_after : RowPlaces} {after : Memory} → o ≡ none → short_of n lent ≡ true
-      → answer ≡ answer-is.Refused (reason.Call fault.Room) → lent_after ≡ zero_rows lent → after ≡ cleared m
+      {o : Option Reason} {answer : Result Summary Reason} {lent_after : RowPlaces} {after : Memory} → o ≡ None → short_of n lent ≡ true
+      → answer ≡ Err (reason.Call fault.Room) → lent_after ≡ zero_rows lent → after ≡ cleared m
       → PlacesBuilt o n tab rows lent m answer lent_after after
   unfolding told
   copied-short {o = o} {after = after} e p a l k =
       record {
         built =
-            subst (λ (x : BuildAnswer). Promised Unigram tab rows o short (report_of tab rows) m (told x) after) (sym a)
+            subst (λ (x : Result Summary Reason). Promised Unigram tab rows o short (report_of tab rows) m (told x) after) (sym a)
             (built-short Unigram tab rows (report_of tab rows) m e (ap (λ (t : Bool). t || no_scored_room (nodes_of tab rows) m) p) k);
         places = l ∙ zeros-left e;
       }
 
   -- rows that were judged elsewhere too, and have room
   pub copied-built :
-      {o q : Option Reason} {answer : BuildAnswer} {lent_after : RowPlaces} {after : Memory} → o ≡ none → short_of n lent ≡ false → q ≡ none
+      {o q : Option Reason} {answer : Result Summary Reason} {lent_after : RowPlaces} {after : Memory} → o ≡ None → short_of n lent ≡ false → q ≡ None
       → Promised Unigram tab rows q (no_scored_room (nodes_of tab rows) m) (report_of tab rows) m (told answer) after → lent_after ≡ zero_rows lent
       → PlacesBuilt o n tab rows lent m answer lent_after after
   copied-built {q = q} {answer = answer} {after = after} e p fine b l =
@@ -280,11 +278,11 @@ module _ (tab : List ℕ) (rs : List Row) (off len off₁ len₁ : List ℕ) (sc
     c = first_places n' off₁ len₁ scores₁
 
     -- where something was found, or the columns are short, nothing was put; and else all were
-    found_none : {r : Reason} → o ≡ some r → lent₁ ≡ lent
+    found_none : {r : Reason} → o ≡ Some r → lent₁ ≡ lent
     unfolding put_all
     found_none e = put ∙ ap (λ (x : Option Reason). put_all n' x 0 rs lent) e
 
-    by-short : o ≡ none → {t : Bool} → short_of n' lent ≡ t → lent₁ ≡ cond t lent (put_rows lent 0 rs)
+    by-short : o ≡ None → {t : Bool} → short_of n' lent ≡ t → lent₁ ≡ cond t lent (put_rows lent 0 rs)
     unfolding put_all
     by-short e p = put ∙ ap (λ (x : Option Reason). put_all n' x 0 rs lent) e ∙ ap (λ (t : Bool). cond t lent
         (put_rows lent 0 rs)) p
@@ -292,11 +290,11 @@ module _ (tab : List ℕ) (rs : List Row) (off len off₁ len₁ : List ℕ) (sc
     -- what all that were put are
     record Whole : Type 0 where
       are : rows_of c ≡ rs
-      fine : columns_fault Unigram tab c ≡ none
+      fine : columns_fault Unigram tab c ≡ None
       zeros : zero_rows lent₁ ≡ zero_rows lent
       roomy : short_of n' lent₁ ≡ false
 
-    all_there : o ≡ none → short_of n' lent ≡ false → Whole
+    all_there : o ≡ None → short_of n' lent ≡ false → Whole
     all_there e p =
         let h = all_hold n' off len scores p in
         let w = by-short e p in
@@ -311,7 +309,7 @@ module _ (tab : List ℕ) (rs : List Row) (off len off₁ len₁ : List ℕ) (sc
         }
 
     -- where there is room for the rows after the copy there was room before
-    room-before : o ≡ none → (t : Bool) → short_of n' lent ≡ t → short_of n' lent₁ ≡ false → short_of n' lent ≡ false
+    room-before : o ≡ None → (t : Bool) → short_of n' lent ≡ t → short_of n' lent₁ ≡ false → short_of n' lent ≡ false
     room-before e false p q = p
     room-before e true p q = sym (ap (short_of n') (by-short e p)) ∙ q
 
@@ -322,7 +320,7 @@ module _ (tab : List ℕ) (rs : List Row) (off len off₁ len₁ : List ℕ) (sc
           fine = λ e p. (all_there e (room-before e (short_of n' lent) refl p)).fine;
         }
 
-    module _ (m : Memory) {answer : BuildAnswer} {lent_after : RowPlaces} {after : Memory}
+    module _ (m : Memory) {answer : Result Summary Reason} {lent_after : RowPlaces} {after : Memory}
         (b : PlacesBuilt o (length rs) tab (rows_of (first_places (length rs) off₁ len₁ scores₁)) (row_places off₁ len₁ scores₁) m answer lent_after after)
       where
         abbrev Aim : Type 0
@@ -335,17 +333,17 @@ module _ (tab : List ℕ) (rs : List Row) (off len off₁ len₁ : List ℕ) (sc
         short-all = short_for n' tab rs lent m
 
         -- a refusal: nothing was put
-        refused : {r : Reason} → build_fault o short-first ≡ some r → build_fault (rows_judged tab rs) short-all ≡ some r → lent₁ ≡ lent → Aim
+        refused : {r : Reason} → build_fault o short-first ≡ Some r → build_fault (rows_judged tab rs) short-all ≡ Some r → lent₁ ≡ lent → Aim
         refused {r = r} p q same =
             record {
               built = refused-moved rs (rows_judged tab rs) short-all (report_of tab rs) p q b.built;
               places =
                   b.places ∙ ap (λ (f : Option Reason). leaves f (zero_rows lent₁) (zero_rows lent₁) lent₁) p
-                  ∙ ap (λ (l : RowPlaces). leaves (some r) (zero_rows l) (zero_rows l) l) same
+                  ∙ ap (λ (l : RowPlaces). leaves (Some r) (zero_rows l) (zero_rows l) l) same
                   ∙ sym (ap (λ (f : Option Reason). leaves f (zero_rows lent) (zero_rows lent) lent) q);
             }
 
-        by-room : o ≡ none → (t : Bool) → short_of n' lent ≡ t → Aim
+        by-room : o ≡ None → (t : Bool) → short_of n' lent ≡ t → Aim
         unfolding refuse
         by-room e true p =
             let same = by-short e p in
@@ -366,7 +364,7 @@ module _ (tab : List ℕ) (rs : List Row) (off len off₁ len₁ : List ℕ) (sc
         rows-built = by-found o refl
           where
             by-found : (x : Option Reason) → o ≡ x → Aim
-            by-found (some r) e =
+            by-found (Some r) e =
                 refused (fault-found o short-first e) (fault-found (rows_judged tab rs) short-all (sym judged ∙ e))
                 (found_none e)
-            by-found none e = by-room e (short_of n' lent) refl
+            by-found None e = by-room e (short_of n' lent) refl

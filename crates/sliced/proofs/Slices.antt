@@ -1,10 +1,11 @@
 -- The turns of `build_rows` over a slice of rows, as laws of their definitions: what is found turn by turn is what `rows_judged`
 -- says of all rows, and then each row is put at its place, where nothing was found and there is room. Assumes nothing.
+use Rattle.std.specs.Result.{result_err}
+use Rattle.std.specs.Prelude.{Option, None, Some, Result, ⊤, Ok, Err, ℕ}
 use mathlib.Core.Path.{◌≡◌, refl, sym, ap, ◌∙◌}
 use mathlib.Core.Bool.{Bool, true, false, ◌||◌, cond}
 use mathlib.Core.List.{List, [], ◌∷◌, ◌++◌, map}
 use mathlib.Core.Logic.{⊎_elim}
-use mathlib.Core.Option.{Option, none, some}
 use Prim.Native.Nat.{ℕ, suc, ◌+◌, ◌-◌, ◌%◌, ◌≤◌, ◌<◌}
 use native.Mathlib.Nat.{mod-eq_of_lt, mod-eq-sub-mod}
 use native.Mathlib.Numerals.{add-one}
@@ -21,18 +22,13 @@ use Rattle.refusal.specs.declared.Fault.TheVariants as fault
 use Rattle.refusal.specs.declared.Reason.{Reason}
 use Rattle.refusal.specs.declared.Reason.TheVariants as reason
 use Rattle.refusal.specs.Sizes.{max_rows}
-use Rattle.refusal.specs.Refusal.{refuse, first, fault_in}
+use Rattle.refusal.specs.Refusal.{refuse, first}
 use Rattle.refusal.proofs.Tests.{passed}
-use Rattle.refusal.specs.declared.Judged.{Judged}
-use Rattle.refusal.specs.declared.Judged.TheVariants as row_same
-use Rattle.rows.specs.declared.columns.RowsAnswer.{RowsAnswer}
-use Rattle.rows.specs.declared.columns.RowsAnswer.TheVariants as rows_are
 use Rattle.rows.specs.declared.Kind.TheVariants.{Unigram}
 use Rattle.rows.specs.declared.Row as code_row
 use Rattle.rows.specs.declared.Worth.TheVariants as code-worth-is
 use Rattle.rows.specs.Rows.{Row, row_is, worth_is, row_fault, first_bad}
 use Rattle.rows.specs.Columns.{too_large}
-use Rattle.rows.specs.Answers.{reason_in}
 use Rattle.rows.proofs.ListFaults.{within-limits}
 use Rattle.build.specs.Rules.{score_of}
 use Rattle.build.specs.Memory.{any_below}
@@ -47,26 +43,26 @@ at_last false = refl
 -- ---- the sizes
 
 abbrev pub size_fault : ℕ → ℕ → Option Reason
-size_fault n t = refuse (too_large n t) (reason.Call fault.Size) none
+size_fault n t = refuse (too_large n t) (reason.Call fault.Size) None
 
 -- ---- one row
 
 module _ (tab : List ℕ) (r : Row) (i : ℕ) where
-  pub already : {found : RowsAnswer} {q : Reason} → found ≡ rows_are.Refused q → some q ≡ found_after (reason_in found) tab r i
+  pub already : {found : Result ⊤ Reason} {q : Reason} → found ≡ Err q → Some q ≡ found_after (result_err found) tab r i
   unfolding first
-  already {q = q} e = sym (ap (λ (x : RowsAnswer). found_after (reason_in x) tab r i) e)
+  already {q = q} e = sym (ap (λ (x : Result ⊤ Reason). found_after (result_err x) tab r i) e)
 
-  only : {o : Option Fault} → o ≡ row_fault Unigram tab r → elim o [ some f ↦ some (reason.Row f i) | none ↦ none ] ≡ found_after none tab r i
+  only : {o : Option Fault} → o ≡ row_fault Unigram tab r → elim o [ Some f ↦ Some (reason.Row f i) | None ↦ None ] ≡ found_after None tab r i
   unfolding first first_bad
-  only e = ap (λ (x : Option Fault). elim x [ some f ↦ some (reason.Row f i) | none ↦ none ]) e
+  only e = ap (λ (x : Option Fault). elim x [ Some f ↦ Some (reason.Row f i) | None ↦ None ]) e
 
-  pub bad-now : {found : RowsAnswer} {answer : Judged} {f : Fault} → found ≡ rows_are.Fine → fault_in answer ≡ row_fault Unigram tab r → answer ≡ row_same.Bad f
-      → some (reason.Row f i) ≡ found_after (reason_in found) tab r i
-  bad-now p e q = only (sym (ap fault_in q) ∙ e) ∙ sym (ap (λ (x : RowsAnswer). found_after (reason_in x) tab r i) p)
+  pub bad-now : {found : Result ⊤ Reason} {answer : Result ⊤ Fault} {f : Fault} → found ≡ Ok tt → result_err answer ≡ row_fault Unigram tab r → answer ≡ Err f
+      → Some (reason.Row f i) ≡ found_after (result_err found) tab r i
+  bad-now p e q = only (sym (ap result_err q) ∙ e) ∙ sym (ap (λ (x : Result ⊤ Reason). found_after (result_err x) tab r i) p)
 
-  pub fine-now : {found : RowsAnswer} {answer : Judged} → found ≡ rows_are.Fine → fault_in answer ≡ row_fault Unigram tab r → answer ≡ row_same.Fine
-      → none ≡ found_after (reason_in found) tab r i
-  fine-now p e q = only (sym (ap fault_in q) ∙ e) ∙ sym (ap (λ (x : RowsAnswer). found_after (reason_in x) tab r i) p)
+  pub fine-now : {found : Result ⊤ Reason} {answer : Result ⊤ Fault} → found ≡ Ok tt → result_err answer ≡ row_fault Unigram tab r → answer ≡ Ok tt
+      → None ≡ found_after (result_err found) tab r i
+  fine-now p e q = only (sym (ap result_err q) ∙ e) ∙ sym (ap (λ (x : Result ⊤ Reason). found_after (result_err x) tab r i) p)
 
 -- what stands past the rows
 abbrev pub no_row : code_row.Row
@@ -84,14 +80,14 @@ row_put off len score i r x e =
 
 -- where nothing was found and there is room
 module _ (n i : ℕ) (r : Row) (c : RowPlaces) where
-  pub fine-none : {found : RowsAnswer} {q : Reason} → found ≡ rows_are.Refused q → c ≡ put_fine n (reason_in found) i r c
+  pub fine-none : {found : Result ⊤ Reason} {q : Reason} → found ≡ Err q → c ≡ put_fine n (result_err found) i r c
   unfolding put_fine
-  fine-none e = sym (ap (λ (x : RowsAnswer). put_fine n (reason_in x) i r c) e)
+  fine-none e = sym (ap (λ (x : Result ⊤ Reason). put_fine n (result_err x) i r c) e)
 
-  pub fine-put : {found : RowsAnswer} {b : Bool} → found ≡ rows_are.Fine → short_of n c ≡ b → cond b c
-      (put_row c i r) ≡ put_fine n (reason_in found) i r c
+  pub fine-put : {found : Result ⊤ Reason} {b : Bool} → found ≡ Ok tt → short_of n c ≡ b → cond b c
+      (put_row c i r) ≡ put_fine n (result_err found) i r c
   unfolding put_fine
-  fine-put p e = sym (ap (λ (x : RowsAnswer). put_fine n (reason_in x) i r c) p ∙ ap (λ (t : Bool). cond t c (put_row c i r)) e)
+  fine-put p e = sym (ap (λ (x : Result ⊤ Reason). put_fine n (result_err x) i r c) p ∙ ap (λ (t : Bool). cond t c (put_row c i r)) e)
 
 -- ---- one turn
 
@@ -119,8 +115,8 @@ put_rows c i [] = c
 put_rows c i (r ∷ rs) = put_rows (put_row c i r) (suc i) rs
 
 unfoldable pub put_all : ℕ → Option Reason → ℕ → List Row → RowPlaces → RowPlaces
-put_all n (some f) i rs c = c
-put_all n none i rs c = cond (short_of n c) c (put_rows c i rs)
+put_all n (Some f) i rs c = c
+put_all n None i rs c = cond (short_of n c) c (put_rows c i rs)
 
 -- what is found, and the columns
 abbrev pub State : Type 0
@@ -129,15 +125,15 @@ State = Option Reason × RowPlaces
 abbrev pub both : Option Reason → RowPlaces → State
 both o c = (o, c)
 
-first-refused : {A : Type 0} (t : Bool) (f : A) (later : Option A) → first (refuse t f none) later ≡ refuse t f later
+first-refused : {A : Type 0} (t : Bool) (f : A) (later : Option A) → first (refuse t f None) later ≡ refuse t f later
 unfolding first refuse
 first-refused true f later = refl
 first-refused false f later = refl
 
-first-none : {A : Type 0} (o : Option A) → first o none ≡ o
+first-none : {A : Type 0} (o : Option A) → first o None ≡ o
 unfolding first
-first-none none = refl
-first-none (some q) = refl
+first-none None = refl
+first-none (Some q) = refl
 
 module _ (n : ℕ) (tab : List ℕ) where
   -- a turn, and the turns from t on over these rows
@@ -157,12 +153,12 @@ module _ (n : ℕ) (tab : List ℕ) where
   -- the first time they are judged
   one_more : (o : Option Reason) (i : ℕ) (r : Row) (rs : List Row) → first (found_after o tab r i) (first_bad Unigram tab (suc i) rs) ≡ first o (first_bad Unigram tab i (r ∷ rs))
   unfolding first first_bad
-  one_more (some q) i r rs = refl
-  one_more none i r rs = go (row_fault Unigram tab r)
+  one_more (Some q) i r rs = refl
+  one_more None i r rs = go (row_fault Unigram tab r)
     where
-      go : (f : Option Fault) → first (elim f [ some g ↦ some (reason.Row g i) | none ↦ none ]) (first_bad Unigram tab (suc i) rs) ≡ elim f [ some g ↦ some (reason.Row g i) | none ↦ first_bad Unigram tab (suc i) rs ]
-      go none = refl
-      go (some g) = refl
+      go : (f : Option Fault) → first (elim f [ Some g ↦ Some (reason.Row g i) | None ↦ None ]) (first_bad Unigram tab (suc i) rs) ≡ elim f [ Some g ↦ Some (reason.Row g i) | None ↦ first_bad Unigram tab (suc i) rs ]
+      go None = refl
+      go (Some g) = refl
 
   judges : (t : ℕ) (rs : List Row) (s : State) → t + length rs ≤ n → turns t rs s ≡ both (first s.0
       (first_bad Unigram tab t rs)) s.1
@@ -191,8 +187,8 @@ module _ (n : ℕ) (tab : List ℕ) where
   one-put : (o : Option Reason) (i : ℕ) (r : Row) (rs : List Row) (c : RowPlaces) → put_all n o (suc i) rs
       (put_fine n o i r c) ≡ put_all n o i (r ∷ rs) c
   unfolding put_all put_fine put_rows
-  one-put (some f) i r rs c = refl
-  one-put none i r rs c = go (short_of n c) refl
+  one-put (Some f) i r rs c = refl
+  one-put None i r rs c = go (short_of n c) refl
     where
       go : (b : Bool) → short_of n c ≡ b → next i rs (cond (short_of n c) c (put_row c i r)) ≡ cond (short_of n c) c (put_rows
           (put_row c i r) (suc i) rs)
@@ -205,8 +201,8 @@ module _ (n : ℕ) (tab : List ℕ) where
 
   none_left : (o : Option Reason) (i : ℕ) (c : RowPlaces) → put_all n o i [] c ≡ c
   unfolding put_all put_rows
-  none_left (some f) i c = refl
-  none_left none i c = go (short_of n c)
+  none_left (Some f) i c = refl
+  none_left None i c = go (short_of n c)
     where
       go : (b : Bool) → cond b c c ≡ c
       go true = refl
@@ -238,7 +234,7 @@ module _ (n : ℕ) (tab : List ℕ) where
 pub record Turning (tab : List ℕ) (rows : List code_row.Row) (start : State) (t : ℕ) (s : State) : Type 0 where
   pub said : turns (length rows) tab t (drop t (map row_is rows ++ map row_is rows)) s ≡ turns (length rows) tab 0
       (map row_is rows ++ map row_is rows) start
-  pub few : s.0 ≡ none → length rows ≤ max_rows
+  pub few : s.0 ≡ None → length rows ≤ max_rows
 
 module _ (tab : List ℕ) (rows : List code_row.Row) (start : State) (sized : start.0 ≡ size_fault (length rows)
     (length tab)) where
@@ -255,7 +251,7 @@ module _ (tab : List ℕ) (rows : List code_row.Row) (start : State) (sized : st
   turning-start =
       record {
         said = refl;
-        few = λ o. (within-limits n (length tab) (passed _ (reason.Call fault.Size) none (sym sized ∙ o)).0).0;
+        few = λ o. (within-limits n (length tab) (passed _ (reason.Call fault.Size) None (sym sized ∙ o)).0).0;
       }
 
   -- the row of a turn
@@ -271,12 +267,12 @@ module _ (tab : List ℕ) (rows : List code_row.Row) (start : State) (sized : st
       ∙ ap (λ (k : ℕ). row_is (get_or rows k d)) (sym (mod-eq-sub-mod l ∙ mod-eq_of_lt (omega (arith, l, h)))))
       (below_or t n)
 
-  none_before : (t : ℕ) (o : Option Reason) (r : Row) → found_by n t tab r o ≡ none → o ≡ none
+  none_before : (t : ℕ) (o : Option Reason) (r : Row) → found_by n t tab r o ≡ None → o ≡ None
   unfolding found_by first
-  none_before t none r e = refl
-  none_before t (some q) r e = go (ltb t n) e
+  none_before t None r e = refl
+  none_before t (Some q) r e = go (ltb t n) e
     where
-      go : (b : Bool) → cond b (some q) (some q) ≡ none → some q ≡ none
+      go : (b : Bool) → cond b (Some q) (Some q) ≡ None → Some q ≡ None
       go true z = z
       go false z = z
 

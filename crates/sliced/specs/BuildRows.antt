@@ -1,6 +1,5 @@
 -- What `sliced::build_rows` promises: as `scored::build`, over a slice of rows. Definitions only; assumes nothing.
-use Rattle.std.specs.Prelude.{◌≡◌, ℕ, Bool, ◌||◌, List, [], ◌∷◌, map, Float, length}
-use Rattle.std.proofs.Math.Option.{Option}
+use Rattle.std.specs.Prelude.{◌≡◌, ℕ, Bool, ◌||◌, List, [], ◌∷◌, map, Float, length, Option, Result}
 use Rattle.doubles.specs.Double.{Double}
 use Rattle.doubles.specs.Units.{units}
 use Rattle.refusal.specs.Lent.{LentMut, had, is}
@@ -15,7 +14,6 @@ use Rattle.rows.specs.Columns.{too_large}
 use Rattle.build.specs.Checked.{nodes_of}
 use Rattle.build.specs.Memory.{Memory, any_below, no_scored_room, zero_scores, leaves}
 use Rattle.build.specs.Promise.{build_fault, Promised}
-use Rattle.scored.specs.declared.BuildAnswer.{BuildAnswer}
 use Rattle.scored.specs.Build.{report_of, told}
 
 -- The columns that are lent for the rows: a place in each for each row.
@@ -54,12 +52,12 @@ short_for n tab rows lent m = short_of n lent || no_scored_room (nodes_of tab ro
 -- What is promised of n rows, what was found of them being `judged`: the promise of every build. The places that are lent for
 -- the rows end as work places do.
 pub record PlacesBuilt (judged : Option Reason) (n : ℕ) (tab : List ℕ) (rows : List Row) (lent : RowPlaces)
-    (before : Memory) (answer : BuildAnswer) (lent_after : RowPlaces) (after : Memory) : Type 0 where
+    (before : Memory) (answer : Result Summary Reason) (lent_after : RowPlaces) (after : Memory) : Type 0 where
   pub built :
       Promised kind.Unigram tab rows judged (short_for n tab rows lent before) (report_of tab rows) before (told answer) after
   pub places :
       lent_after ≡ leaves (build_fault judged (short_for n tab rows lent before)) (zero_rows lent) (zero_rows lent) lent
 
 -- What `build_rows` promises of its answer and of the memory lent to it, before and after.
-abbrev pub RowsBuilt : List ℕ → List Row → RowPlaces → Memory → BuildAnswer → RowPlaces → Memory → Type 0
+abbrev pub RowsBuilt : List ℕ → List Row → RowPlaces → Memory → Result Summary Reason → RowPlaces → Memory → Type 0
 RowsBuilt tab rows = PlacesBuilt (rows_judged tab rows) (length rows) tab rows

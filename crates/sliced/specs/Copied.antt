@@ -1,7 +1,6 @@
 -- A slice of rows, judged and copied into lent columns: what each step of `build_rows` promises. Definitions only; assumes
 -- nothing.
-use Rattle.std.specs.Prelude.{◌≡◌, ℕ, ◌-◌, true, false, cond, List, [], ◌∷◌, ltb, eqb, Float, set, take, replicate}
-use Rattle.std.proofs.Math.Option.{Option, none, some}
+use Rattle.std.specs.Prelude.{◌≡◌, ℕ, ◌-◌, true, false, cond, List, [], ◌∷◌, ltb, eqb, Float, set, take, replicate, Option, None, Some}
 use Rattle.refusal.specs.declared.Reason.{Reason}
 use Rattle.refusal.specs.Refusal.{number_of, first}
 use Rattle.rows.specs.declared.Kind.TheVariants as kind
@@ -22,8 +21,8 @@ put_row c i r =
 
 -- a row put at place i, where nothing was found and the columns have room for n rows
 unfoldable pub put_fine : ℕ → Option Reason → ℕ → Row → RowPlaces → RowPlaces
-put_fine n (some f) i r c = c
-put_fine n none i r c = cond (short_of n c) c (put_row c i r)
+put_fine n (Some f) i r c = c
+put_fine n None i r c = cond (short_of n c) c (put_row c i r)
 
 -- what is found after turn t of 2n over n rows: in the first n turns a row is judged
 unfoldable pub found_by : ℕ → ℕ → List ℕ → Row → Option Reason → Option Reason
@@ -41,7 +40,7 @@ first_places n off len score = columns (take n off) (take n len) (replicate n tr
 -- what was found is a fault of the rows, which is never 7; and rows that were found fine stand in the first places, where there
 -- is room for them
 pub record RowsCopied (found : Option Reason) (n : ℕ) (tab off len : List ℕ) (score : List Float) : Type 0 where
-  pub other : (r : Reason) → found ≡ some r → eqb (number_of r) 7 ≡ false
+  pub other : (r : Reason) → found ≡ Some r → eqb (number_of r) 7 ≡ false
   pub fine :
-      found ≡ none → short_of n (row_places off len score) ≡ false
-      → columns_fault kind.Unigram tab (first_places n off len score) ≡ none
+      found ≡ None → short_of n (row_places off len score) ≡ false
+      → columns_fault kind.Unigram tab (first_places n off len score) ≡ None

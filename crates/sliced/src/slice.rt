@@ -1,7 +1,7 @@
 // A row list that is lent as a slice of rows: judged as a whole, copied into lent columns, and built there. No function here
 // holds the slice: each turn over it is a call on one row.
-ghost use Rattle.std.specs.Prelude.{◌≡◌, false, [], ◌∷◌, ◌+◌, ◌<◌, ◌≤◌, length};
-ghost use Rattle.std.proofs.Math.Option.{none};
+ghost use Rattle.std.specs.Result.{result_err};
+ghost use Rattle.std.specs.Prelude.{◌≡◌, false, [], ◌∷◌, ◌+◌, ◌<◌, ◌≤◌, length, None};
 ghost use Rattle.doubles.specs.Units.{units, scores_is, scores_was, scores_had};
 ghost use Rattle.refusal.specs.declared.Fault.TheVariants as fault;
 ghost use Rattle.refusal.specs.declared.Reason.TheVariants as reason;
@@ -10,7 +10,6 @@ ghost use Rattle.refusal.specs.Sizes.{max_rows};
 ghost use Rattle.rows.specs.Rows.{worth_is, row_is};
 ghost use Rattle.rows.specs.declared.Kind.TheVariants.{Unigram};
 ghost use Rattle.rows.specs.Columns.{rows_of, too_large, columns_fault};
-ghost use Rattle.rows.specs.Answers.{reason_in};
 ghost use Rattle.build.specs.Rules.{score_of};
 ghost use Rattle.build.specs.Memory.{any_below, cleared, zero_scores};
 ghost use Rattle.build.specs.Memory.{memory_is, memory_was, scored_memory_is, scored_memory_was};
@@ -26,7 +25,7 @@ use scored::{BuildAnswer, checked};
 
 // Too many rows or too large a table, before any row is looked at.
 pub(crate) fn sized(count: usize, table: usize) -> RowsAnswer
-    ensures { reason_in result ≡ refuse (too_large count table) (reason.Call fault.Size) none }
+    ensures { result_err result ≡ refuse (too_large count table) (reason.Call fault.Size) None }
 {
     if rows::columns::is_large(count, table) {
         return RowsAnswer::Refused(Reason::Call(Fault::Size));
@@ -36,8 +35,8 @@ pub(crate) fn sized(count: usize, table: usize) -> RowsAnswer
 
 // What is found once row i is looked at too: what was found before it stands.
 fn judge_row(found: RowsAnswer, tab: &[u8], row: Row, i: usize) -> RowsAnswer
-    requires { reason_in found ≡ none → i < 4_294_967_296 }
-    ensures { reason_in result ≡ found_after (reason_in found) (was tab) (row_is row) i }
+    requires { result_err found ≡ None → i < 4_294_967_296 }
+    ensures { result_err result ≡ found_after (result_err found) (was tab) (row_is row) i }
 {
     match found {
         RowsAnswer::Refused(r) => RowsAnswer::Refused(r),
@@ -93,7 +92,7 @@ fn put_fine(
     score: &mut [f64],
 )
     requires { i < n }
-    ensures { places_is off len score ≡ put_fine n (reason_in found) i (row_is row) (places_was off len score) }
+    ensures { places_is off len score ≡ put_fine n (result_err found) i (row_is row) (places_was off len score) }
 {
     if let RowsAnswer::Refused(_) = found {
         return;
@@ -115,9 +114,9 @@ pub(crate) fn turn(
     len: &mut [u32],
     score: &mut [f64],
 ) -> RowsAnswer
-    requires { (t < n + n) × (reason_in found ≡ none → n ≤ max_rows) }
-    ensures { (reason_in result ≡ found_by n t (was tab) (row_is row) (reason_in found)) ×
-        (places_is off len score ≡ places_by n t (reason_in found) (row_is row) (places_was off len score)) }
+    requires { (t < n + n) × (result_err found ≡ None → n ≤ max_rows) }
+    ensures { (result_err result ≡ found_by n t (was tab) (row_is row) (result_err found)) ×
+        (places_is off len score ≡ places_by n t (result_err found) (row_is row) (places_was off len score)) }
 {
     if t < n {
         return judge_row(found, tab, row, t);
@@ -151,7 +150,7 @@ fn build_first(
     work: &mut [u32],
 ) -> BuildAnswer
     requires score_value { short_of n (row_places off.now len.now score.now) ≡ false }
-    requires score_value_2 { columns_fault Unigram tab.now (first_places n off.now len.now score.now) ≡ none }
+    requires score_value_2 { columns_fault Unigram tab.now (first_places n off.now len.now score.now) ≡ None }
     ensures { promise.Built (was tab) (first_places n (was off) (was len) (was score))
         (scored_memory_was edge_at edge_n node_id node_score byte to work) result
         (scored_memory_is edge_at edge_n node_id node_score byte to work) }
@@ -214,8 +213,8 @@ pub(crate) fn build_copied(
     to: &mut [u32],
     work: &mut [u32],
 ) -> BuildAnswer
-    requires { RowsCopied (reason_in found) n tab.now off.old len.old score.old }
-    ensures { PlacesBuilt (reason_in found) n (was tab) (rows_of (first_places n off.old len.old score.old))
+    requires { RowsCopied (result_err found) n tab.now off.old len.old score.old }
+    ensures { PlacesBuilt (result_err found) n (was tab) (rows_of (first_places n off.old len.old score.old))
         (places_was off len score) (scored_memory_was edge_at edge_n node_id node_score byte to work) result
         (places_is off len score) (scored_memory_is edge_at edge_n node_id node_score byte to work) }
 {

@@ -7,7 +7,7 @@
 
 ghost use Rattle.std.specs.Prelude.{◌≤◌};
 
-use doubles::{Bits, Pattern};
+use doubles::Pattern;
 use std::io::Read;
 
 // What a hexadecimal digit stands for.
@@ -38,10 +38,7 @@ fn word(line: &[u8; 53], at: usize) -> u64
 // Whether x + y has the pattern c, is finite exactly where c stands for a finite double, and x < y is what is stored.
 fn sum_agrees(x: f64, y: f64, c: u64, is_less: bool) -> bool {
     let sum = doubles::added(x, y);
-    let Bits::Of(n) = doubles::to_bits(sum) else {
-        return false;
-    };
-    if n != c {
+    if doubles::to_bits(sum) != Some(c) {
         return false;
     }
     if let Pattern::Finite(_) = doubles::from_bits(c) {

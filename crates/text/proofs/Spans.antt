@@ -1,10 +1,10 @@
 -- The span check: which test gives which fault, and that its two calls are determined. The first test that finds a fault
 -- decides; an answer is the fault's and a part is the answer's, so both follow from the inputs. Assumes nothing.
+use Rattle.std.specs.Prelude.{Option, None, Some, Result, ⊤, Ok, Err, ℕ}
 use mathlib.Core.Path.{◌≡◌, sym, ap, ◌∙◌}
 use mathlib.Core.Bool.{true, false, not}
 use mathlib.Core.List.{List, []}
 use mathlib.Core.Logic.{◌↔◌}
-use mathlib.Core.Option.{Option, none, some}
 use Prim.Native.Nat.{ℕ, ◌+◌, ◌-◌, ◌≤◌, ◌<◌}
 use native.Mathlib.Omega.{arith}
 use borrow.Author.Tests.{lt-ltb, le-ltb, ltb-false, eq-eqb, ne_eqb, not-false}
@@ -12,11 +12,9 @@ use lib.ListN.{length, take, drop}
 use denote.Ref.{Bor}
 use Rattle.refusal.specs.declared.Fault.{Fault}
 use Rattle.refusal.specs.declared.Fault.TheVariants.{Size, Span, Text}
-use Rattle.refusal.specs.declared.Judged.{Judged}
-use Rattle.refusal.specs.declared.Judged.TheVariants.{Fine, Bad}
 use Rattle.refusal.specs.Sizes.{max_table}
 use Rattle.refusal.specs.Refusal.{unless_fault}
-use Rattle.refusal.proofs.Tests.{Not, found, not_found, passed, refused-so, nothing-so, bad-exactly, fine-exactly, judged-once}
+use Rattle.refusal.proofs.Tests.{Not, found, not_found, passed, refused-so, nothing-so, err-exactly, ok-exactly, judged-once}
 use Rattle.text.specs.Text.{valid_up_to, well_formed, text_fault}
 use Rattle.text.specs.Span.{span_of, outside, part_fault, span_fault, TextAnswered, PartGiven}
 use Rattle.text.proofs.Valid.{valid-le}
@@ -29,29 +27,29 @@ part-is tab off len = let e : off + len - off ≡ len = omega arith in rw e
 
 -- ---- text or not
 
-pub text-bad : (s : List ℕ) → valid_up_to s < length s → text_fault s ≡ some Text
+pub text-bad : (s : List ℕ) → valid_up_to s < length s → text_fault s ≡ Some Text
 unfolding text_fault well_formed
-text-bad s h = found _ Text none (ap not (ne_eqb (valid_up_to s) (length s) (λ e. omega arith)))
+text-bad s h = found _ Text None (ap not (ne_eqb (valid_up_to s) (length s) (λ e. omega arith)))
 
-pub text-fine : (s : List ℕ) → well_formed s ≡ true → text_fault s ≡ none
+pub text-fine : (s : List ℕ) → well_formed s ≡ true → text_fault s ≡ None
 unfolding text_fault
-text-fine s e = not_found _ Text none (ap not e)
+text-fine s e = not_found _ Text None (ap not e)
 
-pub fine-text : (s : List ℕ) → text_fault s ≡ none → well_formed s ≡ true
+pub fine-text : (s : List ℕ) → text_fault s ≡ None → well_formed s ≡ true
 unfolding text_fault
-fine-text s e = not-false (well_formed s) (passed _ Text none e).0
+fine-text s e = not-false (well_formed s) (passed _ Text None e).0
 
 pub valid-text : (s : List ℕ) → length s ≤ valid_up_to s → well_formed s ≡ true
 unfolding well_formed
 valid-text s h = eq-eqb (valid_up_to s) (length s) (omega (arith, valid-le s))
 
 -- it is refused with 4 alone
-pub text-not : (k : ℕ) {f : Fault} → Not k Text → (s : List ℕ) → text_fault s ≡ some f → Not k f
+pub text-not : (k : ℕ) {f : Fault} → Not k Text → (s : List ℕ) → text_fault s ≡ Some f → Not k f
 unfolding text_fault
-text-not k n s = refused-so (Not k) _ Text none n (nothing-so (Not k))
+text-not k n s = refused-so (Not k) _ Text None n (nothing-so (Not k))
 
 module _ (tab : List ℕ) (off len : ℕ) where
-  pub fault-size : max_table < length tab → span_fault tab off len ≡ some Size
+  pub fault-size : max_table < length tab → span_fault tab off len ≡ Some Size
   unfolding span_fault
   fault-size h = found _ Size _ (lt-ltb max_table (length tab) h)
 
@@ -60,7 +58,7 @@ module _ (tab : List ℕ) (off len : ℕ) where
   unfolding span_fault
   fault-part size = not_found _ Size _ (le-ltb max_table (length tab) size)
 
-  pub part-outside : length tab < off + len → part_fault tab off len ≡ some Span
+  pub part-outside : length tab < off + len → part_fault tab off len ≡ Some Span
   unfolding part_fault
   part-outside h = found _ Span _ (lt-ltb (length tab) (off + len) h)
 
@@ -68,13 +66,13 @@ module _ (tab : List ℕ) (off len : ℕ) where
   unfolding part_fault
   part-inside inside = not_found _ Span _ (le-ltb (length tab) (off + len) inside)
 
-  pub part-not : (k : ℕ) {f : Fault} → Not k Span → Not k Text → part_fault tab off len ≡ some f → Not k f
+  pub part-not : (k : ℕ) {f : Fault} → Not k Span → Not k Text → part_fault tab off len ≡ Some f → Not k f
   unfolding part_fault
   part-not k p q = refused-so (Not k) _ Span _ p (text-not k q (span_of tab off len))
 
   -- an accepted part lies inside the table and is text
-  module _ (accepted : part_fault tab off len ≡ none) where
-    tests : (outside tab off len ≡ false) × (text_fault (span_of tab off len) ≡ none)
+  module _ (accepted : part_fault tab off len ≡ None) where
+    tests : (outside tab off len ≡ false) × (text_fault (span_of tab off len) ≡ None)
     unfolding part_fault
     tests = passed _ Span _ accepted
 
@@ -85,22 +83,22 @@ module _ (tab : List ℕ) (off len : ℕ) where
     part-text = fine-text (span_of tab off len) tests.1
 
   -- and of an accepted span the table is within the limit
-  pub accepted-span : span_fault tab off len ≡ none → (length tab ≤ max_table) × (part_fault tab off len ≡ none)
+  pub accepted-span : span_fault tab off len ≡ None → (length tab ≤ max_table) × (part_fault tab off len ≡ None)
   unfolding span_fault
   accepted-span accepted = let t = passed _ Size _ accepted in (ltb-false max_table (length tab) t.0, t.1)
 
 -- ---- the answers
 
 -- refused exactly where there is a fault, and with that fault; accepted exactly where there is none
-module _ {tab : List ℕ} {off len : ℕ} {answer : Judged} (a : TextAnswered tab off len answer) where
-  pub refused-exactly : (f : Fault) → (answer ≡ Bad f) ↔ (span_fault tab off len ≡ some f)
-  refused-exactly f = bad-exactly _ a.answered f
+module _ {tab : List ℕ} {off len : ℕ} {answer : Result ⊤ Fault} (a : TextAnswered tab off len answer) where
+  pub refused-exactly : (f : Fault) → (answer ≡ Err f) ↔ (span_fault tab off len ≡ Some f)
+  refused-exactly f = err-exactly _ a.answered f
 
-  pub accepted-exactly : (answer ≡ Fine) ↔ (span_fault tab off len ≡ none)
-  accepted-exactly = fine-exactly _ a.answered
+  pub accepted-exactly : (answer ≡ Ok tt) ↔ (span_fault tab off len ≡ None)
+  accepted-exactly = ok-exactly _ a.answered
 
 -- the promise met twice gives the same answer, and the same part: the same bytes at the same place
-pub answer-determined : {tab : List ℕ} {off len : ℕ} {a b : Judged} → TextAnswered tab off len a → TextAnswered tab off len b → a ≡ b
+pub answer-determined : {tab : List ℕ} {off len : ℕ} {a b : Result ⊤ Fault} → TextAnswered tab off len a → TextAnswered tab off len b → a ≡ b
 answer-determined p q = judged-once _ _ p.answered q.answered
 
 module _ {fault : Option Fault} {table : Bor (List ℕ)} {off len : ℕ} {a b : Bor (List ℕ)}
@@ -119,7 +117,7 @@ nothing-taken s at = let e : at - at ≡ 0 = omega arith in rw e
 
 -- the empty part in front is what is given of a span with a fault
 pub nothing-given :
-    {table part : Bor (List ℕ)} {off len : ℕ} (fault : Option Fault) (f : Fault) → fault ≡ some f → PartGiven none table 0 0 part
+    {table part : Bor (List ℕ)} {off len : ℕ} (fault : Option Fault) (f : Fault) → fault ≡ Some f → PartGiven None table 0 0 part
     → PartGiven fault table off len part
 unfolding unless_fault
 nothing-given {table} {part} {off} {len} fault f e n =
@@ -130,6 +128,6 @@ nothing-given {table} {part} {off} {len} fault f e n =
     }
 
 -- what is given of a span without a fault: its bytes
-pub bytes-given : {table part : Bor (List ℕ)} {off len : ℕ} → PartGiven none table off len part → part.now ≡ span_of table.now off len
+pub bytes-given : {table part : Bor (List ℕ)} {off len : ℕ} → PartGiven None table off len part → part.now ≡ span_of table.now off len
 unfolding unless_fault
 bytes-given g = g.gave

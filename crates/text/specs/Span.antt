@@ -1,12 +1,11 @@
 -- The span check over a lent string table, and what its calls promise. Definitions only; assumes nothing.
-use Rattle.std.specs.Prelude.{◌≡◌, ℕ, ◌+◌, Bool, List, [], ltb, length, take, drop}
-use Rattle.std.proofs.Math.Option.{Option}
+use Rattle.std.specs.Result.{result_err}
+use Rattle.std.specs.Prelude.{◌≡◌, ℕ, ◌+◌, Bool, List, [], ltb, length, take, drop, Option, Result, ⊤}
 use Rattle.std.specs.Borrow.{Bor}
 use Rattle.refusal.specs.declared.Fault.{Fault}
 use Rattle.refusal.specs.declared.Fault.TheVariants.{Size, Span}
-use Rattle.refusal.specs.declared.Judged.{Judged}
 use Rattle.refusal.specs.Sizes.{max_table, above}
-use Rattle.refusal.specs.Refusal.{refuse, fault_in, unless_fault}
+use Rattle.refusal.specs.Refusal.{refuse, unless_fault}
 use Rattle.text.specs.Text.{text_fault}
 
 -- the len bytes of the table from off on
@@ -26,8 +25,8 @@ unfoldable pub span_fault : List ℕ → ℕ → ℕ → Option Fault
 span_fault tab off len = refuse (above max_table (length tab)) Size (part_fault tab off len)
 
 -- What `text_answer(tab, off, len)` promises: "a call beside it answers accepted or the number".
-pub record TextAnswered (tab : List ℕ) (off len : ℕ) (answer : Judged) : Type 0 where
-  pub answered : fault_in answer ≡ span_fault tab off len
+pub record TextAnswered (tab : List ℕ) (off len : ℕ) (answer : Result ⊤ Fault) : Type 0 where
+  pub answered : result_err answer ≡ span_fault tab off len
 
 -- What is promised of the part given back of a span with this fault: its bytes, the block of memory that it stands in, and
 -- where. "An accepted span gives back that part of the lent string table itself. A refused one gives back the empty part at the

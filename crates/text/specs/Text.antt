@@ -1,7 +1,6 @@
 -- "Well-formed text (RFC 3629)": which byte lists are text, and where its characters begin. Definitions only; assumes nothing.
-use Rattle.std.specs.Prelude.{ℕ, zero, suc, ◌+◌, ◌-◌, Bool, true, false, not, ◌&&◌, cond, leb, eqb}
+use Rattle.std.specs.Prelude.{ℕ, zero, suc, ◌+◌, ◌-◌, Bool, true, false, not, ◌&&◌, cond, leb, eqb, Option, None}
 use Rattle.std.specs.Prelude.{List, [], ◌∷◌, length, get_or, take, drop}
-use Rattle.std.proofs.Math.Option.{Option, none}
 use Rattle.refusal.specs.declared.Fault.{Fault}
 use Rattle.refusal.specs.declared.Fault.TheVariants as fault
 use Rattle.refusal.specs.Refusal.{refuse}
@@ -72,7 +71,7 @@ well_formed s = eqb (valid_up_to s) (length s)
 
 -- 4: "a token, text, word or prefix is not well-formed UTF-8"
 unfoldable pub text_fault : List ℕ → Option Fault
-text_fault s = refuse (not (well_formed s)) fault.Text none
+text_fault s = refuse (not (well_formed s)) fault.Text None
 
 -- ---- positions in a text
 

@@ -1,6 +1,5 @@
 // For callers that have tested their text, or a span's end.
-ghost use Rattle.std.specs.Prelude.{◌≡◌, true, ◌+◌, ◌≤◌, length};
-ghost use Rattle.std.proofs.Math.Option.{none};
+ghost use Rattle.std.specs.Prelude.{◌≡◌, true, ◌+◌, ◌≤◌, length, None};
 ghost use Rattle.text.specs.Text.{well_formed, characters};
 ghost use Rattle.text.specs.Span.{PartGiven};
 ghost use Rattle.refusal.specs.Lent.{was};
@@ -24,7 +23,7 @@ pub fn characters(s: &[u8]) -> usize
 // The part of the table that a span is, text or not: a token, from the moment its row is judged.
 pub fn span<'a>(tab: &'a [u8], off: u32, len: u32) -> &'a [u8]
     requires { off + len ≤ length tab.now }
-    ensures { PartGiven none tab.entry off len result }
+    ensures { PartGiven None tab.entry off len result }
 {
     let start = off as usize;
     let end = start + len as usize;

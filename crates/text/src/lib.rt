@@ -1,15 +1,14 @@
 // RFC 3629 text: where it is well-formed, where its characters begin, and the span check over a lent string table.
 #![tactic(auto)]
 
-use refusal::{Fault, Judged, MAX_TABLE};
+use refusal::{Fault, MAX_TABLE};
 
 pub mod checked;
 pub mod lead;
 mod strides;
 pub mod utf8;
 
-ghost use Rattle.std.specs.Prelude.{◌≡◌};
-ghost use Rattle.std.proofs.Math.Option.{none};
+ghost use Rattle.std.specs.Prelude.{◌≡◌, None};
 ghost use Rattle.text.specs.Span.{outside, span_fault, TextAnswered, PartGiven};
 ghost use Rattle.refusal.specs.Lent.{was};
 
@@ -22,7 +21,7 @@ pub fn is_outside(tab: &[u8], off: u32, len: u32) -> bool
 
 // The empty part at the table's start.
 fn nothing<'a>(tab: &'a [u8]) -> &'a [u8]
-    ensures { PartGiven none tab.entry 0 0 result }
+    ensures { PartGiven None tab.entry 0 0 result }
 {
     let start: usize = 0;
     &tab[start..start]
@@ -30,14 +29,14 @@ fn nothing<'a>(tab: &'a [u8]) -> &'a [u8]
 
 // Whether a span is text: the size of the table is tested, then the span's end, then its bytes. An empty part may be an
 // accepted span, so this stands beside `text`.
-pub fn text_answer(tab: &[u8], off: u32, len: u32) -> Judged
+pub fn text_answer(tab: &[u8], off: u32, len: u32) -> Result<(), Fault>
     ensures { TextAnswered (was tab) off len result }
 {
     if MAX_TABLE < tab.len() {
-        return Judged::Bad(Fault::Size);
+        return Err(Fault::Size);
     }
     if is_outside(tab, off, len) {
-        return Judged::Bad(Fault::Span);
+        return Err(Fault::Span);
     }
     utf8::judge(checked::span(tab, off, len))
 }
@@ -46,9 +45,8 @@ pub fn text_answer(tab: &[u8], off: u32, len: u32) -> Judged
 pub fn text<'a>(tab: &'a [u8], off: u32, len: u32) -> &'a [u8]
     ensures { PartGiven (span_fault (was tab) off len) tab.entry off len result }
 {
-    let answer = text_answer(tab, off, len);
-    if let Judged::Bad(_) = answer {
-        return nothing(tab);
+    match text_answer(tab, off, len) {
+        Ok(()) => checked::span(tab, off, len),
+        Err(_) => nothing(tab),
     }
-    checked::span(tab, off, len)
 }

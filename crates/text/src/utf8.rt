@@ -1,14 +1,14 @@
 // Which bytes are text by RFC 3629, and where its characters begin.
+ghost use Rattle.std.specs.Result.{result_err};
 ghost use Rattle.std.specs.Prelude.{◌≡◌, true, ◌+◌, ◌/◌, ◌%◌, ◌≤◌, ◌<◌, length, drop};
 ghost use Rattle.text.specs.Lead.{IsLead};
 ghost use Rattle.text.specs.Passing.{Stepped};
 ghost use Rattle.text.specs.Text.{within, tails, character, valid_up_to, boundary, text_fault};
-ghost use Rattle.refusal.specs.Refusal.{fault_in};
 ghost use Rattle.refusal.specs.Lent.{was};
 
 use crate::lead;
 use crate::strides::{is_tail, past_all_blocks, past_runs};
-use refusal::{Fault, Judged};
+use refusal::Fault;
 
 // The byte is in the range of the second byte that this entry of the lead table has.
 fn is_second(entry: u32, x: u8) -> bool
@@ -121,13 +121,13 @@ pub fn valid_up_to(s: &[u8]) -> usize
 }
 
 // Whether the bytes are text.
-pub fn judge(s: &[u8]) -> Judged
-    ensures { fault_in result ≡ text_fault (was s) }
+pub fn judge(s: &[u8]) -> Result<(), Fault>
+    ensures { result_err result ≡ text_fault (was s) }
 {
     if valid_up_to(s) < s.len() {
-        return Judged::Bad(Fault::Text);
+        return Err(Fault::Text);
     }
-    Judged::Fine
+    Ok(())
 }
 
 // A character begins at i, or the text ends there.

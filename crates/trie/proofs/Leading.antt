@@ -1,9 +1,9 @@
 -- A table of where each byte leads, filled from the last edge to the first. A place that is written last holds the edge nearest
 -- to the front, which is the one that a search finds. Assumes nothing.
+use Rattle.std.specs.Prelude.{None, Some}
 use mathlib.Core.Path.{◌≡◌, refl, sym, ap, ◌∙◌}
 use mathlib.Core.Bool.{Bool, true, false, cond}
 use mathlib.Core.List.{List}
-use mathlib.Core.Option.{none, some}
 use Prim.Native.Nat.{ℕ, suc, ◌<◌}
 use native.Mathlib.Omega.{arith}
 use borrow.Author.Tests.{ne_eqb, eqb-true, eqb-false}
@@ -42,7 +42,7 @@ module _ (bytes tos : List ℕ) where
           let here : x ≡ b = eqb-true (get_or bytes at 0) b e in
           ap (λ (k : ℕ). marked (get_or (set first x t) k no_id)) (sym here)
           ∙ ap marked (get_or-set_same first x t no_id (omega (arith, places, byte)))
-          ∙ ap (λ (same : Bool). cond same none (some t)) (ne_eqb t no_id (λ u. omega (arith, u, node)))
+          ∙ ap (λ (same : Bool). cond same None (Some t)) (ne_eqb t no_id (λ u. omega (arith, u, node)))
           ∙ sym (seek-here bytes tos b at n here)
       go false e =
           ap marked (get_or-set_other first x b t no_id (λ same. eqb-false (get_or bytes at 0) b e (sym same)))

@@ -1,10 +1,10 @@
 -- Looking a byte up among edges whose bytes rise strictly. Places that do not hold the byte may be left out in front
 -- (`seek-skip`) or behind (`seek-cut`); where bytes rise, one byte in between says which side that is. So a step that looks at
 -- three edges and keeps one of the four parts between them is the scan. Assumes nothing.
+use Rattle.std.specs.Prelude.{None, Some}
 use mathlib.Core.Path.{◌≡◌, refl, sym, ap, ◌∙◌}
 use mathlib.Core.Bool.{Bool, true, false, cond}
 use mathlib.Core.List.{List}
-use mathlib.Core.Option.{none, some}
 use mathlib.Core.Logic.{⊎_elim}
 use Prim.Native.Nat.{ℕ, zero, suc, ◌+◌, ◌-◌, ◌*◌, ◌/◌, ◌≤◌, ◌<◌}
 use native.Mathlib.Nat.{eq-or-lt_of_le}
@@ -31,7 +31,7 @@ pub record Holds (bytes tos : List ℕ) (b at n j : ℕ) : Type 0 where
 -- ---- the scan
 
 module _ (bytes tos : List ℕ) (b : ℕ) where
-  pub seek-here : (at n : ℕ) → get_or bytes at 0 ≡ b → seek bytes tos b at (suc n) ≡ some (get_or tos at 0)
+  pub seek-here : (at n : ℕ) → get_or bytes at 0 ≡ b → seek bytes tos b at (suc n) ≡ Some (get_or tos at 0)
   unfolding seek
   seek-here at n e = rw (eq-eqb (get_or bytes at 0) b e)
 
@@ -39,12 +39,12 @@ module _ (bytes tos : List ℕ) (b : ℕ) where
   unfolding seek
   seek-later at n e = rw (ne_eqb (get_or bytes at 0) b e)
 
-  pub seek-empty : (at : ℕ) → seek bytes tos b at 0 ≡ none
+  pub seek-empty : (at : ℕ) → seek bytes tos b at 0 ≡ None
   unfolding seek
   seek-empty at = refl
 
   -- the first of some edges has the byte, or is passed over
-  pub seek-first : (at n : ℕ) → 1 ≤ n → get_or bytes at 0 ≡ b → seek bytes tos b at n ≡ some (get_or tos at 0)
+  pub seek-first : (at n : ℕ) → 1 ≤ n → get_or bytes at 0 ≡ b → seek bytes tos b at n ≡ Some (get_or tos at 0)
   seek-first at n some_edges same = let e : n ≡ suc (n - 1) = omega arith in ap (seek bytes tos b at) e ∙ seek-here at (n - 1) same
 
   pub seek-past : (at n : ℕ) → 1 ≤ n → (get_or bytes at 0 ≡ b → ⊥) → seek bytes tos b at n ≡ seek bytes tos b (at + 1) (n - 1)
@@ -53,10 +53,10 @@ module _ (bytes tos : List ℕ) (b : ℕ) where
       let next : suc at ≡ at + 1 = omega arith in
       ap (seek bytes tos b at) e ∙ seek-later at (n - 1) other ∙ ap (λ (k : ℕ). seek bytes tos b k (n - 1)) next
 
-  pub seek-over : (at n : ℕ) → n ≡ 0 → seek bytes tos b at n ≡ none
+  pub seek-over : (at n : ℕ) → n ≡ 0 → seek bytes tos b at n ≡ None
   seek-over at n e = ap (seek bytes tos b at) e ∙ seek-empty at
 
-  pub seek-none : (n at : ℕ) → Clear bytes b at (at + n) → seek bytes tos b at n ≡ none
+  pub seek-none : (n at : ℕ) → Clear bytes b at (at + n) → seek bytes tos b at n ≡ None
   seek-none zero at clear = seek-empty at
   seek-none (suc n) at clear =
       seek-later at n (clear at (omega arith) (omega arith)) ∙ seek-none n (suc at) (λ k p q. clear k (omega arith) (omega arith))
@@ -83,7 +83,7 @@ module _ (bytes tos : List ℕ) (b : ℕ) where
 
   -- ---- what was found
 
-  pub seek_found : (n at : ℕ) {j : ℕ} → seek bytes tos b at n ≡ some j → Holds bytes tos b at n j
+  pub seek_found : (n at : ℕ) {j : ℕ} → seek bytes tos b at n ≡ Some j → Holds bytes tos b at n j
   unfolding seek
   seek_found zero at e = none-some e
   seek_found (suc n) at {j} e = go (eqb (get_or bytes at 0) b) refl (seek_found n (suc at)) e
@@ -92,8 +92,8 @@ module _ (bytes tos : List ℕ) (b : ℕ) where
       later h = record { edge = h.edge; from = omega arith; below = omega arith; byte = h.byte; target = h.target }
 
       go :
-          (t : Bool) → eqb (get_or bytes at 0) b ≡ t → (seek bytes tos b (suc at) n ≡ some j → Holds bytes tos b (suc at) n j)
-          → cond t (some (get_or tos at 0)) (seek bytes tos b (suc at) n) ≡ some j → Holds bytes tos b at (suc n) j
+          (t : Bool) → eqb (get_or bytes at 0) b ≡ t → (seek bytes tos b (suc at) n ≡ Some j → Holds bytes tos b (suc at) n j)
+          → cond t (Some (get_or tos at 0)) (seek bytes tos b (suc at) n) ≡ Some j → Holds bytes tos b at (suc n) j
       go true p rest q =
           record { edge = at; from = omega arith; below = omega arith; byte = eqb-true (get_or bytes at 0) b p; target = cc }
       go false p rest q = later (rest q)
@@ -145,7 +145,7 @@ module _ (bytes tos : List ℕ) (b : ℕ) where
 
     -- The turn of a search that has the `left` edges from `low` on before it, and looks at three of them, `part` apart: it goes
     -- on by `part` for each whose byte is at most b, and leaves out three parts in all.
-    module _ (low part left : ℕ) (from : at ≤ low) (some : 3 * part < left) (parted : 4 * part ≤ left) (to : low + left ≤ at + n) where
+    module _ (low part left : ℕ) (from : at ≤ low) (Some : 3 * part < left) (parted : 4 * part ≤ left) (to : low + left ≤ at + n) where
       abbrev one : ℕ
       one = get_or bytes (low + part) 0
 
@@ -207,5 +207,5 @@ passed_is part x b p q = go (leb x b) refl
         rw one (omega arith)
     go false e =
         let l : b < x = leb-false x b e in
-        let none : (256 + b - x) / 256 ≡ 0 = omega arith in
-        rw none (omega arith)
+        let None : (256 + b - x) / 256 ≡ 0 = omega arith in
+        rw None (omega arith)

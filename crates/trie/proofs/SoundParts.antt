@@ -60,7 +60,7 @@ module _ (bytes : List ℕ) (at n : ℕ) where
   edges-rise h l = rw (le-leb (at + n) (length bytes) h, le-leb n 256 l)
 
   -- the turns of a loop that has i of the bytes behind it, and looks at the byte i and the one before it
-  module _ (i : ℕ) (some : 1 ≤ i) where
+  module _ (i : ℕ) (Some : 1 ≤ i) where
     pub rises-more : rises bytes at i ≡ true → get_or bytes (at + i - 1) 0 < get_or bytes (at + i) 0 → rises bytes at (i + 1) ≡ true
     unfolding rise
     rises-more h l =

@@ -1,7 +1,6 @@
 -- "Tries (000, 001)": the parts in their columns, and walks in any parts, sound or not. A string is a list of bytes.
 -- Definitions only; assumes nothing.
-use Rattle.std.specs.Prelude.{ℕ, zero, suc, cond, List, [], ◌∷◌, eqb, get_or}
-use Rattle.std.proofs.Math.Option.{Option, none, some}
+use Rattle.std.specs.Prelude.{ℕ, zero, suc, cond, List, [], ◌∷◌, eqb, get_or, Option, None, Some}
 use Rattle.std.specs.Borrow.{Bor}
 use Rattle.refusal.specs.Sizes.{no_id}
 use Rattle.refusal.specs.Lent.{Lent, was}
@@ -28,10 +27,10 @@ parts_now edge_at edge_n id byte to = parts_of edge_at.now edge_n.now id.now byt
 
 -- the target of the byte b among the n edges from `at` on
 unfoldable pub seek : List ℕ → List ℕ → ℕ → ℕ → ℕ → Option ℕ
-seek bytes tos b at zero = none
+seek bytes tos b at zero = None
 seek bytes tos b at (suc n) =
     let later = seek bytes tos b (suc at) n in
-    cond (eqb (get_or bytes at 0) b) (some (get_or tos at 0)) later
+    cond (eqb (get_or bytes at 0) b) (Some (get_or tos at 0)) later
 
 -- where the byte b leads from node k
 unfoldable pub step : Trie → ℕ → ℕ → Option ℕ
@@ -39,16 +38,16 @@ step t k b = seek t.byte t.to b (get_or t.edge_at k 0) (get_or t.edge_n k 0)
 
 -- where the walk over s from node k ends, if every step is there
 unfoldable pub walk : Trie → ℕ → List ℕ → Option ℕ
-walk t k [] = some k
-walk t k (b ∷ s) = elim (step t k b) [ none ↦ none | some j ↦ walk t j s ]
+walk t k [] = Some k
+walk t k (b ∷ s) = elim (step t k b) [ None ↦ None | Some j ↦ walk t j s ]
 
 -- the id of node k: "a node that ends no token has id 4,294,967,295"
 unfoldable pub id_at : Trie → ℕ → Option ℕ
-id_at t k = let i = get_or t.id k no_id in cond (eqb i no_id) none (some i)
+id_at t k = let i = get_or t.id k no_id in cond (eqb i no_id) None (Some i)
 
 -- the id that the walk over s from node k ends with
 unfoldable pub id_from : Trie → ℕ → List ℕ → Option ℕ
-id_from t k s = elim (walk t k s) [ none ↦ none | some j ↦ id_at t j ]
+id_from t k s = elim (walk t k s) [ None ↦ None | Some j ↦ id_at t j ]
 
 -- "A string has the id of the node its walk from the root ends in, if it has one." "Node 0 is the root."
 unfoldable pub id_of : Trie → List ℕ → Option ℕ

@@ -1,11 +1,6 @@
 -- What steps and walks in sound parts rest on, and their answers as options. Definitions only; assumes nothing.
-use Rattle.std.specs.Prelude.{◌≡◌, ℕ, ◌<◌, true, cond, List, eqb, length, get_or}
-use Rattle.std.proofs.Math.Option.{Option, none, some}
+use Rattle.std.specs.Prelude.{◌≡◌, ℕ, ◌<◌, true, cond, List, eqb, length, get_or, Option, None, Some}
 use Rattle.refusal.specs.Sizes.{no_id}
-use Rattle.trie.specs.declared.checked.Step.{Step}
-use Rattle.trie.specs.declared.checked.Step.TheVariants.{To, Stop}
-use Rattle.trie.specs.declared.checked.NodeId.{NodeId}
-use Rattle.trie.specs.declared.checked.NodeId.TheVariants.{Is, Missing}
 use Rattle.trie.specs.Trie.{parts_of, seek}
 use Rattle.trie.specs.Sound.{sound}
 
@@ -16,18 +11,18 @@ pub record Stands (edge_at edge_n byte to : List ℕ) (node : ℕ) : Type 0 wher
   pub inside : node < length edge_at
 
 -- the node that a step leads to
-abbrev pub next_of : Step → Option ℕ
-next_of (To walk) = some walk.node
-next_of Stop = none
+abbrev pub next_of : Option Walk → Option ℕ
+next_of (Some walk) = Some walk.node
+next_of None = None
 
 -- the id that a node has
-abbrev pub id_in : NodeId → Option ℕ
-id_in (Is i) = some i
-id_in Missing = none
+abbrev pub id_in : Option ℕ → Option ℕ
+id_in (Some i) = Some i
+id_in None = None
 
 -- a place of a table: a node, or the mark for none
 abbrev pub marked : ℕ → Option ℕ
-marked x = cond (eqb x no_id) none (some x)
+marked x = cond (eqb x no_id) None (Some x)
 
 -- a table of where each byte leads among the n edges from `at` on
 pub record Leads (bytes tos : List ℕ) (at n : ℕ) (first : List ℕ) : Type 0 where

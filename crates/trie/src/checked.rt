@@ -15,20 +15,6 @@ pub struct Walk {
     pub node: u32,
 }
 
-// Where a step leads.
-#[derive(Clone, Copy)]
-pub enum Step {
-    To(Walk),
-    Stop,
-}
-
-// The id of a node, if it ends a token.
-#[derive(Clone, Copy)]
-pub enum NodeId {
-    Is(u32),
-    Missing,
-}
-
 // `part` where x is at most b, else 0. By a number and not a branch: the next byte of a text can't be foretold, and a wrong
 // guess costs more than the rest of a turn.
 fn passed(part: usize, x: u8, b: u8) -> usize
@@ -38,34 +24,34 @@ fn passed(part: usize, x: u8, b: u8) -> usize
 }
 
 // The target of the byte b among the n edges from `at` on, which are three at most.
-fn seek_few(byte: &[u8], to: &[u32], at: usize, n: usize, b: u8) -> Step
+fn seek_few(byte: &[u8], to: &[u32], at: usize, n: usize, b: u8) -> Option<Walk>
     requires { (n ≤ 3) × (at + n ≤ length byte.now) × (at + n ≤ length to.now) }
     ensures { next_of result ≡ seek (was byte) (was to) b at n }
 {
     if n == 0 {
-        return Step::Stop;
+        return None;
     }
     if byte[at] == b {
-        return Step::To(Walk { node: to[at] });
+        return Some(Walk { node: to[at] });
     }
     if n == 1 {
-        return Step::Stop;
+        return None;
     }
     if byte[at + 1] == b {
-        return Step::To(Walk { node: to[at + 1] });
+        return Some(Walk { node: to[at + 1] });
     }
     if n == 2 {
-        return Step::Stop;
+        return None;
     }
     if byte[at + 2] == b {
-        return Step::To(Walk { node: to[at + 2] });
+        return Some(Walk { node: to[at + 2] });
     }
-    Step::Stop
+    None
 }
 
 // The target of the byte b among the n edges from `at` on. Their bytes rise, so each turn leaves out three quarters of those
 // that are left: 4 turns for 256 edges. Its three reads don't wait for each other.
-fn seek(byte: &[u8], to: &[u32], at: usize, n: usize, b: u8) -> Step
+fn seek(byte: &[u8], to: &[u32], at: usize, n: usize, b: u8) -> Option<Walk>
     requires { (at + n ≤ length byte.now) × (at + n ≤ length to.now) × (rises byte.now at n ≡ true) }
     ensures { next_of result ≡ seek (was byte) (was to) b at n }
 {
@@ -83,15 +69,15 @@ fn seek(byte: &[u8], to: &[u32], at: usize, n: usize, b: u8) -> Step
 }
 
 // Where the byte b leads from the root by the table.
-fn first_step(first: &[u32], b: u8) -> Step
+fn first_step(first: &[u32], b: u8) -> Option<Walk>
     requires { length first.now ≡ 256 }
     ensures { next_of result ≡ marked (get_or (was first) b no_id) }
 {
     let x = first[b as usize];
     if x == NO_ID {
-        return Step::Stop;
+        return None;
     }
-    Step::To(Walk { node: x })
+    Some(Walk { node: x })
 }
 
 // Makes the table of where each byte leads from the root, from marks alone. It goes from the last edge to the first: were there
@@ -119,7 +105,7 @@ impl Walk {
     }
 
     // Where the byte b leads from here, in parts with any ids.
-    pub fn step(self, edge_at: &[u32], edge_n: &[u16], byte: &[u8], to: &[u32], b: u8) -> Step
+    pub fn step(self, edge_at: &[u32], edge_n: &[u16], byte: &[u8], to: &[u32], b: u8) -> Option<Walk>
         requires { Stands edge_at.now edge_n.now byte.now to.now self.node }
         ensures { (ids : List ℕ) → next_of result ≡ step (parts_of (was edge_at) (was edge_n) ids (was byte) (was to))
             self.node b }
@@ -139,7 +125,7 @@ impl Walk {
         to: &[u32],
         first: &[u32],
         b: u8,
-    ) -> Step
+    ) -> Option<Walk>
         requires stands { Stands edge_at.now edge_n.now byte.now to.now self.node }
         requires leads { Leads byte.now to.now (get_or edge_at.now 0 0) (get_or edge_n.now 0 0) first.now }
         ensures { (ids : List ℕ) → next_of result ≡ step (parts_of (was edge_at) (was edge_n) ids (was byte) (was to))
@@ -152,7 +138,7 @@ impl Walk {
     }
 
     // Where the bytes of s lead from here.
-    pub fn over(self, edge_at: &[u32], edge_n: &[u16], byte: &[u8], to: &[u32], s: &[u8]) -> Step
+    pub fn over(self, edge_at: &[u32], edge_n: &[u16], byte: &[u8], to: &[u32], s: &[u8]) -> Option<Walk>
         requires { Stands edge_at.now edge_n.now byte.now to.now self.node }
         ensures { (ids : List ℕ) → next_of result ≡ walk (parts_of (was edge_at) (was edge_n) ids (was byte) (was to))
             self.node (was s) }
@@ -161,31 +147,24 @@ impl Walk {
         let mut i: usize = 0;
         while i < s.len() {
             let here = Walk { node };
-            match here.step(edge_at, edge_n, byte, to, s[i]) {
-                Step::To(next) => {
-                    node = next.node;
-                }
-                Step::Stop => {
-                    return Step::Stop;
-                }
-            }
+            node = here.step(edge_at, edge_n, byte, to, s[i])?.node;
             i += 1;
         }
-        Step::To(Walk { node })
+        Some(Walk { node })
     }
 }
 
 // The id of the node of a position, in parts with any edges.
-pub fn id_at(id: &[u32], at: Walk) -> NodeId
+pub fn id_at(id: &[u32], at: Walk) -> Option<u32>
     requires { at.node < length id.now }
     ensures { (t : Trie) → t.id ≡ was id → id_in result ≡ id_at t at.node }
 {
     let node = at.node as usize;
     let i = id[node];
     if i == NO_ID {
-        return NodeId::Missing;
+        return None;
     }
-    NodeId::Is(i)
+    Some(i)
 }
 
 // The id of the string s, if it has one.
@@ -196,12 +175,10 @@ pub fn exact(
     byte: &[u8],
     to: &[u32],
     s: &[u8],
-) -> NodeId
+) -> Option<u32>
     requires { sound (parts_now edge_at edge_n id byte to) ≡ true }
     ensures { id_in result ≡ id_of (parts edge_at edge_n id byte to) (was s) }
 {
-    match Walk::root().over(edge_at, edge_n, byte, to, s) {
-        Step::To(end) => id_at(id, end),
-        Step::Stop => NodeId::Missing,
-    }
+    let end = Walk::root().over(edge_at, edge_n, byte, to, s)?;
+    id_at(id, end)
 }

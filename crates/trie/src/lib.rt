@@ -1,8 +1,7 @@
 // Trie parts in lent columns: soundness, steps and walks, and looking a string up.
 #![tactic(auto)]
 
-use checked::NodeId;
-use refusal::{Fault, Judged, MAX_TEXT};
+use refusal::{Fault, MAX_TEXT};
 
 pub mod checked;
 pub mod soundness;
@@ -14,14 +13,6 @@ ghost use Rattle.trie.specs.Sound.{sound, sound_scored};
 ghost use Rattle.trie.specs.Lookup.{LookedUp};
 ghost use Rattle.refusal.specs.Lent.{was};
 
-// What a look-up answers.
-#[derive(Clone, Copy)]
-pub enum LookupAnswer {
-    Found(u32),
-    Absent,
-    Refused(Fault),
-}
-
 // The look-up in sound parts of a text within the limit: what is left to refuse is an ill-formed text.
 fn look_up(
     edge_at: &[u32],
@@ -30,17 +21,12 @@ fn look_up(
     byte: &[u8],
     to: &[u32],
     s: &[u8],
-) -> LookupAnswer
+) -> Result<Option<u32>, Fault>
     requires { (sound (parts_now edge_at edge_n id byte to) ≡ true) × (length s.now ≤ 65536) }
     ensures { LookedUp true (parts edge_at edge_n id byte to) (was s) result }
 {
-    if let Judged::Bad(f) = text::utf8::judge(s) {
-        return LookupAnswer::Refused(f);
-    }
-    match checked::exact(edge_at, edge_n, id, byte, to, s) {
-        NodeId::Is(i) => LookupAnswer::Found(i),
-        NodeId::Missing => LookupAnswer::Absent,
-    }
+    text::utf8::judge(s)?;
+    Ok(checked::exact(edge_at, edge_n, id, byte, to, s))
 }
 
 // The id of a text in a Unigram trie's parts: refused are a text above the limit, then parts that are not sound, then an
@@ -54,15 +40,15 @@ pub fn exact(
     to: &[u32],
     unknown_score: f64,
     text: &[u8],
-) -> LookupAnswer
+) -> Result<Option<u32>, Fault>
     ensures { let t = parts edge_at edge_n id byte to in LookedUp
         (sound_scored t (scores_was score) (units unknown_score)) t (was text) result }
 {
     if MAX_TEXT < text.len() {
-        return LookupAnswer::Refused(Fault::Size);
+        return Err(Fault::Size);
     }
     if !soundness::sound_scored(edge_at, edge_n, id, score, byte, to, unknown_score) {
-        return LookupAnswer::Refused(Fault::Trie);
+        return Err(Fault::Trie);
     }
     look_up(edge_at, edge_n, id, byte, to, text)
 }
@@ -75,14 +61,14 @@ pub fn exact_unscored(
     byte: &[u8],
     to: &[u32],
     text: &[u8],
-) -> LookupAnswer
+) -> Result<Option<u32>, Fault>
     ensures { let t = parts edge_at edge_n id byte to in LookedUp (sound t) t (was text) result }
 {
     if MAX_TEXT < text.len() {
-        return LookupAnswer::Refused(Fault::Size);
+        return Err(Fault::Size);
     }
     if !soundness::sound(edge_at, edge_n, id, byte, to) {
-        return LookupAnswer::Refused(Fault::Trie);
+        return Err(Fault::Trie);
     }
     look_up(edge_at, edge_n, id, byte, to, text)
 }

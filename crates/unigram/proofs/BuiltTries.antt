@@ -2,11 +2,11 @@
 -- parts are sound and their scores finite, so `segment` never refuses them with 8; and looking a string up in them is looking
 -- it up in the row list: its piece is the first row with that token, with that row's score. The cut is the trie since N nodes
 -- have N places of each node column and N - 1 edges, and the rest of each column is behind them. Assumes nothing.
+use Rattle.std.specs.Prelude.{Option, None, Some, Ok, Err, ℕ}
 use mathlib.Core.Path.{◌≡◌, refl, sym, ap, ◌∙◌, subst}
 use mathlib.Core.Bool.{true, false}
 use mathlib.Core.List.{List, [], ◌∷◌, map}
 use mathlib.Core.Logic.{◌↔◌, ⊎_elim}
-use mathlib.Core.Option.{Option, none, some}
 use Prim.Native.Nat.{ℕ, zero, suc, ◌≤◌, ◌<◌}
 use native.Mathlib.Omega.{arith}
 use lib.Dec.{T}
@@ -17,7 +17,6 @@ use Rattle.doubles.specs.Units.{units}
 use Rattle.doubles.proofs.Floats.{units-is-double}
 use Rattle.doubles.proofs.Largest.{is_double}
 use Rattle.refusal.specs.declared.Fault.TheVariants as fault
-use Rattle.refusal.specs.declared.CodeAnswer.TheVariants.{Refused}
 use Rattle.refusal.proofs.Codings.{refused-exactly}
 use Rattle.trie.specs.Trie.{Trie, walk, id_at, id_from, id_of}
 use Rattle.trie.specs.Sound.{sound_scored}
@@ -42,7 +41,6 @@ use Rattle.build.proofs.Promises as builds
 use Rattle.build.proofs.BuiltTries.{parts_in, Doubles, score-at, rows-scored}
 use Rattle.build.proofs.BuiltTries as left
 use Rattle.scored.specs.declared.Summary.{Summary}
-use Rattle.scored.specs.declared.BuildAnswer.TheVariants as answer-is
 use Rattle.scored.specs.Build.{Report, report_of, told, Built}
 use Rattle.scored.proofs.Builds.{scores-are}
 use Rattle.cutting.specs.Cuttings.{Piece}
@@ -57,8 +55,8 @@ model_in n m unknown = record { trie = parts_in n m; score = take n m.score; unk
 
 -- the piece that a row is: its index and its score
 unfoldable pub row_piece : List Double → Option ℕ → Option Piece
-row_piece scores none = none
-row_piece scores (some i) = some (record { id = i; score = get_or scores i plus_zero })
+row_piece scores None = None
+row_piece scores (Some i) = Some (record { id = i; score = get_or scores i plus_zero })
 
 pub lent-doubles : (xs : List Float) → ((k : ℕ) → k < length xs → T (fits binary64 (get_or xs k nan))) → Doubles (map units xs)
 lent-doubles xs good k h =
@@ -67,21 +65,21 @@ lent-doubles xs good k h =
 
 -- ---- the first row with a token
 
-later-some : (o : Option ℕ) (i : ℕ) → later o ≡ some i → (j : ℕ) × (o ≡ some j) × (i ≡ suc j)
+later-some : (o : Option ℕ) (i : ℕ) → later o ≡ Some i → (j : ℕ) × (o ≡ Some j) × (i ≡ suc j)
 unfolding later
-later-some none i e = none-some e
-later-some (some j) i e = (j, refl, cc)
+later-some None i e = none-some e
+later-some (Some j) i e = (j, refl, cc)
 
-place-earlier : (ts : List (List ℕ)) (s : List ℕ) (i k : ℕ) → place ts s ≡ some i → k < i → get_or ts k [] ≡ s → ⊥
+place-earlier : (ts : List (List ℕ)) (s : List ℕ) (i k : ℕ) → place ts s ≡ Some i → k < i → get_or ts k [] ≡ s → ⊥
 place-earlier [] s i k e h t = none-some (sym (place-empty s) ∙ e)
 place-earlier (u ∷ ts) s i zero e h t =
-    let z : some 0 ≡ some i = sym (place-hit u ts s (ap (same s) t ∙ same_refl s)) ∙ e in
+    let z : Some 0 ≡ Some i = sym (place-hit u ts s (ap (same s) t ∙ same_refl s)) ∙ e in
     let y : 0 ≡ i = cc in
     omega arith
 place-earlier (u ∷ ts) s i (suc k) e h t =
     ⊎_elim
     (λ (hit : same s u ≡ true).
-    let z : some 0 ≡ some i = sym (place-hit u ts s hit) ∙ e in
+    let z : Some 0 ≡ Some i = sym (place-hit u ts s hit) ∙ e in
     let y : 0 ≡ i = cc in
     omega arith)
     (λ (miss : same s u ≡ false).
@@ -97,7 +95,7 @@ pub record IsFirst (tokens : List (List ℕ)) (s : List ℕ) (i : ℕ) : Type 0 
 
 -- what a look-up of a non-empty string finds is the first row with that token, and only that
 pub first-row-exactly :
-    (tokens : List (List ℕ)) (b : ℕ) (s : List ℕ) (i : ℕ) → (first_row tokens (b ∷ s) ≡ some i) ↔ IsFirst tokens (b ∷ s) i
+    (tokens : List (List ℕ)) (b : ℕ) (s : List ℕ) (i : ℕ) → (first_row tokens (b ∷ s) ≡ Some i) ↔ IsFirst tokens (b ∷ s) i
 unfolding first_row
 first-row-exactly tokens b s i = (
   λ e.
@@ -107,12 +105,12 @@ first-row-exactly tokens b s i = (
         earlier = λ k. place-earlier tokens (b ∷ s) i k e;
       },
   λ f.
-      ⊎_elim (λ (e : place tokens (b ∷ s) ≡ none). absurd (place-nowhere tokens (b ∷ s) i e f.inside f.token))
-      (λ (w : (j : ℕ) × (place tokens (b ∷ s) ≡ some j)). w.1 ∙ ap (λ (k : ℕ). some k) (only f w.0 w.1))
+      ⊎_elim (λ (e : place tokens (b ∷ s) ≡ None). absurd (place-nowhere tokens (b ∷ s) i e f.inside f.token))
+      (λ (w : (j : ℕ) × (place tokens (b ∷ s) ≡ Some j)). w.1 ∙ ap (λ (k : ℕ). Some k) (only f w.0 w.1))
       (found? (place tokens (b ∷ s))),
 )
   where
-    only : IsFirst tokens (b ∷ s) i → (j : ℕ) → place tokens (b ∷ s) ≡ some j → j ≡ i
+    only : IsFirst tokens (b ∷ s) i → (j : ℕ) → place tokens (b ∷ s) ≡ Some j → j ≡ i
     only f j e =
         ⊎_elim (λ (h : j < i). absurd (f.earlier j h (place_at tokens (b ∷ s) j e)))
         (λ (h : i ≤ j). ⊎_elim (λ (l : i < j). absurd (place-earlier tokens (b ∷ s) j i e l f.token)) (λ (l : j ≤ i). omega arith) (below_or i j))
@@ -132,10 +130,10 @@ module _ (tab : List ℕ) (rows : List Row) (bytes : Bytes tab) (few : length ro
   rows-lookup = unigram-lookup tab rows bytes (omega (arith, few))
 
   -- where its walk ends, its name stands
-  node-named : (s : List ℕ) (k : ℕ) → walk (unigram_trie tab rows) 0 s ≡ some k → (k < nodes_of tab rows) × (get_or (names tokens) k [] ≡ s)
+  node-named : (s : List ℕ) (k : ℕ) → walk (unigram_trie tab rows) 0 s ≡ Some k → (k < nodes_of tab rows) × (get_or (names tokens) k [] ≡ s)
   unfolding unigram_trie trie_of
   node-named s k w =
-      let here : place (names tokens) s ≡ some k = sym (walk-built rule (names tokens) (grown-names tokens (tokens-bytes tab rows bytes)) s) ∙ w in
+      let here : place (names tokens) s ≡ Some k = sym (walk-built rule (names tokens) (grown-names tokens (tokens-bytes tab rows bytes)) s) ∙ w in
       (place-below (names tokens) s k here, place_at (names tokens) s k here)
 
   -- and its piece is that row's
@@ -144,43 +142,43 @@ module _ (tab : List ℕ) (rows : List Row) (bytes : Bytes tab) (few : length ro
     model = record { trie = unigram_trie tab rows; score = unigram_scores tab rows; unknown = unknown }
 
     -- the rule, where the walk is known
-    rule-is : {o : Option ℕ} → walk (unigram_trie tab rows) 0 s ≡ o → rule s ≡ elim o [ none ↦ none | some k ↦ id_at (unigram_trie tab rows) k ]
+    rule-is : {o : Option ℕ} → walk (unigram_trie tab rows) 0 s ≡ o → rule s ≡ elim o [ None ↦ None | Some k ↦ id_at (unigram_trie tab rows) k ]
     unfolding id_of id_from
-    rule-is w = sym (rows-lookup s) ∙ ap (λ (o : Option ℕ). elim o [ none ↦ none | some k ↦ id_at (unigram_trie tab rows) k ]) w
+    rule-is w = sym (rows-lookup s) ∙ ap (λ (o : Option ℕ). elim o [ None ↦ None | Some k ↦ id_at (unigram_trie tab rows) k ]) w
 
     pub rows-piece : known model s ≡ row_piece (scores_of rows) (first_row (tokens_of tab rows) s)
     unfolding known piece_at row_piece node_score_of
     rows-piece = by-walk (walk model.trie 0 s) refl
       where
         at-node :
-            (k : ℕ) → walk model.trie 0 s ≡ some k → (o : Option ℕ) → rule s ≡ o
-            → elim o [ none ↦ none | some i ↦ some (record { id = i; score = get_or model.score k plus_zero }) ] ≡ row_piece (scores_of rows) o
-        at-node k w none r = refl
-        at-node k w (some i) r =
+            (k : ℕ) → walk model.trie 0 s ≡ Some k → (o : Option ℕ) → rule s ≡ o
+            → elim o [ None ↦ None | Some i ↦ Some (record { id = i; score = get_or model.score k plus_zero }) ] ≡ row_piece (scores_of rows) o
+        at-node k w None r = refl
+        at-node k w (Some i) r =
             let n = node-named s k w in
-            ap (λ (x : Double). some (record { id = i; score = x }))
+            ap (λ (x : Double). Some (record { id = i; score = x }))
             (score-at tab rows k n.0 ∙ ap (λ (t : List ℕ). node_score_of (scores_of rows) (rule t)) n.1 ∙ ap (node_score_of (scores_of rows)) r)
 
         by-walk : (o : Option ℕ) → walk model.trie 0 s ≡ o → known model s ≡ row_piece (scores_of rows) (rule s)
-        by-walk none w =
-            ap (λ (o : Option ℕ). elim o [ none ↦ none | some k ↦ piece_at model k ]) w ∙ sym (ap (row_piece (scores_of rows)) (rule-is w))
-        by-walk (some k) w =
-            ap (λ (o : Option ℕ). elim o [ none ↦ none | some k ↦ piece_at model k ]) w
+        by-walk None w =
+            ap (λ (o : Option ℕ). elim o [ None ↦ None | Some k ↦ piece_at model k ]) w ∙ sym (ap (row_piece (scores_of rows)) (rule-is w))
+        by-walk (Some k) w =
+            ap (λ (o : Option ℕ). elim o [ None ↦ None | Some k ↦ piece_at model k ]) w
             ∙ at-node k w (id_at model.trie k) (rule-is w)
             ∙ sym (ap (row_piece (scores_of rows)) (rule-is w))
 
 -- ---- sound parts are not refused with 8
 
-pub sound-not-refused : (m : Model) → sound_model m ≡ true → (s : List ℕ) (n : Lengths) → segment_fault (sound_model m) s n ≡ some fault.Trie → ⊥
+pub sound-not-refused : (m : Model) → sound_model m ≡ true → (s : List ℕ) (n : Lengths) → segment_fault (sound_model m) s n ≡ Some fault.Trie → ⊥
 sound-not-refused m sound s n e =
     let z : true ≡ false = sound-fault (sound_model m) s n sound e in
     zero_one cc
 
 -- ---- after a build
 
-module _ (tab : List ℕ) (c : Columns) (m after : Memory) (s : Summary) (bytes : Bytes tab) (b : Built tab c m (answer-is.Built s) after) where
+module _ (tab : List ℕ) (c : Columns) (m after : Memory) (s : Summary) (bytes : Bytes tab) (b : Built tab c m (Ok s) after) where
   -- a list that was built has no fault
-  pub built-fine : columns_fault Unigram tab c ≡ none
+  pub built-fine : columns_fault Unigram tab c ≡ None
   unfolding told
   built-fine = builds.built-fine b refl
 
@@ -228,9 +226,9 @@ module _ (tab : List ℕ) (c : Columns) (m after : Memory) (s : Summary) (bytes 
       abbrev pub parts : Model
       parts = model_in s.nodes after (record { id = unknown; score = units s.unknown_score })
 
-      pub built-not-refused : (t : List ℕ) (n : Lengths) → segment_fault (sound_model parts) t n ≡ some fault.Trie → ⊥
+      pub built-not-refused : (t : List ℕ) (n : Lengths) → segment_fault (sound_model parts) t n ≡ Some fault.Trie → ⊥
       built-not-refused = sound-not-refused parts built-sound
 
       -- and never answers so
-      pub built-not-answered : (t : List ℕ) (scratch left : Scratch) → Segmented parts t scratch (Refused fault.Trie) left → ⊥
+      pub built-not-answered : (t : List ℕ) (scratch left : Scratch) → Segmented parts t scratch (Err fault.Trie) left → ⊥
       built-not-answered t scratch left p = built-not-refused t (lengths_of scratch) ((refused-exactly p.coded fault.Trie).0 refl)

@@ -1,11 +1,11 @@
 -- What a piece is in a Unigram trie meets what the laws of the records ask of any rule: for a well-formed text and sound scored
 -- parts. A node that a walk ends in is one of the parts, so its score is finite; the character at a boundary ends at the next.
 -- Assumes nothing.
+use Rattle.std.specs.Prelude.{Option, None, Some}
 use mathlib.Core.Path.{◌≡◌, refl, sym, ap, subst, ◌∙◌}
 use mathlib.Core.Bool.{Bool, true, false, ◌&&◌, cond}
 use mathlib.Core.List.{List, Option-to_list}
 use mathlib.Core.Logic.{◌⊎◌, inl, inr, ⊎_elim}
-use mathlib.Core.Option.{Option, none, some}
 use Prim.Native.Nat.{ℕ, zero, suc, ◌+◌, ◌-◌, ◌≤◌, ◌<◌}
 use native.Mathlib.Omega.{arith}
 use borrow.Author.Tests.{ltb-true, lt-ltb, eq-eqb}
@@ -34,67 +34,67 @@ use Rattle.cutting.proofs.Reaching.{Reach, all-stand}
 
 -- the piece that a string has, or the unknown one where it is one character
 abbrev pub piece_here : Option Piece → Bool → Piece → Option Piece
-piece_here o one unknown = first o (cond one (some unknown) none)
+piece_here o one unknown = first o (cond one (Some unknown) None)
 
 module _ (m : Model) (s : List ℕ) (i j : ℕ) where
   -- from boundary to boundary
   pub piece-between : i < j → boundary s i ≡ true → boundary s j ≡ true → piece_of m s i j ≡ piece_here (known m (part s i j)) (eqb j (next s i)) m.unknown
   unfolding piece_of
   piece-between l p q =
-      ap (λ (t : Bool). cond t (piece_here (known m (part s i j)) (eqb j (next s i)) m.unknown) none)
+      ap (λ (t : Bool). cond t (piece_here (known m (part s i j)) (eqb j (next s i)) m.unknown) None)
       (both (lt-ltb i j l) (both p q))
 
   pub record Between (p : Piece) : Type 0 where
     pub forward : i < j
     pub from : boundary s i ≡ true
     pub to : boundary s j ≡ true
-    pub here : piece_here (known m (part s i j)) (eqb j (next s i)) m.unknown ≡ some p
+    pub here : piece_here (known m (part s i j)) (eqb j (next s i)) m.unknown ≡ Some p
 
-  pub between : (p : Piece) → piece_of m s i j ≡ some p → Between p
+  pub between : (p : Piece) → piece_of m s i j ≡ Some p → Between p
   unfolding piece_of
   between p = by_tests (ltb i j) (boundary s i) (boundary s j) refl refl refl
     where
       by_tests :
           (a b c : Bool) → ltb i j ≡ a → boundary s i ≡ b → boundary s j ≡ c
-          → cond (a && (b && c)) (piece_here (known m (part s i j)) (eqb j (next s i)) m.unknown) none ≡ some p → Between p
+          → cond (a && (b && c)) (piece_here (known m (part s i j)) (eqb j (next s i)) m.unknown) None ≡ Some p → Between p
       by_tests true true true a b c e = record { forward = ltb-true i j a; from = b; to = c; here = e }
       by_tests true true false a b c e = none-some e
       by_tests true false c' a b c e = none-some e
       by_tests false b' c' a b c e = none-some e
 
 -- what a piece is where it is
-pub here-known : (o : Option Piece) (one : Bool) (u p : Piece) → piece_here o one u ≡ some p → (o ≡ some p) ⊎ ((o ≡ none) × (one ≡ true) × (u ≡ p))
+pub here-known : (o : Option Piece) (one : Bool) (u p : Piece) → piece_here o one u ≡ Some p → (o ≡ Some p) ⊎ ((o ≡ None) × (one ≡ true) × (u ≡ p))
 unfolding first
-here-known (some q) one u p e = inl e
-here-known none true u p e = inr (refl, refl, let same : u ≡ p = cc in same)
-here-known none false u p e = none-some e
+here-known (Some q) one u p e = inl e
+here-known None true u p e = inr (refl, refl, let same : u ≡ p = cc in same)
+here-known None false u p e = none-some e
 
 -- a known piece is that of the node where its walk ends
-pub known-node : (m : Model) (s : List ℕ) (p : Piece) → known m s ≡ some p → (k : ℕ) × (walk m.trie 0 s ≡ some k) × (p.score ≡ get_or m.score k plus_zero)
+pub known-node : (m : Model) (s : List ℕ) (p : Piece) → known m s ≡ Some p → (k : ℕ) × (walk m.trie 0 s ≡ Some k) × (p.score ≡ get_or m.score k plus_zero)
 unfolding known piece_at
 known-node m s p = by-walk (walk m.trie 0 s) refl
   where
-    at-node : (k : ℕ) (o : Option ℕ) → walk m.trie 0 s ≡ some k → elim o [ none ↦ none | some i ↦ some (record { id = i; score = get_or m.score k plus_zero }) ] ≡ some p → (n : ℕ) × (walk m.trie 0 s ≡ some n) × (p.score ≡ get_or m.score n plus_zero)
-    at-node k none w e = none-some e
-    at-node k (some i) w e = (k, w, ap (λ (x : Option Piece). elim x [ none ↦ p.score | some q ↦ q.score ]) (sym e))
+    at-node : (k : ℕ) (o : Option ℕ) → walk m.trie 0 s ≡ Some k → elim o [ None ↦ None | Some i ↦ Some (record { id = i; score = get_or m.score k plus_zero }) ] ≡ Some p → (n : ℕ) × (walk m.trie 0 s ≡ Some n) × (p.score ≡ get_or m.score n plus_zero)
+    at-node k None w e = none-some e
+    at-node k (Some i) w e = (k, w, ap (λ (x : Option Piece). elim x [ None ↦ p.score | Some q ↦ q.score ]) (sym e))
 
-    by-walk : (o : Option ℕ) → walk m.trie 0 s ≡ o → elim o [ none ↦ none | some k ↦ piece_at m k ] ≡ some p → (k : ℕ) × (walk m.trie 0 s ≡ some k) × (p.score ≡ get_or m.score k plus_zero)
-    by-walk none w e = none-some e
-    by-walk (some k) w e = at-node k (id_at m.trie k) w e
+    by-walk : (o : Option ℕ) → walk m.trie 0 s ≡ o → elim o [ None ↦ None | Some k ↦ piece_at m k ] ≡ Some p → (k : ℕ) × (walk m.trie 0 s ≡ Some k) × (p.score ≡ get_or m.score k plus_zero)
+    by-walk None w e = none-some e
+    by-walk (Some k) w e = at-node k (id_at m.trie k) w e
 
-pub one-there : (o : Option Piece) (u : Piece) → (p : Piece) × (piece_here o true u ≡ some p)
+pub one-there : (o : Option Piece) (u : Piece) → (p : Piece) × (piece_here o true u ≡ Some p)
 unfolding first
-one-there none u = (u, refl)
-one-there (some p) u = (p, refl)
+one-there None u = (u, refl)
+one-there (Some p) u = (p, refl)
 
 -- what a list of at most one piece has
-listed_has : (o : Option Piece) (k : ℕ) (p : Piece) → nth (Option-to_list o) k ≡ some p → o ≡ some p
+listed_has : (o : Option Piece) (k : ℕ) (p : Piece) → nth (Option-to_list o) k ≡ Some p → o ≡ Some p
 unfolding nth Option-to_list
-listed_has none k p e = none-some e
-listed_has (some q) zero p e = e
-listed_has (some q) (suc k) p e = none-some e
+listed_has None k p e = none-some e
+listed_has (Some q) zero p e = e
+listed_has (Some q) (suc k) p e = none-some e
 
-listed-first : (o : Option Piece) (p : Piece) → o ≡ some p → nth (Option-to_list o) 0 ≡ some p
+listed-first : (o : Option Piece) (p : Piece) → o ≡ Some p → nth (Option-to_list o) 0 ≡ Some p
 unfolding nth Option-to_list
 listed-first o p e = ap (λ (q : Option Piece). nth (Option-to_list q) 0) e
 
@@ -108,15 +108,15 @@ module _ (m : Model) (s : List ℕ) (well : well_formed s ≡ true) (tested : so
   sound : SoundScored m.trie m.score m.unknown.score
   sound = scored-of m.trie m.score m.unknown.score tested
 
-  finite-piece : (i j : ℕ) (p : Piece) → piece_of m s i j ≡ some p → T (is_finite p.score)
+  finite-piece : (i j : ℕ) (p : Piece) → piece_of m s i j ≡ Some p → T (is_finite p.score)
   finite-piece i j p e =
       ⊎_elim
-      (λ (k : known m (part s i j) ≡ some p).
+      (λ (k : known m (part s i j) ≡ Some p).
       let w = known-node m (part s i j) p k in
       let inside = walk_inside m.trie sound.parts 0 (part s i j) (sound-of m.trie sound.parts).some-node w.1 in
       subst (λ (x : Double). T (is_finite x)) (sym w.2)
       (of-true (sound.finite w.0 (omega (arith, inside, sound.level-score)))))
-      (λ (w : (known m (part s i j) ≡ none) × (eqb j (next s i) ≡ true) × (m.unknown ≡ p)).
+      (λ (w : (known m (part s i j) ≡ None) × (eqb j (next s i) ≡ true) × (m.unknown ≡ p)).
       subst (λ (x : Piece). T (is_finite x.score)) w.2 (of-true sound.finite-unknown))
       (here-known (known m (part s i j)) (eqb j (next s i)) m.unknown p (between m s i j p e).here)
 
@@ -152,26 +152,26 @@ module _ (m : Model) (s : List ℕ) (well : well_formed s ≡ true) (tested : so
       }
 
   -- something stands at every boundary
-  pub boundary-stands : (j : ℕ) → j ≤ length s → boundary s j ≡ true → (x : Double) × (stands_at (rule m s) j ≡ some x)
+  pub boundary-stands : (j : ℕ) → j ≤ length s → boundary s j ≡ true → (x : Double) × (stands_at (rule m s) j ≡ Some x)
   boundary-stands = all-stand given reach (λ j c. total-number given c)
 
   -- where no piece ends the record stays empty: at 0, and inside characters
-  ends-empty : (from j : ℕ) → ((i k : ℕ) (p : Piece) → nth ((rule m s).pieces i j) k ≡ some p → ⊥) → best (rule m s) from j ≡ none
+  ends-empty : (from j : ℕ) → ((i k : ℕ) (p : Piece) → nth ((rule m s).pieces i j) k ≡ Some p → ⊥) → best (rule m s) from j ≡ None
   ends-empty from j no_such =
       unchanged (rule m s) 0 from j (omega arith) (λ i l h. absent ((rule m s).pieces i j) (no_such i)) ∙ none_before (rule m s) j
 
-  pub first-empty : (from : ℕ) → best (rule m s) from 0 ≡ none
+  pub first-empty : (from : ℕ) → best (rule m s) from 0 ≡ None
   first-empty from = ends-empty from 0 (λ i k p e. omega (arith, given.forward i 0 k p e))
 
-  pub within-empty : (from j : ℕ) → boundary s j ≡ false → best (rule m s) from j ≡ none
+  pub within-empty : (from j : ℕ) → boundary s j ≡ false → best (rule m s) from j ≡ None
   within-empty from j e = ends-empty from j (λ i k p h. true-false (reach.to i j k p h) e)
 
   -- no piece starts elsewhere
-  pub starts-on : (i j k : ℕ) (p : Piece) → nth ((rule m s).pieces i j) k ≡ some p → boundary s i ≡ true
+  pub starts-on : (i j k : ℕ) (p : Piece) → nth ((rule m s).pieces i j) k ≡ Some p → boundary s i ≡ true
   starts-on i j k p e = (between m s i j p (listed_has (piece_of m s i j) k p e)).from
 
   -- a piece takes at least one character
-  pub piece-rises : (i j k : ℕ) (p : Piece) → nth ((rule m s).pieces i j) k ≡ some p → characters (take i s) < characters (take j s)
+  pub piece-rises : (i j k : ℕ) (p : Piece) → nth ((rule m s).pieces i j) k ≡ Some p → characters (take i s) < characters (take j s)
   piece-rises i j place p e =
       let b = between m s i j p (listed_has (piece_of m s i j) place p e) in
       let below : i < length s = omega (arith, b.forward, boundary-le s j b.to) in

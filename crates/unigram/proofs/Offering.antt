@@ -1,11 +1,11 @@
 -- The work at one boundary. A walk from it offers each string with an id at its end, byte by byte: what the walk has come to
 -- says which string that is, and where it stops no longer one has an id (`offered-all`). With the one character that has none,
 -- that is every piece (`worked-all`), so the slots hold the records of one start more. Assumes nothing.
+use Rattle.std.specs.Prelude.{Option, None, Some, option_and_then, Option-elim}
 use mathlib.Core.Path.{◌≡◌, refl, sym, ap, subst, ◌∙◌}
 use mathlib.Core.Bool.{Bool, true, false, ◌&&◌, ◌||◌, cond}
 use mathlib.Core.List.{List, [], ◌∷◌, ◌++◌, Option-to_list}
 use mathlib.Core.Logic.{◌⊎◌, inl, inr, ⊎_elim}
-use mathlib.Core.Option.{Option, none, some, bind, Option-elim}
 use Prim.Native.Nat.{ℕ, suc, ◌+◌, ◌-◌, ◌≤◌, ◌<◌}
 use native.Mathlib.Omega.{arith}
 use borrow.Author.Tests.{eq-eqb, ne_eqb, lt-ltb, le-ltb, lt-leb, le-leb}
@@ -38,15 +38,15 @@ use Rattle.cutting.proofs.Columns.{put_as, put_back, Filled, filled_of, filled_m
 module _ (m : Model) (k : ℕ) where
   pub piece_is :
       {o : Option ℕ} → id_at m.trie k ≡ o
-      → piece_at m k ≡ elim o [ none ↦ none | some i ↦ some (record { id = i; score = get_or m.score k plus_zero }) ]
+      → piece_at m k ≡ elim o [ None ↦ None | Some i ↦ Some (record { id = i; score = get_or m.score k plus_zero }) ]
   unfolding piece_at
   piece_is e =
-      ap (λ (o : Option ℕ). elim o [ none ↦ none | some i ↦ some (record { id = i; score = get_or m.score k plus_zero }) ]) e
+      ap (λ (o : Option ℕ). elim o [ None ↦ None | Some i ↦ Some (record { id = i; score = get_or m.score k plus_zero }) ]) e
 
   pub ends_is :
-      (s : List ℕ) (i : ℕ) {t : Bool} → boundary s i ≡ t → ends_here m s k i ≡ elim t [ true ↦ piece_at m k | false ↦ none ]
+      (s : List ℕ) (i : ℕ) {t : Bool} → boundary s i ≡ t → ends_here m s k i ≡ elim t [ true ↦ piece_at m k | false ↦ None ]
   unfolding ends_here
-  ends_is s i e = ap (λ (t : Bool). elim t [ true ↦ piece_at m k | false ↦ none ]) e
+  ends_is s i e = ap (λ (t : Bool). elim t [ true ↦ piece_at m k | false ↦ None ]) e
 
 or_nothing : (a b : Bool) → a ≡ (a || (b && false))
 or_nothing true b = refl
@@ -60,8 +60,8 @@ or-that false false = refl
 
 module _ (m : Model) (s : List ℕ) (node i one : ℕ) (single : Bool) (at : ℕ) (x : Double) (b : Slots) where
   -- no piece ends here
-  pub ended-none : ends_here m s node i ≡ none → Ended m s node i one single at x b b single
-  unfolding after_offer is_some Option-elim
+  pub ended-none : ends_here m s node i ≡ None → Ended m s node i one single at x b b single
+  unfolding after_offer is_some
   ended-none e =
       record {
         put = put_back b i (ap (λ (o : Option Piece). after_offer o x at (slot_at b i)) (sym e));
@@ -69,8 +69,8 @@ module _ (m : Model) (s : List ℕ) (node i one : ℕ) (single : Bool) (at : ℕ
       }
 
   -- a piece does
-  pub ended_some : (p : Piece) (a : Slots) (r : Bool) → ends_here m s node i ≡ some p → PutAt b i (taken (slot_at b i) (candidate x at p)) a → r ≡ (single || eqb i one) → Ended m s node i one single at x b a r
-  unfolding after_offer is_some Option-elim
+  pub ended_some : (p : Piece) (a : Slots) (r : Bool) → ends_here m s node i ≡ Some p → PutAt b i (taken (slot_at b i) (candidate x at p)) a → r ≡ (single || eqb i one) → Ended m s node i one single at x b a r
+  unfolding after_offer is_some
   ended_some p a r e put seen =
       record {
         put = put_as put (ap (λ (o : Option Piece). after_offer o x at (slot_at b i)) (sym e));
@@ -80,45 +80,45 @@ module _ (m : Model) (s : List ℕ) (node i one : ℕ) (single : Bool) (at : ℕ
 -- ---- the string that a walk from `at` has come to
 
 known_is :
-    (m : Model) (s : List ℕ) {o : Option ℕ} → walk m.trie 0 s ≡ o → known m s ≡ elim o [ none ↦ none | some k ↦ piece_at m k ]
+    (m : Model) (s : List ℕ) {o : Option ℕ} → walk m.trie 0 s ≡ o → known m s ≡ elim o [ None ↦ None | Some k ↦ piece_at m k ]
 unfolding known
-known_is m s e = ap (λ (o : Option ℕ). elim o [ none ↦ none | some k ↦ piece_at m k ]) e
+known_is m s e = ap (λ (o : Option ℕ). elim o [ None ↦ None | Some k ↦ piece_at m k ]) e
 
 module _ (m : Model) (s : List ℕ) (at : ℕ) where
   first-false : {a : Bool} (b : Bool) → a ≡ false → a && b ≡ false
   first-false b p = ap (λ (t : Bool). t && b) p
 
-  to-known : (j : ℕ) (t : Bool) → ltb at j && boundary s j ≡ t → known_to m s at j ≡ elim t [ true ↦ known m (part s at j) | false ↦ none ]
+  to-known : (j : ℕ) (t : Bool) → ltb at j && boundary s j ≡ t → known_to m s at j ≡ elim t [ true ↦ known m (part s at j) | false ↦ None ]
   unfolding known_to
-  to-known j t e = ap (λ (b : Bool). elim b [ true ↦ known m (part s at j) | false ↦ none ]) e
+  to-known j t e = ap (λ (b : Bool). elim b [ true ↦ known m (part s at j) | false ↦ None ]) e
 
   pub known_on : (j : ℕ) → at < j → boundary s j ≡ true → known_to m s at j ≡ known m (part s at j)
   known_on j l e = to-known j true (both (lt-ltb at j l) e)
 
-  pub known-off : (j : ℕ) → boundary s j ≡ false → known_to m s at j ≡ none
+  pub known-off : (j : ℕ) → boundary s j ≡ false → known_to m s at j ≡ None
   known-off j e = to-known j false (fails (ltb at j) (boundary s j) e)
 
-  pub known-back : (j : ℕ) → j ≤ at → known_to m s at j ≡ none
+  pub known-back : (j : ℕ) → j ≤ at → known_to m s at j ≡ None
   known-back j l = to-known j false (first-false (boundary s j) (le-ltb at j l))
 
   -- no string passes the end
-  pub known_past : (j : ℕ) → length s < j → known_to m s at j ≡ none
+  pub known_past : (j : ℕ) → length s < j → known_to m s at j ≡ None
   known_past j l = by-test (boundary s j) refl
     where
-      by-test : (t : Bool) → boundary s j ≡ t → known_to m s at j ≡ none
+      by-test : (t : Bool) → boundary s j ≡ t → known_to m s at j ≡ None
       by-test true e = absurd (let h : j ≤ length s = boundary-le s j e in omega arith)
       by-test false e = known-off j e
 
   -- nor one where the walk has stopped
-  pub known-stopped : (j : ℕ) → (at < j → walk m.trie 0 (part s at j) ≡ none) → known_to m s at j ≡ none
+  pub known-stopped : (j : ℕ) → (at < j → walk m.trie 0 (part s at j) ≡ None) → known_to m s at j ≡ None
   known-stopped j none-there = ⊎_elim (λ (l : at < j). by-test l (boundary s j) refl) (λ (l : j ≤ at). known-back j l) (below_or at j)
     where
-      by-test : at < j → (t : Bool) → boundary s j ≡ t → known_to m s at j ≡ none
+      by-test : at < j → (t : Bool) → boundary s j ≡ t → known_to m s at j ≡ None
       by-test l true e = known_on j l e ∙ known_is m (part s at j) (none-there l)
       by-test l false e = known-off j e
 
   -- what ends at the walk's node is the string so far
-  pub ends-known : (i k : ℕ) → at < i → walk m.trie 0 (part s at i) ≡ some k → ends_here m s k i ≡ known_to m s at i
+  pub ends-known : (i k : ℕ) → at < i → walk m.trie 0 (part s at i) ≡ Some k → ends_here m s k i ≡ known_to m s at i
   ends-known i k l w = by-test (boundary s i) refl
     where
       by-test : (t : Bool) → boundary s i ≡ t → ends_here m s k i ≡ known_to m s at i
@@ -134,22 +134,22 @@ module _ (m : Model) (s : List ℕ) (at : ℕ) where
       ∙ take-suc (drop at s) (i - at) 0 (omega (arith, length-drop at s))
       ∙ ap (λ (b : ℕ). part s at i ++ (b ∷ [])) (get_or-drop at s (i - at) 0 ∙ ap (λ (n : ℕ). get_or s n 0) there)
 
-  pub walk-none-yet : walk m.trie 0 (part s at at) ≡ some 0
+  pub walk-none-yet : walk m.trie 0 (part s at at) ≡ Some 0
   walk-none-yet = ap (λ (n : ℕ). walk m.trie 0 (take n (drop at s))) (let e : at - at ≡ 0 = omega arith in e) ∙ walk-nil m.trie 0
 
-  module _ (i k : ℕ) (l : at ≤ i) (h : i < length s) (w : walk m.trie 0 (part s at i) ≡ some k) where
+  module _ (i k : ℕ) (l : at ≤ i) (h : i < length s) (w : walk m.trie 0 (part s at i) ≡ Some k) where
     stepped : walk m.trie 0 (part s at (i + 1)) ≡ step m.trie k (get_or s i 0)
-    unfolding bind
+    unfolding option_and_then
     stepped =
         ap (walk m.trie 0) (part-more i l h)
         ∙ walk-snoc m.trie 0 (part s at i) (get_or s i 0)
-        ∙ ap (λ (o : Option ℕ). bind o (λ j. step m.trie j (get_or s i 0))) w
+        ∙ ap (λ (o : Option ℕ). option_and_then (λ j. step m.trie j (get_or s i 0)) o) w
 
-    pub walk-on : (j : ℕ) → step m.trie k (get_or s i 0) ≡ some j → walk m.trie 0 (part s at (i + 1)) ≡ some j
+    pub walk-on : (j : ℕ) → step m.trie k (get_or s i 0) ≡ Some j → walk m.trie 0 (part s at (i + 1)) ≡ Some j
     walk-on j e = stepped ∙ e
 
     -- where the walk stops no longer string has an id
-    pub walk-over : step m.trie k (get_or s i 0) ≡ none → (j : ℕ) → i < j → known_to m s at j ≡ none
+    pub walk-over : step m.trie k (get_or s i 0) ≡ None → (j : ℕ) → i < j → known_to m s at j ≡ None
     walk-over e j p =
         known-stopped j
         (λ q.
@@ -197,7 +197,7 @@ module _ (m : Model) (s : List ℕ) (at one : ℕ) (x : Double) (b : Slots) wher
     pub slots : Filled goal b (i + 1) now
     pub seen : single ≡ (leb one i && is_some (known_to m s at one))
 
-  untouched : (k : ℕ) → known_to m s at k ≡ none → slot_at b k ≡ goal k
+  untouched : (k : ℕ) → known_to m s at k ≡ None → slot_at b k ≡ goal k
   unfolding after_offer
   untouched k e = ap (λ (o : Option Piece). after_offer o x at (slot_at b k)) (sym e)
 
@@ -208,7 +208,7 @@ module _ (m : Model) (s : List ℕ) (at one : ℕ) (x : Double) (b : Slots) wher
         seen = ap (λ (t : Bool). t && is_some (known_to m s at one)) (sym (lt-leb one at l));
       }
 
-  pub offered-more : {i node : ℕ} {now after : Slots} {single r : Bool} → at ≤ i → walk m.trie 0 (part s at (i + 1)) ≡ some node → Offered i now single → Ended m s node (i + 1) one single at x now after r → Offered (i + 1) after r
+  pub offered-more : {i node : ℕ} {now after : Slots} {single r : Bool} → at ≤ i → walk m.trie 0 (part s at (i + 1)) ≡ Some node → Offered i now single → Ended m s node (i + 1) one single at x now after r → Offered (i + 1) after r
   offered-more {i} {node} {now} {after} {single} {r} l w o e =
       record {
         slots =
@@ -222,7 +222,7 @@ module _ (m : Model) (s : List ℕ) (at one : ℕ) (x : Double) (b : Slots) wher
       ends : ends_here m s node (i + 1) ≡ known_to m s at (i + 1)
       ends = ends-known m s at (i + 1) node (omega arith) w
 
-  pub offered-all : {i : ℕ} {now : Slots} {single : Bool} → Offered i now single → ((j : ℕ) → i < j → known_to m s at j ≡ none) → KnownOffered m s at one x b now single
+  pub offered-all : {i : ℕ} {now : Slots} {single : Bool} → Offered i now single → ((j : ℕ) → i < j → known_to m s at j ≡ None) → KnownOffered m s at one x b now single
   unfolding is_some Option-elim
   offered-all {i} {now} {single} o none-past =
       record {
@@ -239,30 +239,30 @@ pub record EachOffered (m : Model) (s : List ℕ) (at : ℕ) (x : Double) (befor
 
 here-other : (o : Option Piece) (u : Piece) → piece_here o false u ≡ o
 unfolding first
-here-other none u = refl
-here-other (some p) u = refl
+here-other None u = refl
+here-other (Some p) u = refl
 
-here-one : (o : Option Piece) (u p : Piece) → o ≡ some p → piece_here o true u ≡ some p
+here-one : (o : Option Piece) (u p : Piece) → o ≡ Some p → piece_here o true u ≡ Some p
 unfolding first
 here-one o u p e = ap (λ (q : Option Piece). piece_here q true u) e
 
-here-unknown : (o : Option Piece) (u : Piece) → o ≡ none → piece_here o true u ≡ some u
+here-unknown : (o : Option Piece) (u : Piece) → o ≡ None → piece_here o true u ≡ Some u
 unfolding first
 here-unknown o u e = ap (λ (q : Option Piece). piece_here q true u) e
 
-is-some : (o : Option Piece) → is_some o ≡ true → (p : Piece) × (o ≡ some p)
+is-some : (o : Option Piece) → is_some o ≡ true → (p : Piece) × (o ≡ Some p)
 unfolding is_some Option-elim
-is-some none e = absurd (true-false e refl)
-is-some (some p) e = (p, refl)
+is-some None e = absurd (true-false e refl)
+is-some (Some p) e = (p, refl)
 
-is_none : (o : Option Piece) → is_some o ≡ false → o ≡ none
+is_none : (o : Option Piece) → is_some o ≡ false → o ≡ None
 unfolding is_some Option-elim
-is_none none e = refl
-is_none (some p) e = absurd (true-false refl e)
+is_none None e = refl
+is_none (Some p) e = absurd (true-false refl e)
 
 module _ (m : Model) (s : List ℕ) (at : ℕ) (on : boundary s at ≡ true) where
-  absent-piece : (k : ℕ) → ((p : Piece) → piece_of m s at k ≡ some p → ⊥) → piece_of m s at k ≡ none
-  absent-piece k no_such = ⊎_elim (λ (e : piece_of m s at k ≡ none). e) (λ (w : (p : Piece) × (piece_of m s at k ≡ some p)). absurd (no_such w.0 w.1)) (looked (piece_of m s at k))
+  absent-piece : (k : ℕ) → ((p : Piece) → piece_of m s at k ≡ Some p → ⊥) → piece_of m s at k ≡ None
+  absent-piece k no_such = ⊎_elim (λ (e : piece_of m s at k ≡ None). e) (λ (w : (p : Piece) × (piece_of m s at k ≡ Some p)). absurd (no_such w.0 w.1)) (looked (piece_of m s at k))
 
   -- any other length
   pub piece-known : (k : ℕ) → (k ≡ next s at → ⊥) → piece_of m s at k ≡ known_to m s at k
@@ -308,8 +308,8 @@ module _ (m : Model) (s : List ℕ) (at : ℕ) (on : boundary s at ≡ true) whe
       unfolding after_offer
       all-unknown {last} e put =
           let n = next s at in
-          let missing : known_to m s at n ≡ none = is_none (known_to m s at n) (sym o.seen ∙ e) in
-          let here : piece_of m s at n ≡ some m.unknown = one_char ∙ here-unknown (known_to m s at n) m.unknown missing in
+          let missing : known_to m s at n ≡ None = is_none (known_to m s at n) (sym o.seen ∙ e) in
+          let here : piece_of m s at n ≡ Some m.unknown = one_char ∙ here-unknown (known_to m s at n) m.unknown missing in
           let was : slot_at after n ≡ slot_at before n = o.slots n ∙ ap (λ (p : Option Piece). after_offer p x at (slot_at before n)) missing in
           let now : slot_at last n ≡ after_offer (piece_of m s at n) x at (slot_at before n) =
           put.slots n
@@ -332,10 +332,10 @@ module _ (m : Model) (s : List ℕ) (at : ℕ) (on : boundary s at ≡ true) whe
 -- ---- the slots hold the records of one start more
 
 -- as a list of at most one
-offer-listed : (o : Option Piece) (x : Double) (at : ℕ) (r : Slot) → ((p : Piece) → o ≡ some p → is_number (sum x p.score) ≡ true) → after_offer o x at r ≡ after_offers is_number (Option-to_list o) x at r
+offer-listed : (o : Option Piece) (x : Double) (at : ℕ) (r : Slot) → ((p : Piece) → o ≡ Some p → is_number (sum x p.score) ≡ true) → after_offer o x at r ≡ after_offers is_number (Option-to_list o) x at r
 unfolding after_offer after_offers Option-to_list candidate
-offer-listed none x at r number = refl
-offer-listed (some p) x at r number = ap (λ (t : Bool). cond t (taken r (candidate x at p)) r) (sym (number p refl))
+offer-listed None x at r number = refl
+offer-listed (Some p) x at r number = ap (λ (t : Bool). cond t (taken r (candidate x at p)) r) (sym (number p refl))
 
 pub worked-all :
     {m : Model} {s : List ℕ} (ready : Ready m s) (at : ℕ) (on : boundary s at ≡ true) (below : at < length s) {r : ℕ} {x : Double} {before after : Slots}
@@ -351,10 +351,10 @@ worked-all {m} {s} ready at on below {r} {x} {before} {after} there h e o =
     laws : Pieces (length s) (rule m s)
     laws = given m s well ready.sound
 
-    stands : stands_at (rule m s) at ≡ some x
+    stands : stands_at (rule m s) at ≡ Some x
     stands =
         let w = boundary-stands m s well ready.sound at (omega arith) on in
-        stands-held laws at before w.0 h (omega arith) w.1 ∙ ap some (sym e)
+        stands-held laws at before w.0 h (omega arith) w.1 ∙ ap Some (sym e)
 
     all : AllOffered (rule m s) at x before after
     all =

@@ -1,9 +1,9 @@
 -- Ids placed one after another, and the turns of merging in these terms. Assumes nothing.
+use Rattle.std.specs.Prelude.{Option, None, Some}
 use mathlib.Core.Path.{◌≡◌, refl, sym, ap, subst, ◌∙◌}
 use mathlib.Core.Bool.{Bool, true, false, cond}
 use mathlib.Core.List.{List, [], ◌∷◌, ◌++◌, append_assoc}
 use mathlib.Core.Logic.{⊎_elim}
-use mathlib.Core.Option.{Option, none, some}
 use Prim.Native.Nat.{ℕ, suc, ◌+◌, ◌-◌, ◌≤◌, ◌<◌}
 use native.Mathlib.Nat.{add-zero}
 use native.Mathlib.Omega.{arith}
@@ -80,15 +80,15 @@ rest_more a b n r l e =
 
 -- the run from `run` up to `at`, whose id is still to come: none where the two are one
 unfoldable pub run_of : ℕ → ℕ → Option ℕ
-run_of run at = cond (ltb run at) (some run) none
+run_of run at = cond (ltb run at) (Some run) None
 
-run-there : (run at : ℕ) → run < at → run_of run at ≡ some run
+run-there : (run at : ℕ) → run < at → run_of run at ≡ Some run
 unfolding run_of
-run-there run at l = ap (λ (t : Bool). cond t (some run) none) (lt-ltb run at l)
+run-there run at l = ap (λ (t : Bool). cond t (Some run) None) (lt-ltb run at l)
 
-run_none : (run at : ℕ) → at ≤ run → run_of run at ≡ none
+run_none : (run at : ℕ) → at ≤ run → run_of run at ≡ None
 unfolding run_of
-run_none run at l = ap (λ (t : Bool). cond t (some run) none) (le-ltb run at l)
+run_none run at l = ap (λ (t : Bool). cond t (Some run) None) (le-ltb run at l)
 
 module _ (id_of : ℕ → ℕ → Option ℕ) (unknown : ℕ) where
   pub ids-there : (run at : ℕ) → run < at → run_ids id_of unknown run at ≡ run_id id_of unknown run at ∷ []
@@ -112,7 +112,7 @@ module _ (id_of : ℕ → ℕ → Option ℕ) (unknown : ℕ) where
   unfolding run_of run_ids
   owed-is run at = by-test (ltb run at)
     where
-      by-test : (t : Bool) → owed id_of unknown (cond t (some run) none) at ≡ cond t (run_id id_of unknown run at ∷ []) []
+      by-test : (t : Bool) → owed id_of unknown (cond t (Some run) None) at ≡ cond t (run_id id_of unknown run at ∷ []) []
       by-test true = refl
       by-test false = refl
 
@@ -140,14 +140,14 @@ module _ (id_of : ℕ → ℕ → Option ℕ) (unknown : ℕ) where
         by-test true h =
             let same : x ≡ unknown = eqb-true x unknown h in
             merged-more id_of unknown (run_of run at) at (piece-to e x) es h
-            ∙ ap (λ (i : ℕ). merged id_of unknown (some i) e es) (begun-is run at back)
+            ∙ ap (λ (i : ℕ). merged id_of unknown (Some i) e es) (begun-is run at back)
             ∙ ap (λ (o : Option ℕ). merged id_of unknown o e es) (sym (run-there run e (omega arith)) ∙ ap (λ (t : Bool). run_of (cond t run e) e) (sym h))
             ∙ ap (λ (u : List ℕ). u ++ merged id_of unknown (run_of (next-run x run e) e) e es) (sym (closes-not run at x same))
         by-test false h =
             let other : x ≡ unknown → ⊥ = eqb-false x unknown h in
             merged-more id_of unknown (run_of run at) at (piece-to e x) es h
-            ∙ ap (λ (u : List ℕ). u ++ (x ∷ merged id_of unknown none e es)) (owed-is run at)
-            ∙ sym (append_assoc (run_ids id_of unknown run at) (x ∷ []) (merged id_of unknown none e es))
+            ∙ ap (λ (u : List ℕ). u ++ (x ∷ merged id_of unknown None e es)) (owed-is run at)
+            ∙ sym (append_assoc (run_ids id_of unknown run at) (x ∷ []) (merged id_of unknown None e es))
             ∙ ap (λ (o : Option ℕ). (run_ids id_of unknown run at ++ (x ∷ [])) ++ merged id_of unknown o e es) (sym (run_none e e (omega arith)) ∙ ap (λ (t : Bool). run_of (cond t run e) e) (sym h))
             ∙ ap (λ (u : List ℕ). u ++ merged id_of unknown (run_of (next-run x run e) e) e es) (sym (closes run at x other))
 
@@ -190,7 +190,7 @@ pub record Going (id_of : ℕ → ℕ → Option ℕ) (unknown limit : ℕ) (slo
   pub ends : Ends limit at (drop k path)
   pub few : n + length (run_ids id_of unknown run at) ≤ k
   pub level : length ids ≡ length before
-  pub all : merged id_of unknown none 0 (steps_at slot_ids path) ≡ take n ids ++ merged id_of unknown (run_of run at) at (steps_at slot_ids (drop k path))
+  pub all : merged id_of unknown None 0 (steps_at slot_ids path) ≡ take n ids ++ merged id_of unknown (run_of run at) at (steps_at slot_ids (drop k path))
   pub rest : drop n ids ≡ drop n before
 
 module _ (id_of : ℕ → ℕ → Option ℕ) (unknown limit : ℕ) (slot_ids path before : List ℕ) where
@@ -245,12 +245,12 @@ module _ (id_of : ℕ → ℕ → Option ℕ) (unknown limit : ℕ) (slot_ids pa
     -- at the end the run's id is written
     pub going_end :
         {after : List ℕ} {r : ℕ} → length path ≤ k → length path ≤ length before → Placed (run_ids id_of unknown run at) ids n after r
-        → let all = merged id_of unknown none 0 (steps_at slot_ids path) in (r ≡ length all) × (after ≡ overlay all before)
+        → let all = merged id_of unknown None 0 (steps_at slot_ids path) in (r ≡ length all) × (after ≡ overlay all before)
     going_end {after} {r} l room p =
         let fits : n + length (run_ids id_of unknown run at) ≤ length ids =
         omega (arith, g.few, g.level, g.within)
         in
-        let total = merged id_of unknown none 0 (steps_at slot_ids path) in
+        let total = merged id_of unknown None 0 (steps_at slot_ids path) in
         let whole : total ≡ take n ids ++ run_ids id_of unknown run at =
         g.all
         ∙ ap (λ (u : List ℕ). take n ids ++ merged id_of unknown (run_of run at) at (steps_at slot_ids u)) (drop_of_length-le path l)

@@ -1,10 +1,10 @@
 -- `segment`: which test gives which fault, what is tested where there is none, and the promise from the fault, from an empty
 -- text, or from the cutting. Assumes nothing.
+use Rattle.std.specs.Prelude.{None, Some, Ok, Err, ℕ}
 use mathlib.Core.Path.{◌≡◌, refl, sym, ap, ◌∙◌}
 use mathlib.Core.Bool.{Bool, true, false, ◌&&◌, ◌||◌, cond}
 use mathlib.Core.List.{List, [], ◌∷◌}
 use mathlib.Core.Logic.{⊎_elim}
-use mathlib.Core.Option.{none, some}
 use Prim.Native.Nat.{ℕ, ◌+◌, ◌≤◌, ◌<◌}
 use native.Mathlib.Omega.{arith}
 use borrow.Author.Tests.{lt-ltb, le-ltb, eq-eqb, ltb-false}
@@ -14,7 +14,6 @@ use lib.ListN.{length, length-map}
 use Rattle.doubles.specs.Units.{units}
 use Rattle.refusal.specs.declared.Fault.{Fault}
 use Rattle.refusal.specs.declared.Fault.TheVariants as fault
-use Rattle.refusal.specs.declared.CodeAnswer.TheVariants.{Ids, Refused}
 use Rattle.refusal.specs.Refusal.{refuse}
 use Rattle.refusal.proofs.Tests.{found, not_found, found_first, none_first, passed, both-passed, Not, refused-so, first_so, nothing-so}
 use Rattle.refusal.proofs.Codings.{coded-refused, coded-ids}
@@ -35,28 +34,28 @@ use Rattle.unigram.proofs.Segmenting.{pieces-few, law-held}
 -- ---- which fault
 
 module _ (parts : Bool) (s : List ℕ) (n : Lengths) where
-  pub fault-early : {f : Fault} → lookup_fault parts s ≡ some f → segment_fault parts s n ≡ some f
+  pub fault-early : {f : Fault} → lookup_fault parts s ≡ Some f → segment_fault parts s n ≡ Some f
   unfolding segment_fault
   fault-early e = found_first _ e
 
-  module _ (fine : lookup_fault parts s ≡ none) where
-    past-text : segment_fault parts s n ≡ refuse (short_scratch s n) fault.Scratch (refuse (ltb n.ids (characters s)) fault.Ids none)
+  module _ (fine : lookup_fault parts s ≡ None) where
+    past-text : segment_fault parts s n ≡ refuse (short_scratch s n) fault.Scratch (refuse (ltb n.ids (characters s)) fault.Ids None)
     unfolding segment_fault
     past-text = none_first _ fine
 
-    pub fault-scratch : short_scratch s n ≡ true → segment_fault parts s n ≡ some fault.Scratch
+    pub fault-scratch : short_scratch s n ≡ true → segment_fault parts s n ≡ Some fault.Scratch
     fault-scratch e = past-text ∙ found _ fault.Scratch _ e
 
     module _ (room : short_scratch s n ≡ false) where
-      pub fault-ids : n.ids < characters s → segment_fault parts s n ≡ some fault.Ids
-      fault-ids l = past-text ∙ not_found _ fault.Scratch _ room ∙ found _ fault.Ids none (lt-ltb n.ids (characters s) l)
+      pub fault-ids : n.ids < characters s → segment_fault parts s n ≡ Some fault.Ids
+      fault-ids l = past-text ∙ not_found _ fault.Scratch _ room ∙ found _ fault.Ids None (lt-ltb n.ids (characters s) l)
 
-      pub fault-none : characters s ≤ n.ids → segment_fault parts s n ≡ none
-      fault-none l = past-text ∙ not_found _ fault.Scratch _ room ∙ not_found _ fault.Ids none (le-ltb n.ids (characters s) l)
+      pub fault-none : characters s ≤ n.ids → segment_fault parts s n ≡ None
+      fault-none l = past-text ∙ not_found _ fault.Scratch _ room ∙ not_found _ fault.Ids None (le-ltb n.ids (characters s) l)
 
   -- what is known where there is none
-  module _ (None-found : segment_fault parts s n ≡ none) where
-    tests : (lookup_fault parts s ≡ none) × (refuse (short_scratch s n) fault.Scratch (refuse (ltb n.ids (characters s)) fault.Ids none) ≡ none)
+  module _ (None-found : segment_fault parts s n ≡ None) where
+    tests : (lookup_fault parts s ≡ None) × (refuse (short_scratch s n) fault.Scratch (refuse (ltb n.ids (characters s)) fault.Ids None) ≡ None)
     unfolding segment_fault
     tests = both-passed _ _ None-found
 
@@ -64,16 +63,16 @@ module _ (parts : Bool) (s : List ℕ) (n : Lengths) where
     enough-scratch = (passed _ fault.Scratch _ tests.1).0
 
     pub enough-ids : characters s ≤ n.ids
-    enough-ids = ltb-false n.ids (characters s) (passed _ fault.Ids none (passed _ fault.Scratch _ tests.1).1).0
+    enough-ids = ltb-false n.ids (characters s) (passed _ fault.Ids None (passed _ fault.Scratch _ tests.1).1).0
 
   -- no fault of a call with sound parts is 8
-  pub sound-fault : parts ≡ true → {f : Fault} → segment_fault parts s n ≡ some f → Not 8 f
+  pub sound-fault : parts ≡ true → {f : Fault} → segment_fault parts s n ≡ Some f → Not 8 f
   unfolding segment_fault
   sound-fault e =
       first_so (Not 8) _ _ (sound-lookup s e)
-      (refused-so (Not 8) _ fault.Scratch _ refl (refused-so (Not 8) _ fault.Ids none refl (nothing-so (Not 8))))
+      (refused-so (Not 8) _ fault.Scratch _ refl (refused-so (Not 8) _ fault.Ids None refl (nothing-so (Not 8))))
 
-pub ready_for : (m : Model) (s : List ℕ) (n : Lengths) → segment_fault (sound_model m) s n ≡ none → Ready m s
+pub ready_for : (m : Model) (s : List ℕ) (n : Lengths) → segment_fault (sound_model m) s n ≡ None → Ready m s
 ready_for m s n e =
     let fine = lookup-fine (sound_model m) s (tests (sound_model m) s n e).0 in
     record { sound = fine.1; well = fine.2; size = fine.0 }
@@ -81,11 +80,11 @@ ready_for m s n e =
 -- ---- the promise
 
 module _ (m : Model) (s : List ℕ) (b : Scratch) where
-  pub refused-for : {f : Fault} → segment_fault (sound_model m) s (lengths_of b) ≡ some f → Segmented m s b (Refused f) b
+  pub refused-for : {f : Fault} → segment_fault (sound_model m) s (lengths_of b) ≡ Some f → Segmented m s b (Err f) b
   refused-for e = record { coded = coded-refused e; law = λ h. absurd (zero_one cc) }
 
   -- an empty text has no ids, and nothing is written
-  pub empty-for : segment_fault (sound_model m) s (lengths_of b) ≡ none → Ready m s → length s ≡ 0 → Segmented m s b (Ids 0) b
+  pub empty-for : segment_fault (sound_model m) s (lengths_of b) ≡ None → Ready m s → length s ≡ 0 → Segmented m s b (Ok 0) b
   unfolding writes ids_of
   empty-for free ready e =
       let stays : writes m s b ≡ b = ap (λ (t : Bool). cond t b (written m s b)) (eq-eqb (length s) 0 e) in
@@ -161,12 +160,12 @@ pub record Prepared (m : Model) (s starts slot_ids : List ℕ) (scores : List Fl
 -- what the cutting rests on: an empty text asks for no slots, and has no characters
 pub prepared-for :
     (m : Model) (s starts ids : List ℕ) (scores : List Float) (path places : List ℕ)
-    → segment_fault (sound_model m) s (lengths_of (scratch_of starts ids scores path places)) ≡ none → Prepared m s starts ids scores path places
+    → segment_fault (sound_model m) s (lengths_of (scratch_of starts ids scores path places)) ≡ None → Prepared m s starts ids scores path places
 unfolding short_scratch
 prepared-for m s starts ids scores path places None-found =
     let n = length s in
     let lent = lengths (length starts) (length ids) (length scores) (length path) (length places) in
-    let free : segment_fault (sound_model m) s lent ≡ none = sym (ap (segment_fault (sound_model m) s) (lengths-are starts ids scores path places)) ∙ None-found in
+    let free : segment_fault (sound_model m) s lent ≡ None = sym (ap (segment_fault (sound_model m) s) (lengths-are starts ids scores path places)) ∙ None-found in
     let all : 0 < n → (n < length starts) × (n < length ids) × (n < length scores) × (characters s ≤ length path) =
     λ h. enough-room n (characters s) (length starts) (length ids) (length scores) (length path) h (enough-scratch (sound_model m) s lent free)
     in

@@ -1,10 +1,10 @@
 -- The whole cutting. A Unigram trie's pieces meet what the laws of any rule ask (`given`), so the slots are those of
 -- `slots_left`, the path is that of the pieces, and demand 3 holds; the ids merged from the path are the text's. Assumes
 -- nothing.
+use Rattle.std.specs.Prelude.{None, Some, Ok, ℕ}
 use mathlib.Core.Path.{◌≡◌, sym, ap, subst, ◌∙◌}
 use mathlib.Core.Bool.{Bool, true, cond}
 use mathlib.Core.List.{List, map}
-use mathlib.Core.Option.{none, some}
 use Prim.Native.Nat.{ℕ, ◌≤◌, ◌<◌}
 use native.Mathlib.Omega.{arith}
 use borrow.Author.Tests.{ne_eqb}
@@ -14,7 +14,6 @@ use lib.Seq.{take_at, take-length}
 use lib.Dec.{T}
 use Rattle.doubles.specs.Double.{Double}
 use Rattle.doubles.specs.Units.{units}
-use Rattle.refusal.specs.declared.CodeAnswer.TheVariants.{Ids}
 use Rattle.refusal.specs.Places.{overlay}
 use Rattle.refusal.proofs.Codings.{coded-ids}
 use Rattle.text.specs.Text.{boundary, characters}
@@ -41,11 +40,11 @@ module _ {m : Model} {s : List ℕ} (ready : Ready m s) where
   laws : Pieces (length s) (rule m s)
   laws = given m s ready.well ready.sound
 
-  stands : (j : ℕ) → j ≤ length s → boundary s j ≡ true → (x : Double) × (stands_at (rule m s) j ≡ some x)
+  stands : (j : ℕ) → j ≤ length s → boundary s j ≡ true → (x : Double) × (stands_at (rule m s) j ≡ Some x)
   stands = boundary-stands m s ready.well ready.sound
 
   -- what stands at the end
-  abbrev last : (x : Double) × (stands_at (rule m s) (length s) ≡ some x)
+  abbrev last : (x : Double) × (stands_at (rule m s) (length s) ≡ Some x)
   last = stands (length s) (omega arith) (boundary_end s)
 
   -- the pieces are no more than the characters
@@ -103,11 +102,11 @@ module _ {m : Model} {s : List ℕ} (ready : Ready m s) where
         }
 
     -- and what it gives
-    pub ids-are : merged (part_id m.trie s) m.unknown.id none 0 (steps_at a.id (take n path')) ≡ ids_of m s
+    pub ids-are : merged (part_id m.trie s) m.unknown.id None 0 (steps_at a.id (take n path')) ≡ ids_of m s
     unfolding ids_of
     ids-are =
-        ap (λ (u : List ℕ). merged (part_id m.trie s) m.unknown.id none 0 (steps_at a.id u)) front-is
-        ∙ ap (merged (part_id m.trie s) m.unknown.id none 0) (steps-are laws w.slots last.0 last.1)
+        ap (λ (u : List ℕ). merged (part_id m.trie s) m.unknown.id None 0 (steps_at a.id u)) front-is
+        ∙ ap (merged (part_id m.trie s) m.unknown.id None 0) (steps-are laws w.slots last.0 last.1)
 
 -- ---- all together
 
@@ -116,12 +115,12 @@ scratch c path ids = record { slots = c; path = path; ids = ids }
 
 pub cut_of :
     {m : Model} {s : List ℕ} (ready : Ready m s) {starts ids : List ℕ} {scores : List Float} {path places : List ℕ} (starts' ids' : List ℕ)
-    (scores' : List Float) {path' places' : List ℕ} {n count : ℕ} → segment_fault (sound_model m) s (lengths_of (scratch_of starts ids scores path places)) ≡ none → (length s ≡ 0 → ⊥) → Inside starts ids scores (length s)
+    (scores' : List Float) {path' places' : List ℕ} {n count : ℕ} → segment_fault (sound_model m) s (lengths_of (scratch_of starts ids scores path places)) ≡ None → (length s ≡ 0 → ⊥) → Inside starts ids scores (length s)
     → length starts' ≡ length starts → length ids' ≡ length ids → length scores' ≡ length scores
     → BestCutting m s (slots_of starts ids scores) path (slots_of starts' ids' scores') path' n
-    → let all = merged (part_id m.trie s) m.unknown.id none 0 (steps_at ids' (take n path')) in
+    → let all = merged (part_id m.trie s) m.unknown.id None 0 (steps_at ids' (take n path')) in
     (count ≡ length all) × (places' ≡ overlay all places)
-    → Segmented m s (scratch_of starts ids scores path places) (Ids count) (scratch_of starts' ids' scores' path' places')
+    → Segmented m s (scratch_of starts ids scores path places) (Ok count) (scratch_of starts' ids' scores' path' places')
 unfolding written writes scratch
 cut_of {m} {s} ready {starts} {ids} {scores} {path} {places} starts' ids' scores' {path'} {places'} {n} {count} free some-text inside level-start level-id level-score w g =
     let before = scratch_of starts ids scores path places in

@@ -1,6 +1,5 @@
 -- What merging reads and writes: the path, the slots' ids, the lent id places. Definitions only; assumes nothing.
-use Rattle.std.specs.Prelude.{◌≡◌, ℕ, ◌+◌, ◌≤◌, ◌<◌, true, cond, List, [], ◌∷◌, ◌++◌, ltb, eqb, length, take, drop}
-use Rattle.std.proofs.Math.Option.{Option}
+use Rattle.std.specs.Prelude.{◌≡◌, ℕ, ◌+◌, ◌≤◌, ◌<◌, true, cond, List, [], ◌∷◌, ◌++◌, ltb, eqb, length, take, drop, Option}
 use Rattle.trie.specs.Trie.{Trie}
 use Rattle.trie.specs.Sound.{sound}
 use Rattle.cutting.specs.Tracing.{Ends}

@@ -1,7 +1,6 @@
 -- Which pieces a text has in a Unigram trie, and its ids. Definitions only; assumes nothing.
-use Rattle.std.specs.Prelude.{ℕ, ◌&&◌, cond, ltb, eqb, length, get_or}
+use Rattle.std.specs.Prelude.{ℕ, ◌&&◌, cond, ltb, eqb, length, get_or, Option, None, Some}
 use mathlib.Core.List.{List, Option-to_list}
-use Rattle.std.proofs.Math.Option.{Option, none, some}
 use Rattle.doubles.specs.Double.{Double, plus_zero, is_number}
 use Rattle.refusal.specs.Refusal.{first}
 use Rattle.text.specs.Text.{boundary, next, part}
@@ -18,18 +17,18 @@ pub record Model : Type 0 where
 
 -- the piece that node k ends: its id and its score, if it has an id
 unfoldable pub piece_at : Model → ℕ → Option Piece
-piece_at m k = elim (id_at m.trie k) [ none ↦ none | some i ↦ some (record { id = i; score = get_or m.score k plus_zero }) ]
+piece_at m k = elim (id_at m.trie k) [ None ↦ None | Some i ↦ Some (record { id = i; score = get_or m.score k plus_zero }) ]
 
 -- the piece that the string s is, if it has an id
 unfoldable pub known : Model → List ℕ → Option Piece
-known m s = elim (walk m.trie 0 s) [ none ↦ none | some k ↦ piece_at m k ]
+known m s = elim (walk m.trie 0 s) [ None ↦ None | Some k ↦ piece_at m k ]
 
 -- "From each character boundary, a piece is any non-empty string with an id that matches there and ends on a boundary. If none
 -- is exactly one character long, that one character is also a piece, with the unknown id and score."
 unfoldable pub piece_of : Model → List ℕ → ℕ → ℕ → Option Piece
 piece_of m s i j =
-    let unknown = cond (eqb j (next s i)) (some m.unknown) none in
-    cond (ltb i j && (boundary s i && boundary s j)) (first (known m (part s i j)) unknown) none
+    let unknown = cond (eqb j (next s i)) (Some m.unknown) None in
+    cond (ltb i j && (boundary s i && boundary s j)) (first (known m (part s i j)) unknown) None
 
 -- The rule of Unigram: a span has at most one piece. "A sum beyond the largest double is infinite as IEEE 754 has it and still
 -- compares": every sum that is a number counts.
@@ -46,4 +45,4 @@ part_id t s i j = id_of t (part s i j)
 
 -- the ids of s
 unfoldable pub ids_of : Model → List ℕ → List ℕ
-ids_of m s = merged (part_id m.trie s) m.unknown.id none 0 (pieces_of m s)
+ids_of m s = merged (part_id m.trie s) m.unknown.id None 0 (pieces_of m s)

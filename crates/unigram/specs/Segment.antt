@@ -1,9 +1,7 @@
 -- What `unigram::segment` promises. Definitions only; assumes nothing.
-use Rattle.std.specs.Prelude.{◌≡◌, ℕ, ◌+◌, Bool, ◌&&◌, ◌||◌, cond, List, [], ◌∷◌, T, ltb, eqb, length}
-use Rattle.std.proofs.Math.Option.{Option, none}
+use Rattle.std.specs.Prelude.{◌≡◌, ℕ, ◌+◌, Bool, ◌&&◌, ◌||◌, cond, List, [], ◌∷◌, T, ltb, eqb, length, Option, None, Result}
 use Rattle.refusal.specs.declared.Fault.{Fault}
 use Rattle.refusal.specs.declared.Fault.TheVariants as fault
-use Rattle.refusal.specs.declared.CodeAnswer.{CodeAnswer}
 use Rattle.refusal.specs.Refusal.{refuse, first}
 use Rattle.refusal.specs.Coding.{Coded}
 use Rattle.refusal.specs.Places.{overlay}
@@ -48,7 +46,7 @@ unfoldable pub segment_fault : Bool → List ℕ → Lengths → Option Fault
 segment_fault sound_parts s n =
     first (lookup_fault sound_parts s)
     (refuse (short_scratch s n) fault.Scratch
-    (refuse (ltb n.ids (characters s)) fault.Ids none))
+    (refuse (ltb n.ids (characters s)) fault.Ids None))
 
 -- "After success: ids in order; places past them unchanged; the first path places hold the end offsets of the pieces before
 -- merging, in order, the rest unchanged; slot 0 and slots inside characters are empty; other slots up to the text's length hold
@@ -76,6 +74,6 @@ abbrev pub sound_model : Model → Bool
 sound_model m = sound_scored m.trie m.score m.unknown.score
 
 -- What `segment` promises of its answer and of the lent columns, before and after.
-pub record Segmented (m : Model) (s : List ℕ) (before : Scratch) (answer : CodeAnswer) (after : Scratch) : Type 0 where
+pub record Segmented (m : Model) (s : List ℕ) (before : Scratch) (answer : Result ℕ Fault) (after : Scratch) : Type 0 where
   pub coded : Coded (segment_fault (sound_model m) s (lengths_of before)) (ids_of m s) (writes m s before) before answer after
-  pub law : segment_fault (sound_model m) s (lengths_of before) ≡ none → RecordLaw m s after
+  pub law : segment_fault (sound_model m) s (lengths_of before) ≡ None → RecordLaw m s after

@@ -1,6 +1,5 @@
 -- What the work at one boundary does to the slots, and what it rests on. Definitions only; assumes nothing.
-use Rattle.std.specs.Prelude.{◌≡◌, ℕ, ◌≤◌, ◌<◌, Bool, true, false, ◌&&◌, ◌||◌, List, map, ltb, eqb, Float, length}
-use Rattle.std.proofs.Math.Option.{Option, none, Option-elim}
+use Rattle.std.specs.Prelude.{◌≡◌, ℕ, ◌≤◌, ◌<◌, Bool, true, false, ◌&&◌, ◌||◌, List, map, ltb, eqb, Float, length, Option, None}
 use Rattle.doubles.specs.Double.{Double}
 use Rattle.doubles.specs.Units.{units}
 use Rattle.std.specs.Borrow.{Bor}
@@ -33,11 +32,11 @@ model_now edge_at edge_n id score byte to unknown unknown_score =
     model_of edge_at.now edge_n.now id.now score.now byte.now to.now unknown unknown_score
 
 unfoldable pub is_some : Option Piece → Bool
-is_some o = Option-elim o false (λ p. true)
+is_some o = elim o [ None ↦ false | Some p ↦ true ]
 
 -- the piece that node k ends at i, if i is a boundary
 unfoldable pub ends_here : Model → List ℕ → ℕ → ℕ → Option Piece
-ends_here m s k i = elim (boundary s i) [ true ↦ piece_at m k | false ↦ none ]
+ends_here m s k i = elim (boundary s i) [ true ↦ piece_at m k | false ↦ None ]
 
 -- The work at one end i of a walk from `at`: the piece that ends there is offered, and `single` becomes true where it is one
 -- character long.
@@ -48,7 +47,7 @@ pub record Ended (m : Model) (s : List ℕ) (node i one : ℕ) (single : Bool) (
 
 -- the string from `at` to j with an id, where j is a boundary
 unfoldable pub known_to : Model → List ℕ → ℕ → ℕ → Option Piece
-known_to m s at j = elim (ltb at j && boundary s j) [ true ↦ known m (part s at j) | false ↦ none ]
+known_to m s at j = elim (ltb at j && boundary s j) [ true ↦ known m (part s at j) | false ↦ None ]
 
 -- a walk may be begun at `at`, in sound parts with a score for each node; `one` is past it, and the text is within the limit
 pub record Walkable (edge_at edge_n id : List ℕ) (score : List Float) (byte to s : List ℕ) (at one : ℕ) : Type 0 where

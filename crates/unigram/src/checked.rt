@@ -1,8 +1,6 @@
 // The cutting of a text, for layers above that have tested the parts, or all.
-ghost use Rattle.std.specs.Prelude.{◌≡◌, ◌&&◌, ◌||◌, [], ◌∷◌, ◌+◌, ltb};
-ghost use Rattle.std.proofs.Math.Option.{none};
-ghost use Rattle.refusal.specs.declared.CodeAnswer.TheVariants.{Ids};
-ghost use Rattle.refusal.specs.Refusal.{fault_in};
+ghost use Rattle.std.specs.Result.{result_err};
+ghost use Rattle.std.specs.Prelude.{◌≡◌, ◌&&◌, ◌||◌, [], ◌∷◌, ◌+◌, ltb, None, Ok};
 ghost use Rattle.build.specs.Memory.{any_below};
 ghost use Rattle.unigram.specs.Segment.{lengths, lengths_of, segment_fault, sound_model, Segmented};
 ghost use Rattle.unigram.specs.Work.{model, model_now};
@@ -31,9 +29,9 @@ pub fn segment(
     ids: &mut [u32],
 ) -> usize
     requires { segment_fault (sound_model (model_now edge_at edge_n id score byte to unknown unknown_score)) text.now
-        (lengths_of (scratch_now start slot_id slot_score path ids)) ≡ none }
+        (lengths_of (scratch_now start slot_id slot_score path ids)) ≡ None }
     ensures { Segmented (model edge_at edge_n id score byte to unknown unknown_score) (was text)
-        (scratch_was start slot_id slot_score path ids) (Ids result) (scratch_is start slot_id slot_score path ids) }
+        (scratch_was start slot_id slot_score path ids) (Ok result) (scratch_is start slot_id slot_score path ids) }
 {
     if text.len() == 0 {
         return 0;
@@ -105,7 +103,7 @@ fn judge(
     path: usize,
     ids: usize,
 ) -> Judged
-    ensures { fault_in result ≡ segment_fault sound (was text) (lengths starts slot_ids slot_scores path ids) }
+    ensures { result_err result ≡ segment_fault sound (was text) (lengths starts slot_ids slot_scores path ids) }
 {
     if MAX_TEXT < text.len() {
         return Judged::Bad(Fault::Size);
@@ -121,7 +119,7 @@ fn judge(
         return Judged::Bad(Fault::Scratch);
     }
     if ids < characters {
-        return Judged::Bad(Fault::Ids);
+        return Judged::Bad(Fault::Ok);
     }
     Judged::Fine
 }
@@ -159,7 +157,7 @@ pub fn segment_tested(
     );
     match judged {
         Judged::Bad(f) => CodeAnswer::Refused(f),
-        Judged::Fine => CodeAnswer::Ids(segment(
+        Judged::Fine => CodeAnswer::Ok(segment(
             edge_at,
             edge_n,
             id,

@@ -1,7 +1,6 @@
 // Runs of adjacent pieces with the unknown id become one id: that of the whole run's bytes if they have one, else the unknown
 // id. A run that is still to come goes from `run` up to `at`; where the two are one, there is none.
-ghost use Rattle.std.specs.Prelude.{◌≡◌, cond, ◌+◌, ◌<◌, eqb, length};
-ghost use Rattle.std.proofs.Math.Option.{none};
+ghost use Rattle.std.specs.Prelude.{◌≡◌, cond, ◌+◌, ◌<◌, eqb, length, None};
 ghost use Rattle.trie.specs.Trie.{parts, parts_now};
 ghost use Rattle.unigram.specs.Runs.{run_id, merged};
 ghost use Rattle.unigram.specs.Pieces.{part_id};
@@ -112,7 +111,7 @@ pub(crate) fn merge(
     ids: &mut [u32],
 ) -> usize
     requires { Mergeable (parts_now edge_at edge_n id byte to) text.now slot_id.now path.now ids.old }
-    ensures { let all = merged (part_id (parts edge_at edge_n id byte to) (was text)) unknown none 0
+    ensures { let all = merged (part_id (parts edge_at edge_n id byte to) (was text)) unknown None 0
         (steps_at (was slot_id) (was path)) in (result ≡ length all) × (ids.new ≡ overlay all ids.old) }
 {
     let mut n: usize = 0;

@@ -1,9 +1,9 @@
 -- What `from_rows` promises: the room decides, and what the core says of its rows is said of the columns' rows. No score column
 -- is lent. Assumes nothing.
+use Rattle.std.specs.Prelude.{None, Option, Ok, Err, Some, ℕ}
 use mathlib.Core.Path.{◌≡◌, refl, sym, ap, ◌∙◌}
 use mathlib.Core.Bool.{Bool}
 use mathlib.Core.List.{List, []}
-use mathlib.Core.Option.{none}
 use Prim.Native.Nat.{ℕ}
 use native.Mathlib.Omega.{arith}
 use lib.Dec.{ltb}
@@ -14,8 +14,6 @@ use Rattle.rows.specs.declared.Kind.TheVariants.{WordPiece}
 use Rattle.rows.specs.Rows.{Row}
 use Rattle.rows.specs.Columns.{Columns, rows_of, columns_fault}
 use Rattle.rows.specs.Answers.{columns}
-use Rattle.build.specs.declared.Built as core
-use Rattle.build.specs.declared.Built.TheVariants.{Nodes, NoRoom}
 use Rattle.build.specs.Given.{given}
 use Rattle.build.specs.Memory.{Memory, with_scores, no_room}
 use Rattle.build.specs.Checked.{room_of, nodes_of, BuiltOf}
@@ -24,12 +22,11 @@ use Rattle.build.proofs.Rooms.{no_room_by, nodes-some}
 use Rattle.build.proofs.Outcomes.{core-fits}
 use Rattle.build.proofs.Judging.{nodes-small, columns-built}
 use Rattle.build.proofs.Promises.{core-short, core-held}
-use Rattle.wordpiece.specs.declared.BuildAnswer.TheVariants as answer-is
 use Rattle.wordpiece.specs.Build.{told, Built}
 
-module _ (tab off len : List ℕ) (ids : List ℕ) (m after : Memory) {room : ℕ} {answer : core.Built}
+module _ (tab off len : List ℕ) (ids : List ℕ) (m after : Memory) {room : ℕ} {answer : (Option ℕ)}
     (r : room ≡ room_of m) (d : BuiltOf WordPiece tab (given off len ids) room m after answer)
-    (scored : List Bool) (scores : List Float) (fine : columns_fault WordPiece tab (columns off len scored scores ids) ≡ none)
+    (scored : List Bool) (scores : List Float) (fine : columns_fault WordPiece tab (columns off len scored scores ids) ≡ None)
   where
     abbrev c : Columns
     c = columns off len scored scores ids
@@ -43,11 +40,11 @@ module _ (tab off len : List ℕ) (ids : List ℕ) (m after : Memory) {room : �
         no_room_by (with_scores m []) (nodes_of tab rows) (nodes-some tab rows) (omega (arith, nodes-small WordPiece tab c fine))
         ∙ ap (λ (k : ℕ). ltb k (nodes_of tab rows)) (sym r)
 
-    pub lists-full : answer ≡ NoRoom → Built tab c (with_scores m []) (answer-is.Refused (reason.Call fault.Room)) (with_scores after [])
+    pub lists-full : answer ≡ None → Built tab c (with_scores m []) (Err (reason.Call fault.Room)) (with_scores after [])
     unfolding told
     lists-full e = core-short WordPiece tab rows (nodes_of tab rows) m after [] [] (columns-built WordPiece tab c fine d) fine decides e refl
 
-    pub lists-built : {n : ℕ} → answer ≡ Nodes n → Built tab c (with_scores m []) (answer-is.Built n) (with_scores after [])
+    pub lists-built : {n : ℕ} → answer ≡ Some n → Built tab c (with_scores m []) (Ok n) (with_scores after [])
     unfolding told scores_in
     lists-built e =
         let same = columns-built WordPiece tab c fine d in

@@ -2,10 +2,10 @@
 -- sound, so `encode` never refuses it with 8; looking a string up in it is looking it up in the row list; and so the ids of a
 -- word are those over the row list. The cut is the trie since N nodes have N places of each node column and N - 1 edges, and
 -- the rest of each column is behind them. Assumes nothing.
+use Rattle.std.specs.Prelude.{None, Some, Ok, ℕ}
 use mathlib.Core.Path.{◌≡◌, refl, ap, ◌∙◌}
 use mathlib.Core.Bool.{true, false}
 use mathlib.Core.List.{List}
-use mathlib.Core.Option.{none, some}
 use Prim.Native.Nat.{ℕ}
 use Rattle.refusal.specs.declared.Fault.TheVariants as fault
 use Rattle.refusal.proofs.Lists.{zero_one}
@@ -23,7 +23,6 @@ use Rattle.build.proofs.Judging.{rows-fine, few-rows, ids-marked}
 use Rattle.build.proofs.Promises as builds
 use Rattle.build.proofs.BuiltTries.{parts_in, rows-sound}
 use Rattle.build.proofs.BuiltTries as left
-use Rattle.wordpiece.specs.declared.BuildAnswer.TheVariants as answer-is
 use Rattle.wordpiece.specs.Build.{told, Built}
 use Rattle.wordpiece.specs.Pieces.{ids_of}
 use Rattle.wordpiece.specs.Encode.{encode_fault}
@@ -32,7 +31,7 @@ use Rattle.wordpiece.proofs.Turns.{ids-same}
 
 -- ---- the trie of fine rows
 
-module _ (tab : List ℕ) (rows : List Row) (bytes : Bytes tab) (fine : first_bad WordPiece tab 0 rows ≡ none) where
+module _ (tab : List ℕ) (rows : List Row) (bytes : Bytes tab) (fine : first_bad WordPiece tab 0 rows ≡ None) where
   pub rows-lookup : (s : List ℕ) → id_of (wordpiece_trie tab rows) s ≡ last_id tab rows s
   rows-lookup = wordpiece-lookup tab rows bytes (ids-marked tab rows fine)
 
@@ -42,16 +41,16 @@ module _ (tab : List ℕ) (rows : List Row) (bytes : Bytes tab) (fine : first_ba
 
 -- ---- sound parts are not refused with 8
 
-pub sound-not-refused : (t : Trie) (prefix w : List ℕ) (places : ℕ) → sound t ≡ true → encode_fault (sound t) prefix w places ≡ some fault.Trie → ⊥
+pub sound-not-refused : (t : Trie) (prefix w : List ℕ) (places : ℕ) → sound t ≡ true → encode_fault (sound t) prefix w places ≡ Some fault.Trie → ⊥
 sound-not-refused t prefix w places s e =
     let z : true ≡ false = sound-fault (sound t) prefix w places s e in
     zero_one cc
 
 -- ---- after a build
 
-module _ (tab : List ℕ) (c : Columns) (m after : Memory) (n : ℕ) (bytes : Bytes tab) (b : Built tab c m (answer-is.Built n) after) where
+module _ (tab : List ℕ) (c : Columns) (m after : Memory) (n : ℕ) (bytes : Bytes tab) (b : Built tab c m (Ok n) after) where
   -- a list that was built has no fault
-  pub built-fine : columns_fault WordPiece tab c ≡ none
+  pub built-fine : columns_fault WordPiece tab c ≡ None
   unfolding told
   built-fine = builds.built-fine b refl
 
@@ -66,7 +65,7 @@ module _ (tab : List ℕ) (c : Columns) (m after : Memory) (n : ℕ) (bytes : By
       ap sound built-parts ∙ rows-sound tab (rows_of c) bytes WordPiece (few-rows WordPiece tab c built-fine) (rows-fine WordPiece tab c built-fine)
 
   -- `encode` does not refuse it with 8
-  pub built-not-refused : (prefix w : List ℕ) (places : ℕ) → encode_fault (sound (parts_in n after)) prefix w places ≡ some fault.Trie → ⊥
+  pub built-not-refused : (prefix w : List ℕ) (places : ℕ) → encode_fault (sound (parts_in n after)) prefix w places ≡ Some fault.Trie → ⊥
   built-not-refused prefix w places = sound-not-refused (parts_in n after) prefix w places built-sound
 
   -- a string has in it the id that the row list gives it

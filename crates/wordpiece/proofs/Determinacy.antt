@@ -1,15 +1,13 @@
 -- The promises of `from_rows` and `encode` fix what they answer and what they leave: each field is an equation with a value of
 -- the inputs.
+use Rattle.std.specs.Prelude.{None, Some, Result, Ok, Err, ℕ}
 use mathlib.Core.Path.{◌≡◌, ap}
 use mathlib.Core.Logic.{◌↔◌}
 use Prim.Native.Nat.{ℕ}
 use mathlib.Core.List.{List}
-use mathlib.Core.Option.{none, some}
 use lib.ListN.{length}
 use Rattle.refusal.specs.declared.Fault.{Fault}
 use Rattle.refusal.specs.declared.Reason.{Reason}
-use Rattle.refusal.specs.declared.CodeAnswer.{CodeAnswer}
-use Rattle.refusal.specs.declared.CodeAnswer.TheVariants.{Ids, Refused}
 use Rattle.refusal.proofs.Codings as codings
 use Rattle.refusal.proofs.Codings.{coded-once}
 use Rattle.trie.specs.Trie.{Trie, id_of}
@@ -21,46 +19,44 @@ use Rattle.build.specs.Checked.{nodes_of}
 use Rattle.build.specs.Promise.{build_fault}
 use Rattle.build.proofs.Promises as builds
 use Rattle.build.proofs.Promises.{promised-once}
-use Rattle.wordpiece.specs.declared.BuildAnswer.{BuildAnswer}
-use Rattle.wordpiece.specs.declared.BuildAnswer.TheVariants as build-is
 use Rattle.wordpiece.specs.Build.{told, Built}
 use Rattle.wordpiece.specs.Pieces.{ids_of}
 use Rattle.wordpiece.specs.Encode.{encode_fault, Encoded}
 
 -- an answer is known by what it tells
-told-known : (a b : BuildAnswer) → told a ≡ told b → a ≡ b
+told-known : (a b : Result ℕ Reason) → told a ≡ told b → a ≡ b
 unfolding told
-told-known (build-is.Built n) (build-is.Built k) e = let same : n ≡ k = cc in ap build-is.Built same
-told-known (build-is.Built n) (build-is.Refused r) e = cc
-told-known (build-is.Refused r) (build-is.Built n) e = cc
-told-known (build-is.Refused q) (build-is.Refused r) e = let same : q ≡ r = cc in ap build-is.Refused same
+told-known (Ok n) (Ok k) e = let same : n ≡ k = cc in ap Ok same
+told-known (Ok n) (Err r) e = cc
+told-known (Err r) (Ok n) e = cc
+told-known (Err q) (Err r) e = let same : q ≡ r = cc in ap Err same
 
-pub built-once : (tab : List ℕ) (c : Columns) (m : Memory) (a b : BuildAnswer) {m₁ m₂ : Memory} → Built tab c m a m₁ → Built tab c m b m₂ → (a ≡ b) × (m₁ ≡ m₂)
+pub built-once : (tab : List ℕ) (c : Columns) (m : Memory) (a b : Result ℕ Reason) {m₁ m₂ : Memory} → Built tab c m a m₁ → Built tab c m b m₂ → (a ≡ b) × (m₁ ≡ m₂)
 built-once tab c m a b p q = let t = promised-once p q in (told-known a b t.0, t.1)
 
 -- `encode`: its answer and what it leaves, and "exactly when", both ways: refused with f exactly when f is the first fault, and
 -- ids exactly when there is none
 module _ (t : Trie) (unknown max_chars : ℕ) (prefix w ids : List ℕ) where
   pub encoded-once :
-      {a b : CodeAnswer} {i₁ i₂ : List ℕ} → Encoded t unknown max_chars prefix w ids a i₁ → Encoded t unknown max_chars prefix w ids b i₂
+      {a b : Result ℕ Fault} {i₁ i₂ : List ℕ} → Encoded t unknown max_chars prefix w ids a i₁ → Encoded t unknown max_chars prefix w ids b i₂
       → (a ≡ b) × (i₁ ≡ i₂)
   encoded-once p q = coded-once p q
 
-  module _ {answer : CodeAnswer} {after : List ℕ} (p : Encoded t unknown max_chars prefix w ids answer after) where
-    pub refused-exactly : (f : Fault) → (answer ≡ Refused f) ↔ (encode_fault (sound t) prefix w (length ids) ≡ some f)
+  module _ {answer : Result ℕ Fault} {after : List ℕ} (p : Encoded t unknown max_chars prefix w ids answer after) where
+    pub refused-exactly : (f : Fault) → (answer ≡ Err f) ↔ (encode_fault (sound t) prefix w (length ids) ≡ Some f)
     refused-exactly = codings.refused-exactly p
 
     pub accepted-exactly :
-        (answer ≡ Ids (length (ids_of (id_of t) unknown max_chars prefix w))) ↔ (encode_fault (sound t) prefix w (length ids) ≡ none)
+        (answer ≡ Ok (length (ids_of (id_of t) unknown max_chars prefix w))) ↔ (encode_fault (sound t) prefix w (length ids) ≡ None)
     accepted-exactly = codings.accepted-exactly p
 
 -- the same of `from_rows`: a build is refused with r exactly when r is its fault, and says N exactly when there is none
-module _ (tab : List ℕ) (c : Columns) (m : Memory) (answer : BuildAnswer) (after : Memory) (p : Built tab c m answer after) where
-  pub build-refused-exactly : (r : Reason) → (answer ≡ build-is.Refused r) ↔ (build_fault (columns_fault WordPiece tab c) (no_room (nodes_of tab (rows_of c)) m) ≡ some r)
+module _ (tab : List ℕ) (c : Columns) (m : Memory) (answer : Result ℕ Reason) (after : Memory) (p : Built tab c m answer after) where
+  pub build-refused-exactly : (r : Reason) → (answer ≡ Err r) ↔ (build_fault (columns_fault WordPiece tab c) (no_room (nodes_of tab (rows_of c)) m) ≡ Some r)
   unfolding told
-  build-refused-exactly r = let two = builds.refused-exactly p r in (λ q. two.0 (ap told q), λ e. told-known answer (build-is.Refused r) (two.1 e))
+  build-refused-exactly r = let two = builds.refused-exactly p r in (λ q. two.0 (ap told q), λ e. told-known answer (Err r) (two.1 e))
 
-  pub build-accepted-exactly : (answer ≡ build-is.Built (nodes_of tab (rows_of c))) ↔ (build_fault (columns_fault WordPiece tab c) (no_room (nodes_of tab (rows_of c)) m) ≡ none)
+  pub build-accepted-exactly : (answer ≡ Ok (nodes_of tab (rows_of c))) ↔ (build_fault (columns_fault WordPiece tab c) (no_room (nodes_of tab (rows_of c)) m) ≡ None)
   unfolding told
   build-accepted-exactly =
-      let two = builds.accepted-exactly p in (λ q. two.0 (ap told q), λ e. told-known answer (build-is.Built (nodes_of tab (rows_of c))) (two.1 e))
+      let two = builds.accepted-exactly p in (λ q. two.0 (ap told q), λ e. told-known answer (Ok (nodes_of tab (rows_of c))) (two.1 e))

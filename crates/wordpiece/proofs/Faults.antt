@@ -1,8 +1,8 @@
 -- The first fault of a call of `encode`, by its tests in their order; and a call without a fault is ready. Assumes nothing.
+use Rattle.std.specs.Prelude.{Option, None, Some}
 use mathlib.Core.Path.{◌≡◌, refl, sym, ap, ◌∙◌}
 use mathlib.Core.Bool.{Bool, true, false, not}
 use mathlib.Core.List.{List}
-use mathlib.Core.Option.{Option, none, some}
 use Prim.Native.Nat.{ℕ, ◌≤◌, ◌<◌}
 use borrow.Author.Tests.{lt-ltb, le-ltb, ltb-false, not-false}
 use lib.Dec.{ltb}
@@ -20,17 +20,17 @@ use Rattle.wordpiece.specs.Encode.{encode_fault}
 use Rattle.wordpiece.specs.Checked.{Encodable}
 
 module _ (parts : Bool) (prefix w : List ℕ) (places : ℕ) where
-  pub fault-word : max_text < length w → encode_fault parts prefix w places ≡ some fault.Size
+  pub fault-word : max_text < length w → encode_fault parts prefix w places ≡ Some fault.Size
   unfolding encode_fault
   fault-word h = found _ fault.Size _ (or_left _ (above max_prefix (length prefix)) (lt-ltb max_text (length w) h))
 
-  pub fault-prefix : max_prefix < length prefix → encode_fault parts prefix w places ≡ some fault.Size
+  pub fault-prefix : max_prefix < length prefix → encode_fault parts prefix w places ≡ Some fault.Size
   unfolding encode_fault
   fault-prefix h = found _ fault.Size _ (or_right (above max_text (length w)) _ (lt-ltb max_prefix (length prefix) h))
 
   -- what is left once the sizes are found fine
   abbrev pub later : Option Fault
-  later = first (text_fault w) (first (text_fault prefix) (refuse (ltb places (characters w)) fault.Ids none))
+  later = first (text_fault w) (first (text_fault prefix) (refuse (ltb places (characters w)) fault.Ids None))
 
   module _ (word_fits : length w ≤ max_text) (prefix-fits : length prefix ≤ max_prefix) where
     past-sizes : encode_fault parts prefix w places ≡ refuse (not parts) fault.Trie later
@@ -38,25 +38,25 @@ module _ (parts : Bool) (prefix w : List ℕ) (places : ℕ) where
     past-sizes =
         not_found _ fault.Size _ (neither _ _ (le-ltb max_text (length w) word_fits) (le-ltb max_prefix (length prefix) prefix-fits))
 
-    pub fault-trie : parts ≡ false → encode_fault parts prefix w places ≡ some fault.Trie
+    pub fault-trie : parts ≡ false → encode_fault parts prefix w places ≡ Some fault.Trie
     fault-trie e = past-sizes ∙ found _ fault.Trie _ (ap not e)
 
     pub past-trie : parts ≡ true → encode_fault parts prefix w places ≡ later
     past-trie e = past-sizes ∙ not_found _ fault.Trie _ (ap not e)
 
   -- no fault of a call with sound parts is 8
-  pub sound-fault : parts ≡ true → {f : Fault} → encode_fault parts prefix w places ≡ some f → Not 8 f
+  pub sound-fault : parts ≡ true → {f : Fault} → encode_fault parts prefix w places ≡ Some f → Not 8 f
   unfolding encode_fault
   sound-fault s e =
       refused-so (Not 8) _ fault.Size _ refl
       (λ e.
       first_so (Not 8) _ _ (text-not 8 refl w)
-      (first_so (Not 8) _ _ (text-not 8 refl prefix) (refused-so (Not 8) _ fault.Ids none refl (nothing-so (Not 8))))
+      (first_so (Not 8) _ _ (text-not 8 refl prefix) (refused-so (Not 8) _ fault.Ids None refl (nothing-so (Not 8))))
       (sym (not_found _ fault.Trie _ (ap not s)) ∙ e))
       e
 
   -- what is known of a call without a fault
-  pub fine : encode_fault parts prefix w places ≡ none → (parts ≡ true) × (well_formed w ≡ true) × (characters w ≤ places)
+  pub fine : encode_fault parts prefix w places ≡ None → (parts ≡ true) × (well_formed w ≡ true) × (characters w ≤ places)
   unfolding encode_fault
   fine e =
       let a = passed _ fault.Size _ e in
@@ -66,7 +66,7 @@ module _ (parts : Bool) (prefix w : List ℕ) (places : ℕ) where
       let f = passed _ fault.Ids _ d.1 in
       (not-false parts b.0, fine-text w c.0, ltb-false places (characters w) f.0)
 
-pub ready : (t : Trie) (prefix w ids : List ℕ) → encode_fault (sound t) prefix w (length ids) ≡ none → Encodable t w ids
+pub ready : (t : Trie) (prefix w ids : List ℕ) → encode_fault (sound t) prefix w (length ids) ≡ None → Encodable t w ids
 ready t prefix w ids e =
     let f = fine (sound t) prefix w (length ids) e in
     record { parts = f.0; well = f.1; room = f.2 }

@@ -1,9 +1,9 @@
 -- A word has no more ids than characters: each piece takes at least one, and where the word is one unknown it has one. Assumes
 -- nothing.
+use Rattle.std.specs.Prelude.{Option, None, Some}
 use mathlib.Core.Path.{◌≡◌, refl, ap}
 use mathlib.Core.Bool.{Bool, true, false}
 use mathlib.Core.List.{List, []}
-use mathlib.Core.Option.{Option, none, some}
 use Prim.Native.Nat.{ℕ, suc, ◌≤◌, ◌<◌}
 use native.Mathlib.Omega.{arith}
 use native.Mathlib.Decide.{dec_lt}
@@ -17,11 +17,11 @@ use Rattle.wordpiece.proofs.Rest.{pieces-few, some-character}
 use Rattle.wordpiece.proofs.Plans.{ids-long, ids_short, ids-empty}
 
 module _ (find : List ℕ → Option ℕ) (w : List ℕ) (well : well_formed w ≡ true) where
-  or-unknown-few : (unknown : ℕ) (o : Option (List ℕ)) → ((ids : List ℕ) → o ≡ some ids → length ids ≤ characters w) → 1 ≤ characters w → length (or_unknown unknown o) ≤ characters w
-  or-unknown-few unknown none h one = omega arith
-  or-unknown-few unknown (some ids) h one = h ids refl
+  or-unknown-few : (unknown : ℕ) (o : Option (List ℕ)) → ((ids : List ℕ) → o ≡ Some ids → length ids ≤ characters w) → 1 ≤ characters w → length (or_unknown unknown o) ≤ characters w
+  or-unknown-few unknown None h one = omega arith
+  or-unknown-few unknown (Some ids) h one = h ids refl
 
-  whole-few : (prefix ids : List ℕ) → pieces_of find prefix w ≡ some ids → length ids ≤ characters w
+  whole-few : (prefix ids : List ℕ) → pieces_of find prefix w ≡ Some ids → length ids ≤ characters w
   unfolding pieces_of
   whole-few prefix ids e = omega (arith, pieces-few w well find prefix (suc (length w)) [] 0 ids (boundary-zero w well) e)
 

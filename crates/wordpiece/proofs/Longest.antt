@@ -1,9 +1,9 @@
 -- The longest piece, as the walk finds it. Each byte more of the word is a step more of the walk; a piece that ends there is
 -- longer than those before it; and where the walk stops, nothing beyond is a piece. Assumes nothing.
+use Rattle.std.specs.Prelude.{Option, None, Some, option_and_then, option_map}
 use mathlib.Core.Path.{◌≡◌, refl, sym, ap, ◌∙◌}
 use mathlib.Core.Bool.{Bool, true, false, not, ◌&&◌, cond}
 use mathlib.Core.List.{List, [], ◌∷◌, ◌++◌}
-use mathlib.Core.Option.{Option, none, some, bind, map}
 use Prim.Native.Nat.{ℕ, zero, suc, ◌+◌, ◌-◌, ◌≤◌, ◌<◌}
 use native.Mathlib.Omega.{arith}
 use native.Mathlib.Decide.{dec_lt}
@@ -49,24 +49,24 @@ abbrev pub piece-to : ℕ → ℕ → Found
 piece-to end x = record { end = end; id = x }
 
 -- a piece that is not empty
-pub since-found : (i end x : ℕ) → (end ≡ i → ⊥) → found_since i end x ≡ some (piece-to end x)
-since-found i end x h = ap (λ (b : Bool). cond b none (some (piece-to end x))) (ne_eqb end i h)
+pub since-found : (i end x : ℕ) → (end ≡ i → ⊥) → found_since i end x ≡ Some (piece-to end x)
+since-found i end x h = ap (λ (b : Bool). cond b None (Some (piece-to end x))) (ne_eqb end i h)
 
-pub since_none : (i end x : ℕ) → end ≡ i → found_since i end x ≡ none
-since_none i end x e = ap (λ (b : Bool). cond b none (some (piece-to end x))) (eq-eqb end i e)
+pub since_none : (i end x : ℕ) → end ≡ i → found_since i end x ≡ None
+since_none i end x e = ap (λ (b : Bool). cond b None (Some (piece-to end x))) (eq-eqb end i e)
 
 -- the piece that ends at j with this id, where j may be an end; and by a test
 abbrev pub end_at : Bool → ℕ → Option ℕ → Option Found
-end_at b j id = cond b (map (piece-to j) id) none
+end_at b j id = cond b (map (piece-to j) id) None
 
 abbrev pub found_if : Bool → ℕ → ℕ → Option Found
-found_if b j x = cond b (some (piece-to j x)) none
+found_if b j x = cond b (Some (piece-to j x)) None
 
 -- whether a node's place holds an id, by what its id is
-pub id-told : (t : Trie) (k : ℕ) {o : Option ℕ} → k < length t.id → id_at t k ≡ o → not (eqb (get_or t.id k 0) no_id) ≡ elim o [ none ↦ false | some x ↦ true ]
+pub id-told : (t : Trie) (k : ℕ) {o : Option ℕ} → k < length t.id → id_at t k ≡ o → not (eqb (get_or t.id k 0) no_id) ≡ elim o [ None ↦ false | Some x ↦ true ]
 id-told t k {o} h e = go (eqb (get_or t.id k 0) no_id) refl
   where
-    go : (b : Bool) → eqb (get_or t.id k 0) no_id ≡ b → not (eqb (get_or t.id k 0) no_id) ≡ elim o [ none ↦ false | some x ↦ true ]
+    go : (b : Bool) → eqb (get_or t.id k 0) no_id ≡ b → not (eqb (get_or t.id k 0) no_id) ≡ elim o [ None ↦ false | Some x ↦ true ]
     go true p = rw (← e, id-none t k h (eqb-true (get_or t.id k 0) no_id p), p)
     go false p = rw (← e, id-some t k h (eqb-false (get_or t.id k 0) no_id p), p)
 
@@ -81,7 +81,7 @@ ends_is t k j true h = go (eqb (get_or t.id k 0) no_id) refl
 
 -- ---- in any look-up, where p stands before the piece
 
-end_none : (b : Bool) (j : ℕ) → end_at b j none ≡ none
+end_none : (b : Bool) (j : ℕ) → end_at b j None ≡ None
 end_none true j = refl
 end_none false j = refl
 
@@ -92,20 +92,20 @@ module _ (find : List ℕ → Option ℕ) (p w : List ℕ) (i : ℕ) where
   piece_is j = refl
 
   -- what a piece says
-  pub piece-says : (j : ℕ) {f : Found} → piece_to find p w i j ≡ some f → (i < j) × (boundary w j ≡ true) × (j ≡ f.end) × (find (p ++ part w i j) ≡ some f.id)
+  pub piece-says : (j : ℕ) {f : Found} → piece_to find p w i j ≡ Some f → (i < j) × (boundary w j ≡ true) × (j ≡ f.end) × (find (p ++ part w i j) ≡ Some f.id)
   piece-says j {f} e = go (ltb i j && boundary w j) (find (p ++ part w i j)) refl (sym (piece_is j) ∙ e)
     where
-      go : (b : Bool) (o : Option ℕ) → ltb i j && boundary w j ≡ b → end_at b j o ≡ some f → (i < j) × (boundary w j ≡ true) × (j ≡ f.end) × (o ≡ some f.id)
-      go true none q r = absurd (none-some r)
-      go true (some x) q r = (ltb-true i j (every.first (ltb i j) (boundary w j) q), every.second (ltb i j) (boundary w j) q, cc, cc)
+      go : (b : Bool) (o : Option ℕ) → ltb i j && boundary w j ≡ b → end_at b j o ≡ Some f → (i < j) × (boundary w j ≡ true) × (j ≡ f.end) × (o ≡ Some f.id)
+      go true None q r = absurd (none-some r)
+      go true (Some x) q r = (ltb-true i j (every.first (ltb i j) (boundary w j) q), every.second (ltb i j) (boundary w j) q, cc, cc)
       go false o q r = absurd (none-some r)
 
   -- what is not spelled is no piece
-  pub piece-absent : (j : ℕ) → find (p ++ part w i j) ≡ none → piece_to find p w i j ≡ none
+  pub piece-absent : (j : ℕ) → find (p ++ part w i j) ≡ None → piece_to find p w i j ≡ None
   piece-absent j e = piece_is j ∙ rw e (end_none (ltb i j && boundary w j) j)
 
   -- a piece is not empty
-  piece-empty : (j : ℕ) → j ≤ i → piece_to find p w i j ≡ none
+  piece-empty : (j : ℕ) → j ≤ i → piece_to find p w i j ≡ None
   piece-empty j h = piece_is j ∙ rw (le-ltb i j h)
 
   pub longest-more : (j : ℕ) → longest_to find p w i (suc j) ≡ first (piece_to find p w i (suc j)) (longest_to find p w i j)
@@ -113,18 +113,18 @@ module _ (find : List ℕ → Option ℕ) (p w : List ℕ) (i : ℕ) where
   longest-more j = refl
 
   -- where no piece ends after m, the longest is the one that ends at m or before
-  pub longest-until : (m n : ℕ) → m ≤ n → ((j : ℕ) → m < j → j ≤ n → piece_to find p w i j ≡ none) → longest_to find p w i n ≡ longest_to find p w i m
+  pub longest-until : (m n : ℕ) → m ≤ n → ((j : ℕ) → m < j → j ≤ n → piece_to find p w i j ≡ None) → longest_to find p w i n ≡ longest_to find p w i m
   longest-until m zero h none-at = let same : 0 ≡ m = omega arith in ap (longest_to find p w i) same
   longest-until m (suc n) h none-at = go (dec_lt m (suc n)) (longest-until m n)
     where
       go :
-          Dec (m < suc n) → (m ≤ n → ((j : ℕ) → m < j → j ≤ n → piece_to find p w i j ≡ none) → longest_to find p w i n ≡ longest_to find p w i m)
+          Dec (m < suc n) → (m ≤ n → ((j : ℕ) → m < j → j ≤ n → piece_to find p w i j ≡ None) → longest_to find p w i n ≡ longest_to find p w i m)
           → longest_to find p w i (suc n) ≡ longest_to find p w i m
       go (no l) on = let same : suc n ≡ m = omega (arith, l) in ap (longest_to find p w i) same
       go (yes l) on =
           longest-more n ∙ none_first _ (none-at (suc n) l (omega arith)) ∙ on (omega arith) (λ j a b. none-at j a (omega arith))
 
-  pub longest-start : (j : ℕ) → j ≤ i → longest_to find p w i j ≡ none
+  pub longest-start : (j : ℕ) → j ≤ i → longest_to find p w i j ≡ None
   unfolding longest_to
   longest-start j h = longest-until 0 j (omega arith) (λ m a b. piece-empty m (omega arith))
 
@@ -136,24 +136,24 @@ module _ (t : Trie) (k : ℕ) (w : List ℕ) (i : ℕ) where
 
   -- one step more
   pub longest-step :
-      (j : ℕ) {n m : ℕ} → i ≤ j → j < length w → walk t k (part w i j) ≡ some n → step t n (get_or w j 0) ≡ some m → (walk t k (part w i (suc j)) ≡ some m) × (best (suc j) ≡ first (end_at (boundary w (suc j)) (suc j) (id_at t m)) (best j))
-  unfolding bind
+      (j : ℕ) {n m : ℕ} → i ≤ j → j < length w → walk t k (part w i j) ≡ Some n → step t n (get_or w j 0) ≡ Some m → (walk t k (part w i (suc j)) ≡ Some m) × (best (suc j) ≡ first (end_at (boundary w (suc j)) (suc j) (id_at t m)) (best j))
+  unfolding option_and_then
   longest-step j {n} {m} h b e s =
-      let on : walk t k (part w i (suc j)) ≡ some m =
+      let on : walk t k (part w i (suc j)) ≡ Some m =
       ap (walk t k) (part-more w i j h b) ∙ walk-snoc t k (part w i j) (get_or w j 0) ∙ rw e s in
       (on, longest-more (id_from t k) [] w i j ∙ rw (piece_is (id_from t k) [] w i (suc j), lt-ltb i (suc j) (omega arith), from_some t k (part w i (suc j)) on))
 
   -- no step: nothing beyond is a piece
   pub longest-stops :
-      (j : ℕ) {n : ℕ} → i ≤ j → j < length w → walk t k (part w i j) ≡ some n → step t n (get_or w j 0) ≡ none → best (length w) ≡ best j
-  unfolding bind
+      (j : ℕ) {n : ℕ} → i ≤ j → j < length w → walk t k (part w i j) ≡ Some n → step t n (get_or w j 0) ≡ None → best (length w) ≡ best j
+  unfolding option_and_then
   longest-stops j {n} h b e s =
       longest-until (id_from t k) [] w i j (length w) (omega arith)
       (λ m q l. piece-absent (id_from t k) [] w i m (from-none t k (part w i m) (none-at m q)))
     where
-      stopped : walk t k (part w i (suc j)) ≡ none
+      stopped : walk t k (part w i (suc j)) ≡ None
       stopped = ap (walk t k) (part-more w i j h b) ∙ walk-snoc t k (part w i j) (get_or w j 0) ∙ rw e s
 
-      none-at : (m : ℕ) → j < m → walk t k (part w i m) ≡ none
+      none-at : (m : ℕ) → j < m → walk t k (part w i m) ≡ None
       none-at m q =
           ap (walk t k) (part-on w i (suc j) m (omega arith) q) ∙ walk-append-none t k (part w i (suc j)) (part w (suc j) m) stopped

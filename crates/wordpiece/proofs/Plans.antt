@@ -1,9 +1,9 @@
 -- What is to be written for a word, by what was found of it: a miss at any place makes it one unknown; else the first piece's
 -- id and then those of the rest, at most one a character. Assumes nothing.
+use Rattle.std.specs.Prelude.{Option, None, Some, option_and_then, option_map, ℕ}
 use mathlib.Core.Path.{◌≡◌, refl, sym, ap, ◌∙◌}
 use mathlib.Core.Bool.{Bool, true, false, cond}
 use mathlib.Core.List.{List, [], ◌∷◌, ◌++◌}
-use mathlib.Core.Option.{Option, none, some, bind, map}
 use Prim.Native.Nat.{ℕ, suc, ◌+◌, ◌-◌, ◌≤◌, ◌<◌}
 use native.Mathlib.Omega.{arith}
 use borrow.Author.Tests.{le-ltb}
@@ -15,7 +15,6 @@ use Rattle.refusal.specs.Places.{overlay}
 use Rattle.text.specs.Text.{well_formed, characters}
 use Rattle.text.proofs.Boundaries.{characters-le, boundary-zero}
 use Rattle.trie.specs.Trie.{Trie, walk, id_from, id_of}
-use Rattle.wordpiece.specs.declared.checked.Count.{Count}
 use Rattle.wordpiece.specs.Pieces.{Found, longest_to, pieces_of, ids_of}
 use Rattle.wordpiece.specs.Checked.{rest_from, count_in, Walked}
 use Rattle.wordpiece.proofs.Longest.{piece-to}
@@ -26,7 +25,7 @@ use Rattle.wordpiece.proofs.Rest.{Ends, longest-ends, pieces-empty, pieces-alone
 pub record Follows (find : List ℕ → Option ℕ) (w : List ℕ) (i x : ℕ) (all : List ℕ) : Type 0 where
   pub below : i ≤ length w
   pub ids : List ℕ
-  pub rest : rest_from find w i ≡ some ids
+  pub rest : rest_from find w i ≡ Some ids
   pub whole : all ≡ x ∷ ids
   pub few : suc (length ids) ≤ characters w
 
@@ -53,45 +52,45 @@ One find unknown prefix w x = (or_unknown unknown (pieces_of find prefix w) ≡ 
 
 module _ (find : List ℕ → Option ℕ) (unknown : ℕ) (prefix w : List ℕ) (well : well_formed w ≡ true) (some_byte : 0 < length w) where
   -- one unknown
-  pub missed : pieces_of find prefix w ≡ none → One find unknown prefix w unknown
+  pub missed : pieces_of find prefix w ≡ None → One find unknown prefix w unknown
   missed e = (ap (or_unknown unknown) e, some-character w well some_byte)
 
   -- a token that is the whole word
-  pub alone : {f : Found} → longest_to find [] w 0 (length w) ≡ some f → f.end ≡ length w → One find unknown prefix w f.id
+  pub alone : {f : Found} → longest_to find [] w 0 (length w) ≡ Some f → f.end ≡ length w → One find unknown prefix w f.id
   alone e last = (ap (or_unknown unknown) (pieces-alone find prefix w some_byte e last), some-character w well some_byte)
 
-module _ (t : Trie) (unknown : ℕ) (prefix w : List ℕ) (well : well_formed w ≡ true) {end id : ℕ} (longest : longest_to (id_of t) [] w 0 (length w) ≡ some (piece-to end id)) (below : end < length w) where
+module _ (t : Trie) (unknown : ℕ) (prefix w : List ℕ) (well : well_formed w ≡ true) {end id : ℕ} (longest : longest_to (id_of t) [] w 0 (length w) ≡ Some (piece-to end id)) (below : end < length w) where
   some_byte : 0 < length w
   some_byte = omega (arith, below)
 
   -- the prefix leads nowhere
-  pub absent : walk t 0 prefix ≡ none → One (id_of t) unknown prefix w unknown
-  unfolding bind
+  pub absent : walk t 0 prefix ≡ None → One (id_of t) unknown prefix w unknown
+  unfolding option_and_then
   absent e =
       missed (id_of t) unknown prefix w well some_byte
       (pieces-absent (id_of t) prefix w some_byte (after-prefix t prefix w e) longest below)
 
-  module _ {k : ℕ} (at : walk t 0 prefix ≡ some k) where
+  module _ {k : ℕ} (at : walk t 0 prefix ≡ Some k) where
     whole : pieces_of (id_of t) prefix w ≡ before id (rest_from (id_from t k) w end)
     whole = pieces-with t prefix w some_byte longest at
 
-    pub late : none ≡ map length (rest_from (id_from t k) w end) → One (id_of t) unknown prefix w unknown
+    pub late : None ≡ map length (rest_from (id_from t k) w end) → One (id_of t) unknown prefix w unknown
     late e = go (rest_from (id_from t k) w end) refl
       where
         go : (o : Option (List ℕ)) → rest_from (id_from t k) w end ≡ o → One (id_of t) unknown prefix w unknown
-        go none g = missed (id_of t) unknown prefix w well some_byte (whole ∙ ap (before id) g)
-        go (some ids) g = absurd (none-some (e ∙ ap (map length) g))
+        go None g = missed (id_of t) unknown prefix w well some_byte (whole ∙ ap (before id) g)
+        go (Some ids) g = absurd (none-some (e ∙ ap (map length) g))
 
     -- all pieces are there
-    pub follows : {n : ℕ} → some n ≡ map length (rest_from (id_from t k) w end) → Follows (id_from t k) w end id (or_unknown unknown (pieces_of (id_of t) prefix w))
+    pub follows : {n : ℕ} → Some n ≡ map length (rest_from (id_from t k) w end) → Follows (id_from t k) w end id (or_unknown unknown (pieces_of (id_of t) prefix w))
     follows {n} e = go (rest_from (id_from t k) w end) refl
       where
         ends : Ends w 0 (length w) (piece-to end id)
         ends = longest-ends (id_of t) [] w 0 (length w) longest
 
         go : (o : Option (List ℕ)) → rest_from (id_from t k) w end ≡ o → Follows (id_from t k) w end id (or_unknown unknown (pieces_of (id_of t) prefix w))
-        go none g = absurd (none-some (sym (e ∙ ap (map length) g)))
-        go (some ids) g =
+        go None g = absurd (none-some (sym (e ∙ ap (map length) g)))
+        go (Some ids) g =
             record {
               below = ends.below;
               ids = ids;
@@ -119,7 +118,7 @@ sets-taken vs l h =
     ap (take (length vs)) (sets_over vs l h) ∙ take_at vs (drop (length vs) l) (length vs) refl
 
 -- so after a walk over a rest of n ids these are held
-pub walk-holds : {rest : Option (List ℕ)} {before after : List ℕ} {count : Count} {n : ℕ} → Walked rest before count after → count_in count ≡ some n → (xs : List ℕ) → rest ≡ some xs → (n ≡ length xs) × (n ≤ length after → take n after ≡ xs)
+pub walk-holds : {rest : Option (List ℕ)} {before after : List ℕ} {count : Option ℕ} {n : ℕ} → Walked rest before count after → count_in count ≡ Some n → (xs : List ℕ) → rest ≡ Some xs → (n ≡ length xs) × (n ≤ length after → take n after ≡ xs)
 walk-holds {before = before} {after = after} {n = n} walked told xs e =
     let many : n ≡ length xs = cc (told, walked.answered, ap (map length) e) in
     let stored : after ≡ sets before 0 xs = walked.held xs e in (

@@ -1,10 +1,10 @@
 -- The pieces of a word from a position on, one after the other. A piece that was found ends further on, on a boundary, so the
 -- bound on how many pieces there may be never bites (`enough`); each piece takes at least one character, so they are no more
 -- than the characters. Assumes nothing.
+use Rattle.std.specs.Prelude.{Option, None, Some, option_and_then, option_map}
 use mathlib.Core.Path.{◌≡◌, refl, sym, ap, ◌∙◌}
 use mathlib.Core.Bool.{Bool, true, false}
 use mathlib.Core.List.{List, [], ◌∷◌, ◌++◌}
-use mathlib.Core.Option.{Option, none, some, bind, map}
 use Prim.Native.Nat.{ℕ, zero, suc, ◌+◌, ◌-◌, ◌≤◌, ◌<◌}
 use native.Mathlib.Omega.{arith}
 use borrow.Author.Tests.{ltb-true, ltb-false}
@@ -22,9 +22,9 @@ use Rattle.wordpiece.specs.Checked.{rest_from}
 use Rattle.wordpiece.proofs.Longest.{piece-says, piece-absent, longest-more, longest-until}
 use Rattle.wordpiece.proofs.Turns.{before, turn, turn-same, pieces-turn, pieces_end, pieces-next, pieces-same}
 
-pub before-some : (x : ℕ) (o : Option (List ℕ)) {ys : List ℕ} → before x o ≡ some ys → (zs : List ℕ) × (o ≡ some zs) × (ys ≡ x ∷ zs)
-before-some x none e = absurd (none-some e)
-before-some x (some zs) {ys} e = (zs, refl, cc)
+pub before-some : (x : ℕ) (o : Option (List ℕ)) {ys : List ℕ} → before x o ≡ Some ys → (zs : List ℕ) × (o ≡ Some zs) × (ys ≡ x ∷ zs)
+before-some x None e = absurd (none-some e)
+before-some x (Some zs) {ys} e = (zs, refl, cc)
 
 -- ---- what was found
 
@@ -35,19 +35,19 @@ pub record Ends (w : List ℕ) (i j : ℕ) (f : Found) : Type 0 where
   pub at : boundary w f.end ≡ true
 
 module _ (find : List ℕ → Option ℕ) (p w : List ℕ) (i : ℕ) where
-  pub piece-ends : (j : ℕ) {f : Found} → piece_to find p w i j ≡ some f → Ends w i j f
+  pub piece-ends : (j : ℕ) {f : Found} → piece_to find p w i j ≡ Some f → Ends w i j f
   piece-ends j e =
       let s = piece-says find p w i j e in
       record { above = omega (arith, s.0, s.2); below = omega (arith, s.2); at = ap (boundary w) (sym s.2) ∙ s.1 }
 
-  pub longest-ends : (j : ℕ) {f : Found} → longest_to find p w i j ≡ some f → Ends w i j f
+  pub longest-ends : (j : ℕ) {f : Found} → longest_to find p w i j ≡ Some f → Ends w i j f
   unfolding longest_to first
   longest-ends zero {f} e = absurd (none-some e)
   longest-ends (suc j) {f} e = go (piece_to find p w i (suc j)) refl (longest-ends j) (sym (longest-more find p w i j) ∙ e)
     where
-      go : (o : Option Found) → piece_to find p w i (suc j) ≡ o → (longest_to find p w i j ≡ some f → Ends w i j f) → first o (longest_to find p w i j) ≡ some f → Ends w i (suc j) f
-      go none q on r = let s = on r in record { above = s.above; below = omega (arith, s.below); at = s.at }
-      go (some g) q on r = piece-ends (suc j) (q ∙ r)
+      go : (o : Option Found) → piece_to find p w i (suc j) ≡ o → (longest_to find p w i j ≡ Some f → Ends w i j f) → first o (longest_to find p w i j) ≡ Some f → Ends w i (suc j) f
+      go None q on r = let s = on r in record { above = s.above; below = omega (arith, s.below); at = s.at }
+      go (Some g) q on r = piece-ends (suc j) (q ∙ r)
 
 -- a larger bound changes nothing, where it is more than what is left of the word
 enough : (find : List ℕ → Option ℕ) (p w : List ℕ) (m n i : ℕ) → length w - i < m → length w - i < n → i ≤ length w → pieces_from find p w m p i ≡ pieces_from find p w n p i
@@ -64,13 +64,13 @@ enough find p w (suc m) (suc n) i a b h =
 -- ---- the rest of a word
 
 module _ (find : List ℕ → Option ℕ) (w : List ℕ) (i : ℕ) where
-  pub rest_end : i ≡ length w → rest_from find w i ≡ some []
+  pub rest_end : i ≡ length w → rest_from find w i ≡ Some []
   rest_end e = pieces_end find [] w (length w - i) [] i e
 
-  pub rest-miss : i < length w → longest_to find [] w i (length w) ≡ none → rest_from find w i ≡ none
+  pub rest-miss : i < length w → longest_to find [] w i (length w) ≡ None → rest_from find w i ≡ None
   rest-miss h e = pieces-next find [] w (length w - i) [] i h e
 
-  pub rest-piece : {f : Found} → i < length w → longest_to find [] w i (length w) ≡ some f → rest_from find w i ≡ before f.id (rest_from find w f.end)
+  pub rest-piece : {f : Found} → i < length w → longest_to find [] w i (length w) ≡ Some f → rest_from find w i ≡ before f.id (rest_from find w f.end)
   rest-piece {f} h e =
       let s = longest-ends find [] w i (length w) e in
       pieces-next find [] w (length w - i) [] i h e
@@ -79,7 +79,7 @@ module _ (find : List ℕ → Option ℕ) (w : List ℕ) (i : ℕ) where
 -- ---- the whole word
 
 module _ (find : List ℕ → Option ℕ) (prefix w : List ℕ) where
-  pub pieces-empty : length w ≡ 0 → pieces_of find prefix w ≡ some []
+  pub pieces-empty : length w ≡ 0 → pieces_of find prefix w ≡ Some []
   unfolding pieces_of
   pieces-empty e = pieces_end find _ w (length w) _ 0 (sym e)
 
@@ -90,20 +90,20 @@ module _ (find : List ℕ → Option ℕ) (prefix w : List ℕ) where
     pieces-first e = pieces-next find prefix w (length w) [] 0 some_byte e
 
     -- a piece that is the whole word
-    pub pieces-alone : {f : Found} → longest_to find [] w 0 (length w) ≡ some f → f.end ≡ length w → pieces_of find prefix w ≡ some (f.id ∷ [])
+    pub pieces-alone : {f : Found} → longest_to find [] w 0 (length w) ≡ Some f → f.end ≡ length w → pieces_of find prefix w ≡ Some (f.id ∷ [])
     pieces-alone {f} e last = pieces-first e ∙ ap (before f.id) (ended (length w) some_byte)
       where
-        ended : (n : ℕ) → 0 < n → pieces_from find prefix w n prefix f.end ≡ some []
+        ended : (n : ℕ) → 0 < n → pieces_from find prefix w n prefix f.end ≡ Some []
         ended zero h = absurd (omega arith)
         ended (suc n) h = pieces_end find prefix w n prefix f.end last
 
     -- "If no token begins with a non-empty prefix, only a whole-word token escapes unknown": where the first piece is not the
     -- whole word, the second is a miss
-    pub pieces-absent : ((s : List ℕ) → find (prefix ++ s) ≡ none) → {f : Found} → longest_to find [] w 0 (length w) ≡ some f → f.end < length w → pieces_of find prefix w ≡ none
+    pub pieces-absent : ((s : List ℕ) → find (prefix ++ s) ≡ None) → {f : Found} → longest_to find [] w 0 (length w) ≡ Some f → f.end < length w → pieces_of find prefix w ≡ None
     unfolding pieces_from longest_to
     pieces-absent absent {f} e h = pieces-first e ∙ ap (before f.id) (stuck (length w))
       where
-        stuck : (n : ℕ) → pieces_from find prefix w n prefix f.end ≡ none
+        stuck : (n : ℕ) → pieces_from find prefix w n prefix f.end ≡ None
         stuck zero = refl
         stuck (suc n) =
             pieces-next find prefix w n prefix f.end h
@@ -114,12 +114,12 @@ module _ (find : List ℕ → Option ℕ) (prefix w : List ℕ) where
 
 module _ (t : Trie) (prefix w : List ℕ) where
   -- what stands after the prefix has the id of the walk on from the prefix's node; none, where there is no such node
-  pub after-prefix : {o : Option ℕ} → walk t 0 prefix ≡ o → (s : List ℕ) → id_of t (prefix ++ s) ≡ bind o (λ k. id_from t k s)
-  after-prefix e s = id-of t (prefix ++ s) ∙ from-append t 0 prefix s ∙ ap (λ (o : Option ℕ). bind o (λ k. id_from t k s)) e
+  pub after-prefix : {o : Option ℕ} → walk t 0 prefix ≡ o → (s : List ℕ) → id_of t (prefix ++ s) ≡ option_and_then (λ k. id_from t k s) o
+  after-prefix e s = id-of t (prefix ++ s) ∙ from-append t 0 prefix s ∙ ap (λ (o : Option ℕ). option_and_then (λ k. id_from t k s) o) e
 
   -- so the rest goes on from there
-  pub pieces-with : {f : Found} {k : ℕ} → 0 < length w → longest_to (id_of t) [] w 0 (length w) ≡ some f → walk t 0 prefix ≡ some k → pieces_of (id_of t) prefix w ≡ before f.id (rest_from (id_from t k) w f.end)
-  unfolding bind
+  pub pieces-with : {f : Found} {k : ℕ} → 0 < length w → longest_to (id_of t) [] w 0 (length w) ≡ Some f → walk t 0 prefix ≡ Some k → pieces_of (id_of t) prefix w ≡ before f.id (rest_from (id_from t k) w f.end)
+  unfolding option_and_then
   pieces-with {f} {k} h e g =
       let s = longest-ends (id_of t) [] w 0 (length w) e in
       pieces-first (id_of t) prefix w h e
@@ -162,7 +162,7 @@ module _ (w : List ℕ) (well : well_formed w ≡ true) where
 
   module _ (find : List ℕ → Option ℕ) (prefix : List ℕ) where
     abbrev Few : ℕ → Type 0
-    Few n = (at : List ℕ) (i : ℕ) (ids : List ℕ) → boundary w i ≡ true → pieces_from find prefix w n at i ≡ some ids → characters (take i w) + length ids ≤ characters w
+    Few n = (at : List ℕ) (i : ℕ) (ids : List ℕ) → boundary w i ≡ true → pieces_from find prefix w n at i ≡ Some ids → characters (take i w) + length ids ≤ characters w
 
     pub pieces-few : (n : ℕ) → Few n
     unfolding pieces_from
@@ -170,12 +170,12 @@ module _ (w : List ℕ) (well : well_formed w ≡ true) where
     pieces-few (suc n) at i ids a e =
         go (pieces-few n) (eqb i (length w)) (longest_to find at w i (length w)) refl (sym (pieces-turn find prefix w n at i) ∙ e)
       where
-        go : Few n → (b : Bool) (o : Option Found) → longest_to find at w i (length w) ≡ o → turn b o (pieces_from find prefix w n prefix) ≡ some ids → characters (take i w) + length ids ≤ characters w
+        go : Few n → (b : Bool) (o : Option Found) → longest_to find at w i (length w) ≡ o → turn b o (pieces_from find prefix w n prefix) ≡ Some ids → characters (take i w) + length ids ≤ characters w
         go on true o g q =
             let none_left : ◌≡◌ {A = List ℕ} [] ids = cc in
             omega (arith, ap length none_left, taken-few i)
-        go on false none g q = absurd (none-some q)
-        go on false (some f) g q =
+        go on false None g q = absurd (none-some q)
+        go on false (Some f) g q =
             let s = longest-ends find at w i (length w) g in
             let r = before-some f.id (pieces_from find prefix w n prefix f.end) q in
             omega (arith, ap length r.2, on prefix f.end r.0 s.at r.1, one_more i f.end a s.at s.above)
@@ -187,9 +187,9 @@ abbrev pub more : ℕ → Option ℕ → Option ℕ
 more n o = map (λ m. n + m) o
 
 pub count-piece : (x : ℕ) (o : Option (List ℕ)) → map length (before x o) ≡ more 1 (map length o)
-count-piece x none = refl
-count-piece x (some ids) = ap (λ (n : ℕ). some n) (omega arith)
+count-piece x None = refl
+count-piece x (Some ids) = ap (λ (n : ℕ). Some n) (omega arith)
 
 pub more-one : (n : ℕ) (o : Option ℕ) → more n (more 1 o) ≡ more (n + 1) o
-more-one n none = refl
-more-one n (some m) = ap (λ (k : ℕ). some k) (omega arith)
+more-one n None = refl
+more-one n (Some m) = ap (λ (k : ℕ). Some k) (omega arith)

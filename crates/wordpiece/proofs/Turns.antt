@@ -1,9 +1,9 @@
 -- The pieces of a word, turn by turn; and two look-ups that agree on what stands after their prefixes find the same
 -- pieces. By induction on the bound: each turn finds the same longest piece and goes on alike. Assumes nothing.
+use Rattle.std.specs.Prelude.{Option, None, Some, option_and_then, option_map, unwrap_or}
 use mathlib.Core.Path.{◌≡◌, refl, sym, ap, fun_ext, ◌∙◌}
 use mathlib.Core.Bool.{Bool, true, false, cond}
 use mathlib.Core.List.{List, [], ◌∷◌, ◌++◌}
-use mathlib.Core.Option.{Option, none, some, bind, map, get_or}
 use Prim.Native.Nat.{ℕ, zero, suc, ◌<◌}
 use native.Mathlib.Omega.{arith}
 use borrow.Author.Tests.{eq-eqb, ne_eqb}
@@ -24,29 +24,29 @@ or_unknown unknown o = get_or o (unknown ∷ [])
 
 -- nothing at the end of the word, none at a miss, else the piece's id before what comes after it
 abbrev pub turn : Bool → Option Found → (ℕ → Option (List ℕ)) → Option (List ℕ)
-turn true o on = some []
-turn false none on = none
-turn false (some f) on = before f.id (on f.end)
+turn true o on = Some []
+turn false None on = None
+turn false (Some f) on = before f.id (on f.end)
 
-pub turn-same : (b : Bool) (o : Option Found) (on other : ℕ → Option (List ℕ)) → ((f : Found) → o ≡ some f → on f.end ≡ other f.end) → turn b o on ≡ turn b o other
+pub turn-same : (b : Bool) (o : Option Found) (on other : ℕ → Option (List ℕ)) → ((f : Found) → o ≡ Some f → on f.end ≡ other f.end) → turn b o on ≡ turn b o other
 turn-same true o on other h = refl
-turn-same false none on other h = refl
-turn-same false (some f) on other h = ap (before f.id) (h f refl)
+turn-same false None on other h = refl
+turn-same false (Some f) on other h = ap (before f.id) (h f refl)
 
 module _ (find : List ℕ → Option ℕ) (prefix w : List ℕ) (n : ℕ) (at : List ℕ) (i : ℕ) where
   pub pieces-turn : pieces_from find prefix w (suc n) at i ≡ turn (eqb i (length w)) (longest_to find at w i (length w)) (pieces_from find prefix w n prefix)
-  unfolding pieces_from bind
+  unfolding pieces_from option_and_then
   pieces-turn = go (eqb i (length w)) (longest_to find at w i (length w))
     where
       go :
           (b : Bool) (o : Option Found)
-          → ◌≡◌ {A = Option (List ℕ)} (cond b (some []) (bind o (λ f. before f.id (pieces_from find prefix w n prefix f.end))))
+          → ◌≡◌ {A = Option (List ℕ)} (cond b (Some []) (option_and_then (λ f. before f.id (pieces_from find prefix w n prefix f.end)) o))
           (turn b o (pieces_from find prefix w n prefix))
       go true o = refl
-      go false none = refl
-      go false (some f) = refl
+      go false None = refl
+      go false (Some f) = refl
 
-  pub pieces_end : i ≡ length w → pieces_from find prefix w (suc n) at i ≡ some []
+  pub pieces_end : i ≡ length w → pieces_from find prefix w (suc n) at i ≡ Some []
   pieces_end e = pieces-turn ∙ rw (eq-eqb i (length w) e)
 
   -- before the end, by what the longest piece is

@@ -1,24 +1,19 @@
 -- What the functions behind `encode` promise one another; no public call speaks of it. Definitions only; assumes nothing.
-use Rattle.std.specs.Prelude.{◌≡◌, ℕ, suc, ◌-◌, ◌≤◌, true, cond, List, [], eqb, length}
-use Rattle.std.proofs.Math.Option.{Option, none, some, map}
+use Rattle.std.specs.Prelude.{◌≡◌, ℕ, suc, ◌-◌, ◌≤◌, true, cond, List, [], eqb, length, Option, None, Some, option_map}
 use Rattle.std.proofs.lemmas.List.Edits.{sets}
 use Rattle.text.specs.Text.{well_formed, characters}
 use Rattle.trie.specs.Trie.{Trie}
 use Rattle.trie.specs.Sound.{sound}
-use Rattle.wordpiece.specs.declared.checked.Match.{Match}
-use Rattle.wordpiece.specs.declared.checked.Match.TheVariants as match_is
-use Rattle.wordpiece.specs.declared.checked.Count.{Count}
-use Rattle.wordpiece.specs.declared.checked.Count.TheVariants as count-is
 use Rattle.wordpiece.specs.Pieces.{Found, pieces_from}
 
 -- the piece that an answer names
-abbrev pub found_in : Match → Option Found
-found_in (match_is.Is p) = some (record { end = p.end; id = p.id })
-found_in match_is.Missing = none
+abbrev pub found_in : Option Piece → Option Found
+found_in (Some p) = Some (record { end = p.end; id = p.id })
+found_in None = None
 
 -- the piece from i that ends at `end`: none where that is i, since no piece is empty
 abbrev pub found_since : ℕ → ℕ → ℕ → Option Found
-found_since i end x = cond (eqb end i) none (some (record { end = end; id = x }))
+found_since i end x = cond (eqb end i) None (Some (record { end = end; id = x }))
 
 -- the ids of the pieces of w from i on, with nothing before any of them; none at a miss. From node k on, the look-up is
 -- `id_from t k`.
@@ -26,21 +21,21 @@ abbrev pub rest_from : (List ℕ → Option ℕ) → List ℕ → ℕ → Option
 rest_from find w i = pieces_from find [] w (suc (length w - i)) [] i
 
 -- how many ids an answer counts
-abbrev pub count_in : Count → Option ℕ
-count_in (count-is.Pieces n) = some n
-count_in count-is.Miss = none
+abbrev pub count_in : Option ℕ → Option ℕ
+count_in (Some n) = Some n
+count_in None = None
 
 -- What a walk over the rest leaves: the count of its ids, none at a miss; and where there is none, these in the places that
 -- were lent, as many as there are places.
-pub record Walked (rest : Option (List ℕ)) (before : List ℕ) (count : Count) (after : List ℕ) : Type 0 where
-  pub answered : count_in count ≡ map length rest
-  pub held : (xs : List ℕ) → rest ≡ some xs → after ≡ sets before 0 xs
+pub record Walked (rest : Option (List ℕ)) (before : List ℕ) (count : Option ℕ) (after : List ℕ) : Type 0 where
+  pub answered : count_in count ≡ option_map length rest
+  pub held : (xs : List ℕ) → rest ≡ Some xs → after ≡ sets before 0 xs
 
 -- there are pieces from i on, and places for them from the second on
 pub record Fitting (find : List ℕ → Option ℕ) (w : List ℕ) (i : ℕ) (places : List ℕ) : Type 0 where
   pub below : i ≤ length w
   pub ids : List ℕ
-  pub rest : rest_from find w i ≡ some ids
+  pub rest : rest_from find w i ≡ Some ids
   pub room : suc (length ids) ≤ length places
 
 -- Sound parts, a tested word, and room for an id a character.

@@ -1,9 +1,7 @@
 -- What `wordpiece::encode` promises. Definitions only; assumes nothing.
-use Rattle.std.specs.Prelude.{ℕ, Bool, not, ◌||◌, List, ltb, length}
-use Rattle.std.proofs.Math.Option.{Option, none}
+use Rattle.std.specs.Prelude.{ℕ, Bool, not, ◌||◌, List, ltb, length, Option, None, Result}
 use Rattle.refusal.specs.declared.Fault.{Fault}
 use Rattle.refusal.specs.declared.Fault.TheVariants as fault
-use Rattle.refusal.specs.declared.CodeAnswer.{CodeAnswer}
 use Rattle.refusal.specs.Sizes.{max_text, max_prefix, above}
 use Rattle.refusal.specs.Refusal.{refuse, first}
 use Rattle.refusal.specs.Coding.{Coded}
@@ -21,11 +19,11 @@ encode_fault sound_parts prefix w places =
     (refuse (not sound_parts) fault.Trie
     (first (text_fault w)
     (first (text_fault prefix)
-    (refuse (ltb places (characters w)) fault.Ids none))))
+    (refuse (ltb places (characters w)) fault.Ids None))))
 
 -- What `encode` promises of its answer and of the lent id places, before and after. "Id places past the answer are unchanged,
 -- also after a late miss."
-abbrev pub Encoded : Trie → ℕ → ℕ → List ℕ → List ℕ → List ℕ → CodeAnswer → List ℕ → Type 0
+abbrev pub Encoded : Trie → ℕ → ℕ → List ℕ → List ℕ → List ℕ → Result ℕ Fault → List ℕ → Type 0
 Encoded t unknown max_chars prefix w before answer after =
     let ids = ids_of (id_of t) unknown max_chars prefix w in
     Coded (encode_fault (sound t) prefix w (length before)) ids (overlay ids before) before answer after

@@ -1,9 +1,7 @@
 // The ids of a word, for layers above that have tested the parts, or all. But for `encode_tested` nothing here refuses.
-ghost use Rattle.std.specs.Prelude.{◌≡◌, true, not, ◌&&◌, List, [], ◌∷◌, ℕ, ◌+◌, ◌≤◌, ◌<◌, ltb, eqb, length, get_or, take, set};
-ghost use Rattle.std.proofs.Math.Option;
-ghost use Rattle.std.proofs.Math.Option.{some};
+ghost use Rattle.std.specs.Result.{result_err};
+ghost use Rattle.std.specs.Prelude.{◌≡◌, true, not, ◌&&◌, List, [], ◌∷◌, ℕ, ◌+◌, ◌≤◌, ◌<◌, ltb, eqb, length, get_or, take, set, Some, unwrap_or};
 ghost use Rattle.std.proofs.lemmas.List.Edits.{sets};
-ghost use Rattle.refusal.specs.Refusal.{fault_in};
 ghost use Rattle.refusal.specs.Sizes.{no_id};
 ghost use Rattle.refusal.specs.Places.{overlay};
 ghost use Rattle.text.specs.Text.{well_formed, boundary, characters};
@@ -156,7 +154,7 @@ fn write_rest(
     requires to_value { soundness.sound (parts_now edge_at edge_n id byte to) ≡ true }
     requires node_in_bounds { rest.node < length edge_at.now }
     requires fitting { Fitting (id_from (parts_now edge_at edge_n id byte to) rest.node) w.now i ids.old }
-    ensures { (xs : List ℕ) → rest_from (id_from (parts edge_at edge_n id byte to) rest.node) (was w) i ≡ some xs →
+    ensures { (xs : List ℕ) → rest_from (id_from (parts edge_at edge_n id byte to) rest.node) (was w) i ≡ Some xs →
         (result ≡ 1 + length xs) × (ids.new ≡ sets ids.old 1 xs) }
 {
     let mut at = i;
@@ -227,9 +225,9 @@ fn put_all(
     requires node_in_bounds { rest.node < length edge_at.now }
     requires fitting { Fitting (id_from (parts_now edge_at edge_n id byte to) rest.node) w.now first.end ids.old }
     requires by_index { (xs : List ℕ) → rest_from (id_from (parts_now edge_at edge_n id byte to) rest.node) w.now
-        first.end ≡ some xs → (n ≡ length xs) × (n ≤ length held.now → take n held.now ≡ xs) }
+        first.end ≡ Some xs → (n ≡ length xs) × (n ≤ length held.now → take n held.now ≡ xs) }
     ensures { (xs : List ℕ) → rest_from (id_from (parts edge_at edge_n id byte to) rest.node) (was w) first.end
-        ≡ some xs → (result ≡ 1 + length xs) × (ids.new ≡ overlay (first.id ∷ xs) ids.old) }
+        ≡ Some xs → (result ≡ 1 + length xs) × (ids.new ≡ overlay (first.id ∷ xs) ids.old) }
 {
     let end = first.end;
     ids[0] = first.id;
@@ -254,11 +252,11 @@ fn encode_rest(
     ids: &mut [u32],
 ) -> usize
     requires encodable { Encodable (parts_now edge_at edge_n id byte to) w.now ids.old }
-    requires w_value { longest_to (id_of (parts_now edge_at edge_n id byte to)) [] w.now 0 (length w.now) ≡ some
+    requires w_value { longest_to (id_of (parts_now edge_at edge_n id byte to)) [] w.now 0 (length w.now) ≡ Some
         (record { end = first.end; id = first.id }) }
     requires end_in_bounds { first.end < length w.now }
     ensures { let pieces = pieces_of (id_of (parts edge_at edge_n id byte to)) (was prefix) (was w) in
-        let all = Option.get_or pieces (unknown ∷ []) in (result ≡ length all) × (ids.new ≡ overlay all ids.old) }
+        let all = unwrap_or pieces (unknown ∷ []) in (result ≡ length all) × (ids.new ≡ overlay all ids.old) }
 {
     let Step::To(rest) = Walk::root().over(edge_at, edge_n, byte, to, prefix) else {
         return put(ids, unknown);
@@ -309,7 +307,7 @@ pub fn encode(
 // The first fault of a call of `encode` in parts that are sound or not, lent this many id places: the sizes, the parts, the
 // word, the prefix, the places.
 fn judge(sound: bool, prefix: &[u8], word: &[u8], places: usize) -> Judged
-    ensures { fault_in result ≡ encode_fault sound (was prefix) (was word) places }
+    ensures { result_err result ≡ encode_fault sound (was prefix) (was word) places }
 {
     if MAX_TEXT < word.len() {
         return Judged::Bad(Fault::Size);

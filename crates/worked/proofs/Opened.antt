@@ -1,7 +1,8 @@
 -- A definition is shut until a proof opens it, and to open one is to open what its own `unfolding` line names. So `opened` on
 -- such a line opens every definition that computing an example meets, layer by layer. It says nothing itself.
+use Rattle.std.specs.Result.{result_err}
+use Rattle.std.specs.Prelude.{option_and_then}
 use mathlib.Core.List.{flat_map, flatten, Option-to_list}
-use mathlib.Core.Option.{bind}
 use lib.Ieee.{size}
 use Rattle.doubles.specs.Double as doubles
 use Rattle.refusal.specs.Refusal as refusal
@@ -52,11 +53,11 @@ unfolding Option-to_list records.offered records.candidate records.offered_all r
 unigram-opened = tt
 
 unfoldable pub wordpiece-opened : Unit {0}
-unfolding bind wordpiece.piece_to wordpiece.longest_to wordpiece.pieces_from wordpiece.pieces_of wordpiece.ids_of encode.encode_fault
+unfolding option_and_then wordpiece.piece_to wordpiece.longest_to wordpiece.pieces_from wordpiece.pieces_of wordpiece.ids_of encode.encode_fault
 wordpiece-opened = tt
 
 unfoldable pub pack-opened : Unit {0}
-unfolding pack.word pack.header_of pack.laid_out pack.kind_laid_out pack.kind_of pack.worth_at pack.row_at pack.rows_from pack.rows_of pack.strings_of pack.prefix_of build.content_fault build.pack_judged build.the_kind build.unigram_model lines.lines_after lines.lines lines.digits lines.decimal lines.spaced lines.printed_ids lines.printed_refusal coder.sound_in coder.fault_in coder.ids_in output.lent_memory output.printed output.coded_line output.vocabulary_in output.lines_printed output.output_of output.output
+unfolding pack.word pack.header_of pack.laid_out pack.kind_laid_out pack.kind_of pack.worth_at pack.row_at pack.rows_from pack.rows_of pack.strings_of pack.prefix_of build.content_fault build.pack_judged build.the_kind build.unigram_model lines.lines_after lines.lines lines.digits lines.decimal lines.spaced lines.printed_ids lines.printed_refusal coder.sound_in coder.result_err coder.ids_in output.lent_memory output.printed output.coded_line output.vocabulary_in output.lines_printed output.output_of output.output
 pack-opened = tt
 
 unfoldable pub example-opened : Unit {0}

@@ -1,7 +1,6 @@
 -- What an example is, and what it is for one to hold. Definitions only; assumes nothing.
-use Rattle.std.specs.Prelude.{ℕ, ◌+◌, Bool, true, false, ◌&&◌, length}
+use Rattle.std.specs.Prelude.{ℕ, ◌+◌, Bool, true, false, ◌&&◌, length, Option, None, Some}
 use mathlib.Core.List.{List, [], ◌∷◌, map, flatten}
-use Rattle.std.proofs.Math.Option.{Option, none, some}
 use Rattle.doubles.specs.Double.{Double, same}
 use Rattle.trie.specs.Trie.{id_of}
 use Rattle.trie.specs.Sound.{sound}
@@ -47,13 +46,13 @@ rows_at at [] = []
 rows_at at (e ∷ es) = record { off = at; len = length e.token; worth = e.worth } ∷ rows_at (at + length e.token) es
 
 unfoldable pub is_none : {A : Type 0} → Option A → Bool
-is_none none = true
-is_none (some x) = false
+is_none None = true
+is_none (Some x) = false
 
 -- the score is the expected one, where one is expected
 unfoldable pub score_is : Option Double → Double → Bool
-score_is none x = true
-score_is (some y) x = same x y
+score_is None x = true
+score_is (Some y) x = same x y
 
 unfoldable pub all_of : {A : Type 0} → (A → Bool) → List A → Bool
 all_of test [] = true

@@ -1,7 +1,6 @@
 -- The paper's "Table of proved examples", row for row. Definitions only; assumes nothing.
-use Rattle.std.specs.Prelude.{ℕ, ◌*◌, true, false, List, [], ◌∷◌}
+use Rattle.std.specs.Prelude.{ℕ, ◌*◌, true, false, List, [], ◌∷◌, None, Some}
 use Prim.Native.String.{String}
-use Rattle.std.proofs.Math.Option.{none, some}
 use Rattle.doubles.specs.Double.{Double, finite, one, of_pattern}
 use Rattle.text.specs.Ascii.{ascii}
 use Rattle.rows.specs.declared.Kind.TheVariants.{Unigram, WordPiece}
@@ -38,18 +37,18 @@ t has i = record { token = ascii t; worth = id i }
 
 -- a text gives ids; WordPiece's max_chars is 100 unless said
 abbrev pub ◌gives◌ : String → List ℕ → Given
-t gives ids = record { text = ascii t; max_chars = 100; ids = ids; score = none }
+t gives ids = record { text = ascii t; max_chars = 100; ids = ids; score = None }
 
 -- "Unigram, unknown id 0 and row 0 `<unk>` score 0 unless said"
 abbrev pub unigram : List Entry → List Given → Example
-unigram es gs = record { kind = Unigram; entries = es; unknown = 0; prefix = []; given = gs; unknown_score = none }
+unigram es gs = record { kind = Unigram; entries = es; unknown = 0; prefix = []; given = gs; unknown_score = None }
 
 abbrev pub unk : Entry
 unk = "<unk>" scores plus 0
 
 -- "WordPiece, prefix `##`, unknown 0, max_chars 100"
 abbrev pub wordpiece : List Entry → List Given → Example
-wordpiece es gs = record { kind = WordPiece; entries = es; unknown = 0; prefix = ascii "##"; given = gs; unknown_score = none }
+wordpiece es gs = record { kind = WordPiece; entries = es; unknown = 0; prefix = ascii "##"; given = gs; unknown_score = None }
 
 unfoldable pub table : List Example
 table =
@@ -68,7 +67,7 @@ table =
     ∷ unigram (unk ∷ "x" scores minus 1 ∷ []) ("q<unk>" gives (0 ∷ []) ∷ [])
     -- 7. a -3, a -1; `a` gives 1, and its record's score is -3.
     ∷ unigram (unk ∷ "a" scores minus 3 ∷ "a" scores minus 1 ∷ [])
-    (record { text = ascii "a"; max_chars = 100; ids = 1 ∷ []; score = some (minus 3) } ∷ [])
+    (record { text = ascii "a"; max_chars = 100; ids = 1 ∷ []; score = Some (minus 3) } ∷ [])
     -- 8. Rows empty -50, a -1, unknown 7; `x` gives 7, unknown score -60.
     ∷ record {
       kind = Unigram;
@@ -76,7 +75,7 @@ table =
       unknown = 7;
       prefix = [];
       given = "x" gives (7 ∷ []) ∷ [];
-      unknown_score = some (minus 60);
+      unknown_score = Some (minus 60);
     }
     -- 9. ab 1, abc 2, ##cd 3; `abcd` gives 0.
     ∷ wordpiece ("ab" has 1 ∷ "abc" has 2 ∷ "##cd" has 3 ∷ []) ("abcd" gives (0 ∷ []) ∷ [])
@@ -86,6 +85,6 @@ table =
     ∷ wordpiece ("a" has 1 ∷ "a" has 2 ∷ []) ("a" gives (2 ∷ []) ∷ [])
     -- 12. éé 5; `éé` gives 5 at max_chars 2 and 0 at 1.
     ∷ wordpiece (record { token = éé; worth = id 5 } ∷ [])
-    (record { text = éé; max_chars = 2; ids = 5 ∷ []; score = none }
-    ∷ record { text = éé; max_chars = 1; ids = 0 ∷ []; score = none } ∷ [])
+    (record { text = éé; max_chars = 2; ids = 5 ∷ []; score = None }
+    ∷ record { text = éé; max_chars = 1; ids = 0 ∷ []; score = None } ∷ [])
     ∷ []

@@ -1,14 +1,14 @@
 -- `exports::sk_characters` meets its contract: each test finds its fault, and where none does the characters are counted.
 -- Assumes nothing.
+use Rattle.std.specs.Result.{result_err}
+use Rattle.std.specs.Prelude.{Option}
 use mathlib.Core.Path.{◌≡◌, sym, ap, ◌∙◌}
 use mathlib.Core.List.{List}
-use mathlib.Core.Option.{Option}
 use Prim.Native.Nat.{ℕ}
 use borrow.Author.Tests.{lt-ltb, le-ltb}
 use lib.ListN.{length}
 use Rattle.refusal.specs.declared.Fault.{Fault}
 use Rattle.refusal.specs.Sizes.{max_text}
-use Rattle.refusal.specs.Refusal.{fault_in}
 use Rattle.refusal.proofs.Tests.{found, not_found}
 use Rattle.text.specs.Text.{characters}
 use Rattle.text.proofs.Spans.{fine-text}
@@ -23,13 +23,13 @@ returns-then-s-gt-MAX_TEXT c = c.refused.ensures ∙ told c.args.s.now (found _ 
 
 pub returns-in-Bad : goal.returns-in-Bad
 returns-in-Bad c =
-    let judged : count_fault c.args.s.now ≡ fault_in c.judge.result = not_found _ _ _ (le-ltb max_text (length c.args.s.now) c.if-s-gt-MAX_TEXT.false) ∙ sym c.judge.ensures in
-    c.refused-in-Bad.ensures ∙ told c.args.s.now (judged ∙ ap fault_in c.in-Bad.is)
+    let judged : count_fault c.args.s.now ≡ result_err c.judge.result = not_found _ _ _ (le-ltb max_text (length c.args.s.now) c.if-s-gt-MAX_TEXT.false) ∙ sym c.judge.ensures in
+    c.refused-in-Bad.ensures ∙ told c.args.s.now (judged ∙ ap result_err c.in-Bad.is)
 
 pub characters-requires : goal.characters-requires
-characters-requires c = fine-text c.args.s.now (sym c.judge.ensures ∙ ap fault_in c.in_default.is)
+characters-requires c = fine-text c.args.s.now (sym c.judge.ensures ∙ ap result_err c.in_default.is)
 
 pub returns : goal.returns
 returns c =
-    let judged : count_fault c.args.s.now ≡ fault_in c.judge.result = not_found _ _ _ (le-ltb max_text (length c.args.s.now) c.if-s-gt-MAX_TEXT.false) ∙ sym c.judge.ensures in
-    c.characters.ensures ∙ told c.args.s.now (judged ∙ ap fault_in c.in_default.is)
+    let judged : count_fault c.args.s.now ≡ result_err c.judge.result = not_found _ _ _ (le-ltb max_text (length c.args.s.now) c.if-s-gt-MAX_TEXT.false) ∙ sym c.judge.ensures in
+    c.characters.ensures ∙ told c.args.s.now (judged ∙ ap result_err c.in_default.is)

@@ -1,6 +1,6 @@
 -- `exports::sk_exact_checked` meets its contract: the string's id, or the mark that it has none. Assumes nothing.
+use Rattle.std.specs.Prelude.{Option}
 use mathlib.Core.Path.{sym, ap, ◌∙◌}
-use mathlib.Core.Option.{Option}
 use Prim.Native.Nat.{ℕ}
 use Rattle.trie.specs.Walks.{id_in}
 use Rattle.trie.specs.Lookup.{found}

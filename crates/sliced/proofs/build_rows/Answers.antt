@@ -1,8 +1,9 @@
 -- `sliced::build_rows` meets its contract. The turns from t on leave what all turns leave (`Slices.antt`'s `Turning`), and what
 -- the last call promises of the first places is what is promised of the rows (`Copies.antt`'s `rows-built`). Assumes nothing.
+use Rattle.std.specs.Result.{result_err}
+use Rattle.std.specs.Prelude.{Option}
 use mathlib.Core.Path.{◌≡◌, refl, sym, ap, ◌∙◌, subst}
 use mathlib.Core.List.{List, map}
-use mathlib.Core.Option.{Option}
 use Prim.Native.Nat.{ℕ, ◌+◌}
 use native.Mathlib.Omega.{arith}
 use lib.ListN.{length, length-map}
@@ -11,7 +12,6 @@ use Rattle.doubles.specs.Units.{units}
 use Rattle.rows.specs.declared.Row.{Row}
 use Rattle.rows.specs.Rows.{row_is}
 use Rattle.rows.specs.Columns.{rows_of}
-use Rattle.rows.specs.Answers.{reason_in}
 use Rattle.build.specs.Memory.{memory, with_scores, Memory}
 use Rattle.sliced.specs.BuildRows.{RowPlaces, row_places, rows_judged, PlacesBuilt}
 use Rattle.sliced.specs.Copied.{first_places, RowsCopied}
@@ -59,18 +59,18 @@ pub build_copied-requires : goal.build_copied-requires
 build_copied-requires c =
     let a = c.args in
     let l = c.loop-t in
-    let e = turned a.tab.now a.rows.now (row_places a.off.now a.len.now a.score.now) l.t (reason_in l.found) (row_places l.off l.len l.score) (omega (arith, c.loop-t-test.false, l.invariant.below)) l.invariant.turning in
-    subst (λ (k : ℕ). RowsCopied (reason_in l.found) k a.tab.now l.off l.len l.score) (length-map a.rows.now row_is)
-    (ready a.tab.now (map row_is a.rows.now) a.off.now a.len.now l.off l.len a.score.now l.score (reason_in l.found) e.0 e.1)
+    let e = turned a.tab.now a.rows.now (row_places a.off.now a.len.now a.score.now) l.t (result_err l.found) (row_places l.off l.len l.score) (omega (arith, c.loop-t-test.false, l.invariant.below)) l.invariant.turning in
+    subst (λ (k : ℕ). RowsCopied (result_err l.found) k a.tab.now l.off l.len l.score) (length-map a.rows.now row_is)
+    (ready a.tab.now (map row_is a.rows.now) a.off.now a.len.now l.off l.len a.score.now l.score (result_err l.found) e.0 e.1)
 
 pub returns : goal.returns
 returns c =
     let a = c.args in
     let l = c.loop-t in
-    let e = turned a.tab.now a.rows.now (row_places a.off.now a.len.now a.score.now) l.t (reason_in l.found) (row_places l.off l.len l.score) (omega (arith, c.loop-t-test.false, l.invariant.below)) l.invariant.turning in
+    let e = turned a.tab.now a.rows.now (row_places a.off.now a.len.now a.score.now) l.t (result_err l.found) (row_places l.off l.len l.score) (omega (arith, c.loop-t-test.false, l.invariant.below)) l.invariant.turning in
     let n = c.build_copied.new in
     let before : Memory = with_scores (memory a.edge_at.now a.edge_n.now a.node_id.now a.byte.now a.to.now a.work.now) (map units a.node_score.now) in
     let after : Memory = with_scores (memory n.edge_at n.edge_n n.node_id n.byte n.to n.work) (map units n.node_score) in
-    rows-built a.tab.now (map row_is a.rows.now) a.off.now a.len.now l.off l.len a.score.now l.score (reason_in l.found) e.0 e.1 before
-    (subst (λ (k : ℕ). PlacesBuilt (reason_in l.found) k a.tab.now (rows_of (first_places k l.off l.len l.score)) (row_places l.off l.len l.score) before c.build_copied.result (row_places n.off n.len n.score) after)
+    rows-built a.tab.now (map row_is a.rows.now) a.off.now a.len.now l.off l.len a.score.now l.score (result_err l.found) e.0 e.1 before
+    (subst (λ (k : ℕ). PlacesBuilt (result_err l.found) k a.tab.now (rows_of (first_places k l.off l.len l.score)) (row_places l.off l.len l.score) before c.build_copied.result (row_places n.off n.len n.score) after)
     (sym (length-map a.rows.now row_is)) c.build_copied.ensures)

@@ -1,11 +1,12 @@
 -- `wordpiece::from_rows` meets its contract: what `judge` finds is refused. Rows without a fault are what the core asks for,
 -- the room is the least that the columns have, and what the core answers is answered. Assumes nothing.
+use Rattle.std.specs.Result.{result_err}
+use Rattle.std.specs.Prelude.{None}
 use mathlib.Core.Path.{◌≡◌, sym, ap, ◌∙◌}
-use mathlib.Core.Option.{none}
 use native.Mathlib.Omega.{arith}
 use Rattle.rows.specs.declared.Kind.TheVariants.{WordPiece}
 use Rattle.rows.specs.Columns.{rows_of, columns_fault}
-use Rattle.rows.specs.Answers.{columns, reason_in}
+use Rattle.rows.specs.Answers.{columns}
 use Rattle.rows.proofs.NeverRoom.{columns-not-room}
 use Rattle.build.specs.Memory.{memory}
 use Rattle.build.proofs.Judging.{judged}
@@ -17,30 +18,30 @@ use Rattle.wordpiece.proofs.from_rows.Goals as goal
 pub returns-in-Refused : goal.returns-in-Refused
 unfolding promise.told
 returns-in-Refused c =
-    let found-is : columns_fault WordPiece c.args.tab.now (columns c.args.off.now c.args.len.now c.args.scored.now c.args.score.now c.args.id.now) ≡ reason_in c.judge-found.result = sym c.judge-found.ensures in
-    let is = found-is ∙ ap reason_in c.in-Refused.is in
+    let found-is : columns_fault WordPiece c.args.tab.now (columns c.args.off.now c.args.len.now c.args.scored.now c.args.score.now c.args.id.now) ≡ result_err c.judge-found.result = sym c.judge-found.ensures in
+    let is = found-is ∙ ap result_err c.in-Refused.is in
     built-bad WordPiece c.args.tab.now (rows_of (columns c.args.off.now c.args.len.now c.args.scored.now c.args.score.now c.args.id.now)) _ (memory c.args.edge_at.now c.args.edge_n.now c.args.node_id.now c.args.byte.now c.args.to.now c.args.work.now) is (columns-not-room WordPiece c.args.tab.now (columns c.args.off.now c.args.len.now c.args.scored.now c.args.score.now c.args.id.now) _ is)
 
 pub build-built-requires : goal.build-built-requires
 build-built-requires c =
-    let found-is : columns_fault WordPiece c.args.tab.now (columns c.args.off.now c.args.len.now c.args.scored.now c.args.score.now c.args.id.now) ≡ reason_in c.judge-found.result = sym c.judge-found.ensures in
-    let fine : columns_fault WordPiece c.args.tab.now (columns c.args.off.now c.args.len.now c.args.scored.now c.args.score.now c.args.id.now) ≡ none = found-is ∙ ap reason_in c.in_default.is in (
+    let found-is : columns_fault WordPiece c.args.tab.now (columns c.args.off.now c.args.len.now c.args.scored.now c.args.score.now c.args.id.now) ≡ result_err c.judge-found.result = sym c.judge-found.ensures in
+    let fine : columns_fault WordPiece c.args.tab.now (columns c.args.off.now c.args.len.now c.args.scored.now c.args.score.now c.args.id.now) ≡ None = found-is ∙ ap result_err c.in_default.is in (
       judged WordPiece c.args.tab.now (columns c.args.off.now c.args.len.now c.args.scored.now c.args.score.now c.args.id.now) (fine),
       omega (arith, c.room-room.ensures),
     )
 
 pub returns-in-NoRoom : goal.returns-in-NoRoom
 returns-in-NoRoom c =
-    let found-is : columns_fault WordPiece c.args.tab.now (columns c.args.off.now c.args.len.now c.args.scored.now c.args.score.now c.args.id.now) ≡ reason_in c.judge-found.result = sym c.judge-found.ensures in
-    let fine : columns_fault WordPiece c.args.tab.now (columns c.args.off.now c.args.len.now c.args.scored.now c.args.score.now c.args.id.now) ≡ none = found-is ∙ ap reason_in c.in_default.is in
+    let found-is : columns_fault WordPiece c.args.tab.now (columns c.args.off.now c.args.len.now c.args.scored.now c.args.score.now c.args.id.now) ≡ result_err c.judge-found.result = sym c.judge-found.ensures in
+    let fine : columns_fault WordPiece c.args.tab.now (columns c.args.off.now c.args.len.now c.args.scored.now c.args.score.now c.args.id.now) ≡ None = found-is ∙ ap result_err c.in_default.is in
     let a = c.args in
     lists-full a.tab.now a.off.now a.len.now a.id.now (memory c.args.edge_at.now c.args.edge_n.now c.args.node_id.now c.args.byte.now c.args.to.now c.args.work.now) (memory c.build-built.new.edge_at c.build-built.new.edge_n c.build-built.new.id c.build-built.new.byte c.build-built.new.to c.build-built.new.work) c.room-room.ensures c.build-built.ensures
     a.scored.now a.score.now (fine) c.in-NoRoom.is
 
 pub returns-in-Nodes : goal.returns-in-Nodes
 returns-in-Nodes c =
-    let found-is : columns_fault WordPiece c.args.tab.now (columns c.args.off.now c.args.len.now c.args.scored.now c.args.score.now c.args.id.now) ≡ reason_in c.judge-found.result = sym c.judge-found.ensures in
-    let fine : columns_fault WordPiece c.args.tab.now (columns c.args.off.now c.args.len.now c.args.scored.now c.args.score.now c.args.id.now) ≡ none = found-is ∙ ap reason_in c.in_default.is in
+    let found-is : columns_fault WordPiece c.args.tab.now (columns c.args.off.now c.args.len.now c.args.scored.now c.args.score.now c.args.id.now) ≡ result_err c.judge-found.result = sym c.judge-found.ensures in
+    let fine : columns_fault WordPiece c.args.tab.now (columns c.args.off.now c.args.len.now c.args.scored.now c.args.score.now c.args.id.now) ≡ None = found-is ∙ ap result_err c.in_default.is in
     let a = c.args in
     lists-built a.tab.now a.off.now a.len.now a.id.now (memory c.args.edge_at.now c.args.edge_n.now c.args.node_id.now c.args.byte.now c.args.to.now c.args.work.now) (memory c.build-built.new.edge_at c.build-built.new.edge_n c.build-built.new.id c.build-built.new.byte c.build-built.new.to c.build-built.new.work) c.room-room.ensures c.build-built.ensures
     a.scored.now a.score.now (fine) c.in-Nodes.is

@@ -1,8 +1,8 @@
 -- `build::links::child` meets its contract. The link that `seek` finds leads to the child by the byte, if that is there; else
 -- the new node is put behind it, or no room is left. Assumes nothing.
+use Rattle.std.specs.Prelude.{Option, None, Some}
 use mathlib.Core.Path.{◌≡◌}
 use mathlib.Core.List.{List, [], ◌∷◌, ◌++◌}
-use mathlib.Core.Option.{Option, none, some}
 use Prim.Native.Nat.{ℕ, ◌*◌, ◌≤◌, ◌<◌}
 use native.Mathlib.Omega.{arith}
 use lib.ListN.{length, get_or}
@@ -16,7 +16,7 @@ use Rattle.build.proofs.links.child.Goals.{then-k-ne0+else-edge_n-k, else-k-ne0}
 use Rattle.build.proofs.links.child.Goals as goal
 
 abbrev chained :
-    {ns : List (List ℕ)} {rule : List ℕ → Option ℕ} (s : List ℕ) {edge_n id work : List ℕ} {node : ℕ} → Held ns rule edge_n id work → place ns s ≡ some node
+    {ns : List (List ℕ)} {rule : List ℕ → Option ℕ} (s : List ℕ) {edge_n id work : List ℕ} {node : ℕ} → Held ns rule edge_n id work → place ns s ≡ Some node
     → Chained edge_n work 0 node
 chained {ns = ns} s h e = record { names = ns; string = s; links = h.links; bytes = h.bytes; here = e }
 
@@ -49,7 +49,7 @@ returns-then-edge_n-k c = record {
 pub returns-then-n-room : goal.returns-then-n-room
 returns-then-n-room c =
     let slot : Slot c.requires.names c.requires.string c.args.b c.seek-at.result = c.seek-at.ensures.slot (chained c.requires.string c.requires.held c.requires.here) in
-    let absent : (ns : List (List ℕ)) → (rule : List ℕ → Option ℕ) → (s : List ℕ) → (Held ns rule c.args.edge_n.now c.args.id.now c.args.work.now → place ns s ≡ some c.args.from.node → place ns (s ++ (c.args.b ∷ [])) ≡ none) = λ ns rule s h e. let slot = c.seek-at.ensures.slot (chained s h e) in elim c.if-k-ne0.branch [ then-k-ne0+else-edge_n-k w ↦ child-other h.links h.bytes e slot w.if-k-ne0.true w.if-edge_n-k.false | else-k-ne0 w ↦ child-none h.links h.bytes e slot (omega arith) w.if-k-ne0.false ] in
+    let absent : (ns : List (List ℕ)) → (rule : List ℕ → Option ℕ) → (s : List ℕ) → (Held ns rule c.args.edge_n.now c.args.id.now c.args.work.now → place ns s ≡ Some c.args.from.node → place ns (s ++ (c.args.b ∷ [])) ≡ None) = λ ns rule s h e. let slot = c.seek-at.ensures.slot (chained s h e) in elim c.if-k-ne0.branch [ then-k-ne0+else-edge_n-k w ↦ child-other h.links h.bytes e slot w.if-k-ne0.true w.if-edge_n-k.false | else-k-ne0 w ↦ child-none h.links h.bytes e slot (omega arith) w.if-k-ne0.false ] in
     record {
       entered = λ ns rule s h n e.
           byte_full h s c.args.b n c.requires.fits (absent ns rule s h e) c.if-n-room.true;
@@ -71,7 +71,7 @@ link-requires c =
 pub returns : goal.returns
 returns c =
     let slot : Slot c.requires.names c.requires.string c.args.b c.seek-at.result = c.seek-at.ensures.slot (chained c.requires.string c.requires.held c.requires.here) in
-    let absent : (ns : List (List ℕ)) → (rule : List ℕ → Option ℕ) → (s : List ℕ) → (Held ns rule c.args.edge_n.now c.args.id.now c.args.work.now → place ns s ≡ some c.args.from.node → place ns (s ++ (c.args.b ∷ [])) ≡ none) = λ ns rule s h e. let slot = c.seek-at.ensures.slot (chained s h e) in elim c.if-k-ne0.branch [ then-k-ne0+else-edge_n-k w ↦ child-other h.links h.bytes e slot w.if-k-ne0.true w.if-edge_n-k.false | else-k-ne0 w ↦ child-none h.links h.bytes e slot (omega arith) w.if-k-ne0.false ] in
+    let absent : (ns : List (List ℕ)) → (rule : List ℕ → Option ℕ) → (s : List ℕ) → (Held ns rule c.args.edge_n.now c.args.id.now c.args.work.now → place ns s ≡ Some c.args.from.node → place ns (s ++ (c.args.b ∷ [])) ≡ None) = λ ns rule s h e. let slot = c.seek-at.ensures.slot (chained s h e) in elim c.if-k-ne0.branch [ then-k-ne0+else-edge_n-k w ↦ child-other h.links h.bytes e slot w.if-k-ne0.true w.if-edge_n-k.false | else-k-ne0 w ↦ child-none h.links h.bytes e slot (omega arith) w.if-k-ne0.false ] in
     record {
       entered = λ ns rule s h n e.
           byte-made h s c.args.b n c.requires.fits e (absent ns rule s h e)

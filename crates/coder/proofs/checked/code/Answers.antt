@@ -1,6 +1,6 @@
 -- `coder::checked::code` meets its contract: the coding of the kind. Assumes nothing.
+use Rattle.std.specs.Prelude.{Result, ℕ}
 use mathlib.Core.Path.{◌≡◌, sym, ap, ◌∙◌, subst}
-use Rattle.refusal.specs.declared.CodeAnswer.{CodeAnswer}
 use Rattle.trie.specs.Trie.{parts_of}
 use Rattle.unigram.specs.Segment.{Scratch}
 use Rattle.unigram.specs.Checked.{scratch_of}
@@ -28,14 +28,14 @@ pub returns-in-Unigram : goal.returns-in-Unigram
 unfolding vocabulary_of
 returns-in-Unigram c =
     let held : Coder → Vocabulary = λ coder. vocabulary_of coder c.args.edge_at.now c.args.edge_n.now c.args.id.now c.args.score.now c.args.byte.now c.args.to.now c.args.prefix.now in
-    let promised : (coder : Coder) → (answer : CodeAnswer) → (after : Scratch) → c.args.coder ≡ coder → CodedIn (held coder) c.args.text.now (scratch_of c.args.start.now c.args.slot_id.now c.args.slot_score.now c.args.path.now c.args.ids.now) answer after → CodedIn (held c.args.coder) c.args.text.now (scratch_of c.args.start.now c.args.slot_id.now c.args.slot_score.now c.args.path.now c.args.ids.now) answer after = λ coder answer after e p. subst (λ (x : Coder). CodedIn (held x) c.args.text.now (scratch_of c.args.start.now c.args.slot_id.now c.args.slot_score.now c.args.path.now c.args.ids.now) answer after) (sym e) p in
+    let promised : (coder : Coder) → (answer : Result ℕ Fault) → (after : Scratch) → c.args.coder ≡ coder → CodedIn (held coder) c.args.text.now (scratch_of c.args.start.now c.args.slot_id.now c.args.slot_score.now c.args.path.now c.args.ids.now) answer after → CodedIn (held c.args.coder) c.args.text.now (scratch_of c.args.start.now c.args.slot_id.now c.args.slot_score.now c.args.path.now c.args.ids.now) answer after = λ coder answer after e p. subst (λ (x : Coder). CodedIn (held x) c.args.text.now (scratch_of c.args.start.now c.args.slot_id.now c.args.slot_score.now c.args.path.now c.args.ids.now) answer after) (sym e) p in
     promised _ _ _ c.in-Unigram.is (segmented-coded c.segment_tested.ensures)
 
 pub returns-in-WordPiece : goal.returns-in-WordPiece
 unfolding vocabulary_of
 returns-in-WordPiece c =
     let held : Coder → Vocabulary = λ coder. vocabulary_of coder c.args.edge_at.now c.args.edge_n.now c.args.id.now c.args.score.now c.args.byte.now c.args.to.now c.args.prefix.now in
-    let promised : (coder : Coder) → (answer : CodeAnswer) → (after : Scratch) → c.args.coder ≡ coder → CodedIn (held coder) c.args.text.now (scratch_of c.args.start.now c.args.slot_id.now c.args.slot_score.now c.args.path.now c.args.ids.now) answer after → CodedIn (held c.args.coder) c.args.text.now (scratch_of c.args.start.now c.args.slot_id.now c.args.slot_score.now c.args.path.now c.args.ids.now) answer after = λ coder answer after e p. subst (λ (x : Coder). CodedIn (held x) c.args.text.now (scratch_of c.args.start.now c.args.slot_id.now c.args.slot_score.now c.args.path.now c.args.ids.now) answer after) (sym e) p in
+    let promised : (coder : Coder) → (answer : Result ℕ Fault) → (after : Scratch) → c.args.coder ≡ coder → CodedIn (held coder) c.args.text.now (scratch_of c.args.start.now c.args.slot_id.now c.args.slot_score.now c.args.path.now c.args.ids.now) answer after → CodedIn (held c.args.coder) c.args.text.now (scratch_of c.args.start.now c.args.slot_id.now c.args.slot_score.now c.args.path.now c.args.ids.now) answer after = λ coder answer after e p. subst (λ (x : Coder). CodedIn (held x) c.args.text.now (scratch_of c.args.start.now c.args.slot_id.now c.args.slot_score.now c.args.path.now c.args.ids.now) answer after) (sym e) p in
     let a = c.args in
     promised _ _ _ c.in-WordPiece.is
     (encoded-coded (parts_of a.edge_at.now a.edge_n.now a.id.now a.byte.now a.to.now) _ _ a.prefix.now a.text.now (scratch_of c.args.start.now c.args.slot_id.now c.args.slot_score.now c.args.path.now c.args.ids.now)

@@ -1,5 +1,5 @@
+use Rattle.std.specs.Prelude.{None}
 use mathlib.Core.Path.{◌≡◌}
-use mathlib.Core.Option.{none}
 use Prim.Native.Nat.{◌+◌, ◌-◌, ◌≤◌}
 use lib.ListN.{length}
 use Rattle.cutting.specs.Records.{shown}
@@ -12,7 +12,7 @@ invariant-loop-j l = (l.j ≤ l.n + 1)
     × (length l.start ≡ length l.initial.start)
     × (length l.slot_id ≡ length l.initial.slot_id)
     × (length l.slot_score ≡ length l.initial.slot_score)
-    × Filled (λ k. shown none) (slots_of l.initial.start l.initial.slot_id l.initial.slot_score) l.j (slots_of l.start l.slot_id l.slot_score)
+    × Filled (λ k. shown None) (slots_of l.initial.start l.initial.slot_id l.initial.slot_score) l.j (slots_of l.start l.slot_id l.slot_score)
 
 abbrev pub decreases-loop-j : goal.decreases-loop-j
 decreases-loop-j l = l.n + 1 - l.j

@@ -1,7 +1,7 @@
 -- `pack::judge::judge` meets its contract: a wrong layout is 11, and then what `judge_rows` finds is found. Assumes nothing.
+use Rattle.std.specs.Result.{result_err}
+use Rattle.std.specs.Prelude.{Some}
 use mathlib.Core.Path.{◌≡◌, sym, ap, ◌∙◌}
-use mathlib.Core.Option.{some}
-use Rattle.rows.specs.Answers.{reason_in}
 use Rattle.pack.specs.Pack.{header_of, kind_of}
 use Rattle.pack.specs.Reading.{kind_in}
 use Rattle.pack.proofs.Headers.{too_short, kind-wrong}
@@ -16,5 +16,5 @@ returns-in_default c = judged-wrong c.args.bytes.now (sym c.layout_of.ensures �
 
 pub returns-in-Refused : goal.returns-in-Refused
 returns-in-Refused c =
-    let known : kind_of c.args.bytes.now ≡ some c.in-Of.kind = sym c.layout_of.ensures ∙ ap kind_in c.in-Of.is in
-    judged-laid c.args.bytes.now (known) ∙ (sym c.judge_rows.ensures ∙ ap reason_in c.in-Refused.is)
+    let known : kind_of c.args.bytes.now ≡ Some c.in-Of.kind = sym c.layout_of.ensures ∙ ap kind_in c.in-Of.is in
+    judged-laid c.args.bytes.now (known) ∙ (sym c.judge_rows.ensures ∙ ap result_err c.in-Refused.is)

@@ -1,9 +1,10 @@
 -- `pack::judge::judge_rows` meets its contract: the sizes, then the first bad row, then the prefix, each where those before it
 -- found nothing. Assumes nothing.
+use Rattle.std.specs.Result.{result_err}
+use Rattle.std.specs.Prelude.{None}
 use mathlib.Core.Path.{◌≡◌, sym, ap, ◌∙◌, subst}
 use mathlib.Core.Bool.{false}
 use mathlib.Core.List.{List}
-use mathlib.Core.Option.{none}
 use Prim.Native.Nat.{ℕ, ◌≤◌}
 use native.Mathlib.Omega.{arith}
 use lib.ListN.{length}
@@ -12,7 +13,6 @@ use Rattle.refusal.specs.Refusal.{called}
 use Rattle.text.specs.Span.{TextAnswered}
 use Rattle.text.proofs.Spans.{refused-exactly, accepted-exactly}
 use Rattle.rows.specs.Rows.{first_bad}
-use Rattle.rows.specs.Answers.{reason_in}
 use Rattle.pack.specs.declared.header.Header.{Header}
 use Rattle.pack.specs.Pack.{header_of, rows_from, rows_of, strings_of}
 use Rattle.pack.specs.Build.{large_header}
@@ -38,8 +38,8 @@ returns-in-Refused c =
     let sized : c.is_large.result ≡ large_header (header_of c.args.bytes.now) = c.is_large.ensures ∙ ap large_header c.requires.0 in
     let not-large : large_header (header_of c.args.bytes.now) ≡ false = sym (sized) ∙ c.if-is_large.false in
     let start_is : c.args.h.strings_off ≡ (header_of c.args.bytes.now).strings_off = ap (λ (h : Header). h.strings_off) c.requires.0 in
-    let rows_are : (reason_in c.first_bad-found.result ≡ first_bad c.args.kind (strings_of c.args.bytes.now) 0 (rows_of c.args.kind c.args.bytes.now)) = c.first_bad-found.ensures ∙ ap (λ (tab : List ℕ). first_bad c.args.kind tab 0 (rows_from c.args.kind c.args.bytes.now 36 c.args.h.rows)) (strings-are c.args.bytes.now c.args.h.strings_off (start_is)) ∙ ap (λ (h : Header). first_bad c.args.kind (strings_of c.args.bytes.now) 0 (rows_from c.args.kind c.args.bytes.now 36 h.rows)) c.requires.0 in
-    sym (before-rows c.args.kind c.args.bytes.now (not-large) (sym (rows_are) ∙ ap reason_in c.in-Refused.is))
+    let rows_are : (result_err c.first_bad-found.result ≡ first_bad c.args.kind (strings_of c.args.bytes.now) 0 (rows_of c.args.kind c.args.bytes.now)) = c.first_bad-found.ensures ∙ ap (λ (tab : List ℕ). first_bad c.args.kind tab 0 (rows_from c.args.kind c.args.bytes.now 36 c.args.h.rows)) (strings-are c.args.bytes.now c.args.h.strings_off (start_is)) ∙ ap (λ (h : Header). first_bad c.args.kind (strings_of c.args.bytes.now) 0 (rows_from c.args.kind c.args.bytes.now 36 h.rows)) c.requires.0 in
+    sym (before-rows c.args.kind c.args.bytes.now (not-large) (sym (rows_are) ∙ ap result_err c.in-Refused.is))
 
 pub returns-in-Bad : goal.returns-in-Bad
 unfolding called rows_of
@@ -48,8 +48,8 @@ returns-in-Bad c =
     let not-large : large_header (header_of c.args.bytes.now) ≡ false = sym (sized) ∙ c.if-is_large.false in
     let start_is : c.args.h.strings_off ≡ (header_of c.args.bytes.now).strings_off = ap (λ (h : Header). h.strings_off) c.requires.0 in
     let prefix-is : (let h = header_of c.args.bytes.now in TextAnswered (strings_of c.args.bytes.now) h.prefix_off h.prefix_len c.text_answer-spelled.result) = subst (λ (h : Header). TextAnswered (strings_of c.args.bytes.now) h.prefix_off h.prefix_len c.text_answer-spelled.result) c.requires.0 (subst (λ (tab : List ℕ). TextAnswered tab c.args.h.prefix_off c.args.h.prefix_len c.text_answer-spelled.result) (strings-are c.args.bytes.now c.args.h.strings_off (start_is)) c.text_answer-spelled.ensures) in
-    let rows_are : (reason_in c.first_bad-found.result ≡ first_bad c.args.kind (strings_of c.args.bytes.now) 0 (rows_of c.args.kind c.args.bytes.now)) = c.first_bad-found.ensures ∙ ap (λ (tab : List ℕ). first_bad c.args.kind tab 0 (rows_from c.args.kind c.args.bytes.now 36 c.args.h.rows)) (strings-are c.args.bytes.now c.args.h.strings_off (start_is)) ∙ ap (λ (h : Header). first_bad c.args.kind (strings_of c.args.bytes.now) 0 (rows_from c.args.kind c.args.bytes.now 36 h.rows)) c.requires.0 in
-    let fine : (first_bad c.args.kind (strings_of c.args.bytes.now) 0 (rows_of c.args.kind c.args.bytes.now) ≡ none) = sym (rows_are) ∙ ap reason_in c.in_default.is in
+    let rows_are : (result_err c.first_bad-found.result ≡ first_bad c.args.kind (strings_of c.args.bytes.now) 0 (rows_of c.args.kind c.args.bytes.now)) = c.first_bad-found.ensures ∙ ap (λ (tab : List ℕ). first_bad c.args.kind tab 0 (rows_from c.args.kind c.args.bytes.now 36 c.args.h.rows)) (strings-are c.args.bytes.now c.args.h.strings_off (start_is)) ∙ ap (λ (h : Header). first_bad c.args.kind (strings_of c.args.bytes.now) 0 (rows_from c.args.kind c.args.bytes.now 36 h.rows)) c.requires.0 in
+    let fine : (first_bad c.args.kind (strings_of c.args.bytes.now) 0 (rows_of c.args.kind c.args.bytes.now) ≡ None) = sym (rows_are) ∙ ap result_err c.in_default.is in
     let table : length (strings_of c.args.bytes.now) ≤ max_table = omega (arith, strings-length c.args.bytes.now c.requires.1, small-table (header_of c.args.bytes.now) (not-large)) in
     sym (before-prefix c.args.kind c.args.bytes.now (not-large) (fine) (table) ∙ ap called ((refused-exactly (prefix-is) _).0 c.in-Bad.is))
 
@@ -60,8 +60,8 @@ returns-in-Fine c =
     let not-large : large_header (header_of c.args.bytes.now) ≡ false = sym (sized) ∙ c.if-is_large.false in
     let start_is : c.args.h.strings_off ≡ (header_of c.args.bytes.now).strings_off = ap (λ (h : Header). h.strings_off) c.requires.0 in
     let prefix-is : (let h = header_of c.args.bytes.now in TextAnswered (strings_of c.args.bytes.now) h.prefix_off h.prefix_len c.text_answer-spelled.result) = subst (λ (h : Header). TextAnswered (strings_of c.args.bytes.now) h.prefix_off h.prefix_len c.text_answer-spelled.result) c.requires.0 (subst (λ (tab : List ℕ). TextAnswered tab c.args.h.prefix_off c.args.h.prefix_len c.text_answer-spelled.result) (strings-are c.args.bytes.now c.args.h.strings_off (start_is)) c.text_answer-spelled.ensures) in
-    let rows_are : (reason_in c.first_bad-found.result ≡ first_bad c.args.kind (strings_of c.args.bytes.now) 0 (rows_of c.args.kind c.args.bytes.now)) = c.first_bad-found.ensures ∙ ap (λ (tab : List ℕ). first_bad c.args.kind tab 0 (rows_from c.args.kind c.args.bytes.now 36 c.args.h.rows)) (strings-are c.args.bytes.now c.args.h.strings_off (start_is)) ∙ ap (λ (h : Header). first_bad c.args.kind (strings_of c.args.bytes.now) 0 (rows_from c.args.kind c.args.bytes.now 36 h.rows)) c.requires.0 in
-    let fine : (first_bad c.args.kind (strings_of c.args.bytes.now) 0 (rows_of c.args.kind c.args.bytes.now) ≡ none) = sym (rows_are) ∙ ap reason_in c.in_default.is in
+    let rows_are : (result_err c.first_bad-found.result ≡ first_bad c.args.kind (strings_of c.args.bytes.now) 0 (rows_of c.args.kind c.args.bytes.now)) = c.first_bad-found.ensures ∙ ap (λ (tab : List ℕ). first_bad c.args.kind tab 0 (rows_from c.args.kind c.args.bytes.now 36 c.args.h.rows)) (strings-are c.args.bytes.now c.args.h.strings_off (start_is)) ∙ ap (λ (h : Header). first_bad c.args.kind (strings_of c.args.bytes.now) 0 (rows_from c.args.kind c.args.bytes.now 36 h.rows)) c.requires.0 in
+    let fine : (first_bad c.args.kind (strings_of c.args.bytes.now) 0 (rows_of c.args.kind c.args.bytes.now) ≡ None) = sym (rows_are) ∙ ap result_err c.in_default.is in
     let table : length (strings_of c.args.bytes.now) ≤ max_table = omega (arith, strings-length c.args.bytes.now c.requires.1, small-table (header_of c.args.bytes.now) (not-large)) in
     sym (before-prefix c.args.kind c.args.bytes.now (not-large) (fine) (table) ∙ ap called ((accepted-exactly (prefix-is)).0 c.in-Fine.is))
 

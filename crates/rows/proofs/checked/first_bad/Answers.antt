@@ -1,9 +1,9 @@
 -- `rows::checked::first_bad` meets its contract. The loop's invariant: what is first bad of all rows is what is first bad from
 -- row i on. The measure is what is left of the rows. Assumes nothing.
+use Rattle.std.specs.Result.{result_err}
 use mathlib.Core.Path.{◌≡◌, sym, ap, ◌∙◌}
 use native.Mathlib.Numerals.{add-one}
 use native.Mathlib.Omega.{arith}
-use Rattle.refusal.specs.Refusal.{fault_in}
 use Rattle.rows.specs.Rows.{row_fault}
 use Rattle.rows.specs.Columns.{row_at}
 use Rattle.rows.specs.Answers.{columns}
@@ -15,17 +15,17 @@ loop-i-init c = (omega arith, bad-start c.args.kind c.args.tab.now (let a = c.ar
 
 pub returns-in-Bad : goal.returns-in-Bad
 returns-in-Bad c =
-    let turn : fault_in c.row_fault.result ≡ row_fault c.args.kind c.args.tab.now (row_at (let a = c.args in columns a.off.now a.len.now a.scored.now a.score.now a.id.now) c.loop-i.i) = let a = c.args in c.row_fault.ensures ∙ ap (row_fault a.kind a.tab.now) c.row_at-row.ensures in
+    let turn : result_err c.row_fault.result ≡ row_fault c.args.kind c.args.tab.now (row_at (let a = c.args in columns a.off.now a.len.now a.scored.now a.score.now a.id.now) c.loop-i.i) = let a = c.args in c.row_fault.ensures ∙ ap (row_fault a.kind a.tab.now) c.row_at-row.ensures in
     sym
     (c.loop-i.invariant.1
-    ∙ bad-found c.args.kind c.args.tab.now (let a = c.args in columns a.off.now a.len.now a.scored.now a.score.now a.id.now) c.loop-i.i _ (omega arith) (sym (turn) ∙ ap fault_in c.in-Bad.is))
+    ∙ bad-found c.args.kind c.args.tab.now (let a = c.args in columns a.off.now a.len.now a.scored.now a.score.now a.id.now) c.loop-i.i _ (omega arith) (sym (turn) ∙ ap result_err c.in-Bad.is))
 
 pub loop-i-preserved : goal.loop-i-preserved
 loop-i-preserved c =
-    let turn : fault_in c.row_fault.result ≡ row_fault c.args.kind c.args.tab.now (row_at (let a = c.args in columns a.off.now a.len.now a.scored.now a.score.now a.id.now) c.loop-i.i) = let a = c.args in c.row_fault.ensures ∙ ap (row_fault a.kind a.tab.now) c.row_at-row.ensures in (
+    let turn : result_err c.row_fault.result ≡ row_fault c.args.kind c.args.tab.now (row_at (let a = c.args in columns a.off.now a.len.now a.scored.now a.score.now a.id.now) c.loop-i.i) = let a = c.args in c.row_fault.ensures ∙ ap (row_fault a.kind a.tab.now) c.row_at-row.ensures in (
       omega arith,
       c.loop-i.invariant.1
-          ∙ bad-turn c.args.kind c.args.tab.now (let a = c.args in columns a.off.now a.len.now a.scored.now a.score.now a.id.now) c.loop-i.i (omega arith) (sym (turn) ∙ ap fault_in c.in_default.is)
+          ∙ bad-turn c.args.kind c.args.tab.now (let a = c.args in columns a.off.now a.len.now a.scored.now a.score.now a.id.now) c.loop-i.i (omega arith) (sym (turn) ∙ ap result_err c.in_default.is)
           ∙ ap (bad_from c.args.kind c.args.tab.now (let a = c.args in columns a.off.now a.len.now a.scored.now a.score.now a.id.now)) (sym (add-one c.loop-i.i)),
     )
 

@@ -10,7 +10,7 @@ use Rattle.text.proofs.strides.past_fit_block.Goals as goal
 pub returns-then-not-is_tail : goal.returns-then-not-is_tail
 returns-then-not-is_tail c =
     let ends : let a = c.args in Ended a.s.now a.i (a.i + 32) = let a = c.args in ended a.s.now a.i 32 (omega arith) (c.is_fit.ensures c.if-not-is_fit.false) (c.begins.ensures c.if-not-begins.false) in
-    (ends).none (no-tail-quarter _ (sym c.is_tail.ensures ∙ c.if-not-is_tail.true))
+    (ends).None (no-tail-quarter _ (sym c.is_tail.ensures ∙ c.if-not-is_tail.true))
 
 pub returns-then-is_tail : goal.returns-then-is_tail
 returns-then-is_tail c =

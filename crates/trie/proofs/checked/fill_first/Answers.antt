@@ -18,8 +18,8 @@ bounds-edge_n-0 c =
 pub loop-left-init : goal.loop-left-init
 loop-left-init c = let a = c.args in
     let n = get_or a.edge_n.now 0 0 in
-    let none : n - n ≡ 0 = omega arith in
-    (omega arith, refl, rw none (led-nowhere a.byte.now a.to.now a.first.now (get_or a.edge_at.now 0 0 + n) c.requires.1))
+    let None : n - n ≡ 0 = omega arith in
+    (omega arith, refl, rw None (led-nowhere a.byte.now a.to.now a.first.now (get_or a.edge_at.now 0 0 + n) c.requires.1))
 
 pub bounds-byte-k : goal.bounds-byte-k
 bounds-byte-k c =

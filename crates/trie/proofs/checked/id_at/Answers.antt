@@ -1,7 +1,7 @@
 -- `trie::checked::id_at` meets its contract: the mark tells whether the node has an id. Assumes nothing.
+use Rattle.std.specs.Prelude.{Some}
 use mathlib.Core.Path.{◌≡◌, sym, ap, ◌∙◌}
 use mathlib.Core.List.{List}
-use mathlib.Core.Option.{some}
 use Prim.Native.Nat.{ℕ}
 use native.Mathlib.Omega.{arith}
 use lib.ListN.{get_or}
@@ -14,4 +14,4 @@ returns-then-i c t e = sym (id-none t c.args.at.node (rw e (omega arith)) (rw e 
 pub returns : goal.returns
 returns c t e = let k = c.args.at.node in
     let same : get_or t.id k 0 ≡ get_or c.args.id.now k 0 = ap (λ (xs : List ℕ). get_or xs k 0) e in
-    sym (id-some t k (rw e (omega arith)) (λ f. c.if-i.false (sym same ∙ f)) ∙ ap some same)
+    sym (id-some t k (rw e (omega arith)) (λ f. c.if-i.false (sym same ∙ f)) ∙ ap Some same)

@@ -1,7 +1,7 @@
 -- `trie::checked::seek_few` meets its contract: each edge in turn has the byte or is passed over, until none is left. Assumes
 -- nothing.
+use Rattle.std.specs.Prelude.{Option}
 use mathlib.Core.Path.{◌≡◌, sym, ◌∙◌}
-use mathlib.Core.Option.{Option}
 use Prim.Native.Nat.{ℕ, ◌+◌, ◌-◌, ◌≤◌}
 use native.Mathlib.Omega.{arith}
 use Rattle.trie.specs.Trie.{seek}

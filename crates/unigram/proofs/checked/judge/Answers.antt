@@ -1,13 +1,13 @@
 -- `unigram::checked::judge` meets its contract: each test that is passed is a fact for the next. Assumes nothing.
+use Rattle.std.specs.Result.{result_err}
+use Rattle.std.specs.Prelude.{None}
 use mathlib.Core.Path.{◌≡◌, sym, ap, ◌∙◌}
 use mathlib.Core.Bool.{Bool, ◌&&◌, ◌||◌}
 use mathlib.Core.List.{[], ◌∷◌}
-use mathlib.Core.Option.{none}
 use Prim.Native.Nat.{ℕ, ◌+◌}
 use native.Mathlib.Omega.{arith}
 use lib.Dec.{ltb}
 use lib.ListN.{length}
-use Rattle.refusal.specs.Refusal.{fault_in}
 use Rattle.text.proofs.Spans.{fine-text}
 use Rattle.trie.specs.Lookup.{lookup_fault}
 use Rattle.trie.proofs.Lookups as lookups
@@ -26,25 +26,25 @@ returns-then-not-sound c = sym
 
 pub returns-in-Bad : goal.returns-in-Bad
 returns-in-Bad c =
-    let found-text : lookup_fault c.args.sound c.args.text.now ≡ fault_in c.judge.result = ap (λ (b : Bool). lookup_fault b c.args.text.now) c.if-not-sound.false ∙ lookups.fault-text c.args.text.now c.if-text-gt-MAX_TEXT.false ∙ sym c.judge.ensures in
-    sym (fault-early c.args.sound c.args.text.now (lengths c.args.starts c.args.slot_ids c.args.slot_scores c.args.path c.args.ids) (found-text ∙ ap fault_in c.in-Bad.is))
+    let found-text : lookup_fault c.args.sound c.args.text.now ≡ result_err c.judge.result = ap (λ (b : Bool). lookup_fault b c.args.text.now) c.if-not-sound.false ∙ lookups.fault-text c.args.text.now c.if-text-gt-MAX_TEXT.false ∙ sym c.judge.ensures in
+    sym (fault-early c.args.sound c.args.text.now (lengths c.args.starts c.args.slot_ids c.args.slot_scores c.args.path c.args.ids) (found-text ∙ ap result_err c.in-Bad.is))
 
 pub characters-characters-requires : goal.characters-characters-requires
-characters-characters-requires c = fine-text c.args.text.now (sym c.judge.ensures ∙ ap fault_in c.in_default.is)
+characters-characters-requires c = fine-text c.args.text.now (sym c.judge.ensures ∙ ap result_err c.in_default.is)
 
 pub returns-then-short_scratch : goal.returns-then-short_scratch
 unfolding short_scratch
 returns-then-short_scratch c =
-    let found-text : lookup_fault c.args.sound c.args.text.now ≡ fault_in c.judge.result = ap (λ (b : Bool). lookup_fault b c.args.text.now) c.if-not-sound.false ∙ lookups.fault-text c.args.text.now c.if-text-gt-MAX_TEXT.false ∙ sym c.judge.ensures in
-    let fine : lookup_fault c.args.sound c.args.text.now ≡ none = found-text ∙ ap fault_in c.in_default.is in
+    let found-text : lookup_fault c.args.sound c.args.text.now ≡ result_err c.judge.result = ap (λ (b : Bool). lookup_fault b c.args.text.now) c.if-not-sound.false ∙ lookups.fault-text c.args.text.now c.if-text-gt-MAX_TEXT.false ∙ sym c.judge.ensures in
+    let fine : lookup_fault c.args.sound c.args.text.now ≡ None = found-text ∙ ap result_err c.in_default.is in
     let short : c.short_scratch.result ≡ short_scratch c.args.text.now (lengths c.args.starts c.args.slot_ids c.args.slot_scores c.args.path c.args.ids) = c.short_scratch.ensures ∙ ap (λ (n : ℕ). ltb 0 (length c.args.text.now) && (any_below (length c.args.text.now + 1) (c.args.starts ∷ c.args.slot_ids ∷ c.args.slot_scores ∷ []) || ltb c.args.path n)) c.characters-characters.ensures in
     sym (fault-scratch c.args.sound c.args.text.now (lengths c.args.starts c.args.slot_ids c.args.slot_scores c.args.path c.args.ids) (fine) (sym (short) ∙ c.if-short_scratch.true))
 
 pub returns-then-ids-characters : goal.returns-then-ids-characters
 unfolding short_scratch
 returns-then-ids-characters c =
-    let found-text : lookup_fault c.args.sound c.args.text.now ≡ fault_in c.judge.result = ap (λ (b : Bool). lookup_fault b c.args.text.now) c.if-not-sound.false ∙ lookups.fault-text c.args.text.now c.if-text-gt-MAX_TEXT.false ∙ sym c.judge.ensures in
-    let fine : lookup_fault c.args.sound c.args.text.now ≡ none = found-text ∙ ap fault_in c.in_default.is in
+    let found-text : lookup_fault c.args.sound c.args.text.now ≡ result_err c.judge.result = ap (λ (b : Bool). lookup_fault b c.args.text.now) c.if-not-sound.false ∙ lookups.fault-text c.args.text.now c.if-text-gt-MAX_TEXT.false ∙ sym c.judge.ensures in
+    let fine : lookup_fault c.args.sound c.args.text.now ≡ None = found-text ∙ ap result_err c.in_default.is in
     let short : c.short_scratch.result ≡ short_scratch c.args.text.now (lengths c.args.starts c.args.slot_ids c.args.slot_scores c.args.path c.args.ids) = c.short_scratch.ensures ∙ ap (λ (n : ℕ). ltb 0 (length c.args.text.now) && (any_below (length c.args.text.now + 1) (c.args.starts ∷ c.args.slot_ids ∷ c.args.slot_scores ∷ []) || ltb c.args.path n)) c.characters-characters.ensures in
     sym
     (fault-ids c.args.sound c.args.text.now (lengths c.args.starts c.args.slot_ids c.args.slot_scores c.args.path c.args.ids) (fine) (sym (short) ∙ c.if-short_scratch.false)
@@ -53,8 +53,8 @@ returns-then-ids-characters c =
 pub returns : goal.returns
 unfolding short_scratch
 returns c =
-    let found-text : lookup_fault c.args.sound c.args.text.now ≡ fault_in c.judge.result = ap (λ (b : Bool). lookup_fault b c.args.text.now) c.if-not-sound.false ∙ lookups.fault-text c.args.text.now c.if-text-gt-MAX_TEXT.false ∙ sym c.judge.ensures in
-    let fine : lookup_fault c.args.sound c.args.text.now ≡ none = found-text ∙ ap fault_in c.in_default.is in
+    let found-text : lookup_fault c.args.sound c.args.text.now ≡ result_err c.judge.result = ap (λ (b : Bool). lookup_fault b c.args.text.now) c.if-not-sound.false ∙ lookups.fault-text c.args.text.now c.if-text-gt-MAX_TEXT.false ∙ sym c.judge.ensures in
+    let fine : lookup_fault c.args.sound c.args.text.now ≡ None = found-text ∙ ap result_err c.in_default.is in
     let short : c.short_scratch.result ≡ short_scratch c.args.text.now (lengths c.args.starts c.args.slot_ids c.args.slot_scores c.args.path c.args.ids) = c.short_scratch.ensures ∙ ap (λ (n : ℕ). ltb 0 (length c.args.text.now) && (any_below (length c.args.text.now + 1) (c.args.starts ∷ c.args.slot_ids ∷ c.args.slot_scores ∷ []) || ltb c.args.path n)) c.characters-characters.ensures in
     sym
     (fault-none c.args.sound c.args.text.now (lengths c.args.starts c.args.slot_ids c.args.slot_scores c.args.path c.args.ids) (fine) (sym (short) ∙ c.if-short_scratch.false)

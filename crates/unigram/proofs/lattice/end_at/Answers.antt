@@ -1,9 +1,9 @@
 -- `unigram::lattice::end_at` meets its contract: what ends here is offered where the position is a boundary and the node has an
 -- id. Assumes nothing.
+use Rattle.std.specs.Prelude.{Some}
 use mathlib.Core.Path.{◌≡◌, refl, sym, ap, ◌∙◌}
 use mathlib.Core.Bool.{Bool, true, false, ◌||◌}
 use mathlib.Core.List.{List, map}
-use mathlib.Core.Option.{some}
 use borrow.Author.Tests.{eq-eqb, ne_eqb}
 use lib.Dec.{eqb}
 use lib.ListN.{get_or}
@@ -40,7 +40,7 @@ unfolding candidate
 returns-then-i-one c m ids scores =
     let piece : Model → Piece = λ m. record { id = c.in-Is.x; score = get_or m.score c.args.node plus_zero } in
     let on : (m : Model) → ends_here m c.args.text.now c.args.node c.args.i ≡ piece_at m c.args.node = λ m. ends_is m c.args.node c.args.text.now c.args.i (sym c.is_boundary.ensures ∙ c.if-not-is_boundary.false) in
-    let ends : (m : Model) → m.trie.id ≡ c.args.id.now → ends_here m c.args.text.now c.args.node c.args.i ≡ some (piece m) = λ m ids. on m ∙ piece_is m c.args.node (sym (c.id_at.ensures m.trie ids) ∙ ap id_in c.in-Is.is) in
+    let ends : (m : Model) → m.trie.id ≡ c.args.id.now → ends_here m c.args.text.now c.args.node c.args.i ≡ Some (piece m) = λ m ids. on m ∙ piece_is m c.args.node (sym (c.id_at.ensures m.trie ids) ∙ ap id_in c.in-Is.is) in
     let score-is : (m : Model) → m.score ≡ map units c.args.score.now → units c.added.result ≡ sum (units c.args.till) (piece m).score = λ m scores. c.added.ensures ∙ ap (sum (units c.args.till)) (sym (ap (λ (l : List Double). get_or l c.args.node plus_zero) scores ∙ map-inside units c.args.score.now c.args.node _ plus_zero c.requires.1)) in
     let gave : (m : Model) → (r : Bool) → let a = c.args in m.trie.id ≡ a.id.now → m.score ≡ map units a.score.now → r ≡ (a.single || eqb a.i a.one) → Ended m a.text.now a.node a.i a.one a.single a.at (units a.till) (slots_of c.args.start.now c.args.slot_id.now c.args.slot_score.now) (slots_of c.offer.new.start c.offer.new.slot_id c.offer.new.slot_score) r = λ m r ids scores seen. let a = c.args in let p = piece m in ended_some m a.text.now a.node a.i a.one a.single a.at (units a.till) (slots_of c.args.start.now c.args.slot_id.now c.args.slot_score.now) p _ r (ends m ids) (put_as c.offer.ensures (ap (taken (slot_at (slots_of c.args.start.now c.args.slot_id.now c.args.slot_score.now) a.i)) (same-slot _ (candidate (units a.till) a.at p) refl refl (score-is m scores)))) seen in
     gave m true ids scores (or-true c.args.single (eqb c.args.i c.args.one) (eq-eqb c.args.i c.args.one c.if-i-one.true))
@@ -50,7 +50,7 @@ unfolding candidate
 returns-else-i-one c m ids scores =
     let piece : Model → Piece = λ m. record { id = c.in-Is.x; score = get_or m.score c.args.node plus_zero } in
     let on : (m : Model) → ends_here m c.args.text.now c.args.node c.args.i ≡ piece_at m c.args.node = λ m. ends_is m c.args.node c.args.text.now c.args.i (sym c.is_boundary.ensures ∙ c.if-not-is_boundary.false) in
-    let ends : (m : Model) → m.trie.id ≡ c.args.id.now → ends_here m c.args.text.now c.args.node c.args.i ≡ some (piece m) = λ m ids. on m ∙ piece_is m c.args.node (sym (c.id_at.ensures m.trie ids) ∙ ap id_in c.in-Is.is) in
+    let ends : (m : Model) → m.trie.id ≡ c.args.id.now → ends_here m c.args.text.now c.args.node c.args.i ≡ Some (piece m) = λ m ids. on m ∙ piece_is m c.args.node (sym (c.id_at.ensures m.trie ids) ∙ ap id_in c.in-Is.is) in
     let score-is : (m : Model) → m.score ≡ map units c.args.score.now → units c.added.result ≡ sum (units c.args.till) (piece m).score = λ m scores. c.added.ensures ∙ ap (sum (units c.args.till)) (sym (ap (λ (l : List Double). get_or l c.args.node plus_zero) scores ∙ map-inside units c.args.score.now c.args.node _ plus_zero c.requires.1)) in
     let gave : (m : Model) → (r : Bool) → let a = c.args in m.trie.id ≡ a.id.now → m.score ≡ map units a.score.now → r ≡ (a.single || eqb a.i a.one) → Ended m a.text.now a.node a.i a.one a.single a.at (units a.till) (slots_of c.args.start.now c.args.slot_id.now c.args.slot_score.now) (slots_of c.offer.new.start c.offer.new.slot_id c.offer.new.slot_score) r = λ m r ids scores seen. let a = c.args in let p = piece m in ended_some m a.text.now a.node a.i a.one a.single a.at (units a.till) (slots_of c.args.start.now c.args.slot_id.now c.args.slot_score.now) p _ r (ends m ids) (put_as c.offer.ensures (ap (taken (slot_at (slots_of c.args.start.now c.args.slot_id.now c.args.slot_score.now) a.i)) (same-slot _ (candidate (units a.till) a.at p) refl refl (score-is m scores)))) seen in
     gave m c.args.single ids scores (or-false c.args.single (eqb c.args.i c.args.one) (ne_eqb c.args.i c.args.one c.if-i-one.false))

@@ -1,7 +1,7 @@
 -- `unigram::lattice::offer_known` meets its contract. The loop's invariant: the walk over the bytes from `at` up to i has come
 -- to the node, and each string that ends by i has been offered. What is left of the text falls. Assumes nothing.
+use Rattle.std.specs.Prelude.{Some}
 use mathlib.Core.Path.{◌≡◌, refl, sym, ap, ◌∙◌}
-use mathlib.Core.Option.{some}
 use Prim.Native.Nat.{ℕ, ◌+◌, ◌<◌}
 use native.Mathlib.Omega.{arith}
 use lib.Ieee.{Float}
@@ -34,7 +34,7 @@ returns-in-Stop c u x =
 pub end_at-single-requires : goal.end_at-single-requires
 end_at-single-requires c =
     let stepped : step (parts_of c.args.edge_at.now c.args.edge_n.now c.args.id.now c.args.byte.now c.args.to.now) c.loop-i.node (get_or c.args.text.now c.loop-i.i 0) ≡ next_of c.step_by.result = sym (c.step_by.ensures c.args.id.now) in
-    let led : step (parts_of c.args.edge_at.now c.args.edge_n.now c.args.id.now c.args.byte.now c.args.to.now) c.loop-i.node (get_or c.args.text.now c.loop-i.i 0) ≡ some c.in-To.next.node = stepped ∙ ap next_of c.in-To.is in
+    let led : step (parts_of c.args.edge_at.now c.args.edge_n.now c.args.id.now c.args.byte.now c.args.to.now) c.loop-i.node (get_or c.args.text.now c.loop-i.i 0) ≡ Some c.in-To.next.node = stepped ∙ ap next_of c.in-To.is in
     let led-inside : c.in-To.next.node < length c.args.edge_at.now = step-inside (parts_of c.args.edge_at.now c.args.edge_n.now c.args.id.now c.args.byte.now c.args.to.now) c.requires.0.parts c.loop-i.node (get_or c.args.text.now c.loop-i.i 0) c.loop-i.invariant.2 (led) in
     let l = led-inside in (
       omega (arith, (sound-of (parts_of c.args.edge_at.now c.args.edge_n.now c.args.id.now c.args.byte.now c.args.to.now) c.requires.0.parts).level-id),
@@ -47,9 +47,9 @@ pub loop-i-preserved : goal.loop-i-preserved
 loop-i-preserved c =
     let model : ℕ → Float → Model = λ u x. model_of c.args.edge_at.now c.args.edge_n.now c.args.id.now c.args.score.now c.args.byte.now c.args.to.now u x in
     let stepped : step (parts_of c.args.edge_at.now c.args.edge_n.now c.args.id.now c.args.byte.now c.args.to.now) c.loop-i.node (get_or c.args.text.now c.loop-i.i 0) ≡ next_of c.step_by.result = sym (c.step_by.ensures c.args.id.now) in
-    let led : step (parts_of c.args.edge_at.now c.args.edge_n.now c.args.id.now c.args.byte.now c.args.to.now) c.loop-i.node (get_or c.args.text.now c.loop-i.i 0) ≡ some c.in-To.next.node = stepped ∙ ap next_of c.in-To.is in
+    let led : step (parts_of c.args.edge_at.now c.args.edge_n.now c.args.id.now c.args.byte.now c.args.to.now) c.loop-i.node (get_or c.args.text.now c.loop-i.i 0) ≡ Some c.in-To.next.node = stepped ∙ ap next_of c.in-To.is in
     let led-inside : c.in-To.next.node < length c.args.edge_at.now = step-inside (parts_of c.args.edge_at.now c.args.edge_n.now c.args.id.now c.args.byte.now c.args.to.now) c.requires.0.parts c.loop-i.node (get_or c.args.text.now c.loop-i.i 0) c.loop-i.invariant.2 (led) in
-    let walked : walk (parts_of c.args.edge_at.now c.args.edge_n.now c.args.id.now c.args.byte.now c.args.to.now) 0 (part c.args.text.now c.args.at (c.loop-i.i + 1)) ≡ some c.in-To.next.node =
+    let walked : walk (parts_of c.args.edge_at.now c.args.edge_n.now c.args.id.now c.args.byte.now c.args.to.now) 0 (part c.args.text.now c.args.at (c.loop-i.i + 1)) ≡ Some c.in-To.next.node =
     walk-on (model 0 c.args.till) c.args.text.now c.args.at c.loop-i.i c.loop-i.node c.loop-i.invariant.0 (omega arith) c.loop-i.invariant.6 _ (led)
     in (
       omega (arith, c.loop-i.invariant.0),

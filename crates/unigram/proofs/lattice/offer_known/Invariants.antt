@@ -1,5 +1,5 @@
+use Rattle.std.specs.Prelude.{Some}
 use mathlib.Core.Path.{◌≡◌}
-use mathlib.Core.Option.{some}
 use Prim.Native.Nat.{ℕ, ◌-◌, ◌≤◌, ◌<◌}
 use lib.Ieee.{Float}
 use lib.ListN.{length}
@@ -18,7 +18,7 @@ invariant-loop-i l = (l.at ≤ l.i)
     × (length l.start ≡ length l.initial.start)
     × (length l.slot_id ≡ length l.initial.slot_id)
     × (length l.slot_score ≡ length l.initial.slot_score)
-    × (walk (parts_of l.edge_at l.edge_n l.id l.byte l.to) 0 (part l.text l.at l.i) ≡ some l.node)
+    × (walk (parts_of l.edge_at l.edge_n l.id l.byte l.to) 0 (part l.text l.at l.i) ≡ Some l.node)
     × ((u : ℕ) (x : Float)
     → Offered (model_of l.edge_at l.edge_n l.id l.score l.byte l.to u x) l.text l.at l.one (units l.till) (slots_of l.initial.start l.initial.slot_id l.initial.slot_score) l.i (slots_of l.start l.slot_id l.slot_score) l.single)
 

@@ -1,9 +1,9 @@
 -- `wordpiece::checked::count_rest` meets its contract. The loop's invariant: the pieces from i on are n and those from where
 -- the loop stands; and where none is missing, storing the ids of those that are left, from place n on, completes what is to be
 -- held. The measure is what is left of the word, since a piece is not empty. Assumes nothing.
+use Rattle.std.specs.Prelude.{Option, None, Some, option_map}
 use mathlib.Core.Path.{◌≡◌, refl, sym, ap, ◌∙◌}
 use mathlib.Core.List.{List, []}
-use mathlib.Core.Option.{Option, none, some, map}
 use Prim.Native.Nat.{ℕ, suc, ◌+◌}
 use native.Mathlib.Nat.{zero-add, add-zero}
 use native.Mathlib.Numerals.{add-one}
@@ -18,8 +18,8 @@ use Rattle.wordpiece.proofs.Rest.{Ends, longest-ends, rest_end, rest-miss, rest-
 use Rattle.wordpiece.proofs.checked.count_rest.Goals as goal
 
 more-none : (o : Option ℕ) → o ≡ more 0 o
-more-none none = refl
-more-none (some m) = ap (λ (k : ℕ). some k) (sym (zero-add m))
+more-none None = refl
+more-none (Some m) = ap (λ (k : ℕ). Some k) (sym (zero-add m))
 
 pub returns-in_default : goal.returns-in_default
 returns-in_default c =
@@ -33,14 +33,14 @@ returns-in_default c =
 pub loop-at-smaller : goal.loop-at-smaller
 loop-at-smaller c =
     let find : List ℕ → Option ℕ = id_from (parts_of c.args.edge_at.now c.args.edge_n.now c.args.id.now c.args.byte.now c.args.to.now) c.args.rest.node in
-    let piece : longest_to (find) [] c.args.w.now c.loop-at.at (length c.args.w.now) ≡ some (record { end = c.in-Is.piece.end; id = c.in-Is.piece.id }) = sym c.longest.ensures ∙ ap found_in c.in-Is.is in
+    let piece : longest_to (find) [] c.args.w.now c.loop-at.at (length c.args.w.now) ≡ Some (record { end = c.in-Is.piece.end; id = c.in-Is.piece.id }) = sym c.longest.ensures ∙ ap found_in c.in-Is.is in
     let ends : Ends c.args.w.now c.loop-at.at (length c.args.w.now) (record { end = c.in-Is.piece.end; id = c.in-Is.piece.id }) = longest-ends (find) [] c.args.w.now c.loop-at.at (length c.args.w.now) (piece) in
     omega (arith, (ends).above, (ends).below)
 
 pub loop-at-preserved : goal.loop-at-preserved
 loop-at-preserved c =
     let find : List ℕ → Option ℕ = id_from (parts_of c.args.edge_at.now c.args.edge_n.now c.args.id.now c.args.byte.now c.args.to.now) c.args.rest.node in
-    let piece : longest_to (find) [] c.args.w.now c.loop-at.at (length c.args.w.now) ≡ some (record { end = c.in-Is.piece.end; id = c.in-Is.piece.id }) = sym c.longest.ensures ∙ ap found_in c.in-Is.is in
+    let piece : longest_to (find) [] c.args.w.now c.loop-at.at (length c.args.w.now) ≡ Some (record { end = c.in-Is.piece.end; id = c.in-Is.piece.id }) = sym c.longest.ensures ∙ ap found_in c.in-Is.is in
     let ends : Ends c.args.w.now c.loop-at.at (length c.args.w.now) (record { end = c.in-Is.piece.end; id = c.in-Is.piece.id }) = longest-ends (find) [] c.args.w.now c.loop-at.at (length c.args.w.now) (piece) in
     let f : Found = record { end = c.in-Is.piece.end; id = c.in-Is.piece.id } in
     let on = rest-piece (find) c.args.w.now c.loop-at.at c.loop-at-test.true (piece) in
@@ -74,7 +74,7 @@ returns c =
           sym
           (c.loop-at.invariant.same
           ∙ ap (λ (o : Option (List ℕ)). more c.loop-at.n (map length o)) end
-          ∙ ap (λ (k : ℕ). some k) (add-zero c.loop-at.n));
+          ∙ ap (λ (k : ℕ). Some k) (add-zero c.loop-at.n));
       held =
           λ xs g.
           let r = c.loop-at.invariant.stored xs g in

@@ -1,6 +1,6 @@
+use Rattle.std.specs.Prelude.{Option, Some, option_map}
 use mathlib.Core.Path.{◌≡◌}
 use mathlib.Core.List.{List}
-use mathlib.Core.Option.{Option, some, map}
 use Prim.Native.Nat.{ℕ, ◌-◌, ◌≤◌}
 use lib.ListN.{length}
 use lib.Seq.{sets}
@@ -15,7 +15,7 @@ pub record Here (find : List ℕ → Option ℕ) (w : List ℕ) (i : ℕ) (place
   pub few : n ≤ at
   pub same : map length (rest_from find w i) ≡ more n (map length (rest_from find w at))
   pub level : length held ≡ length places
-  pub stored : (xs : List ℕ) → rest_from find w i ≡ some xs → (left : List ℕ) × (rest_from find w at ≡ some left) × (sets places 0 xs ≡ sets held n left)
+  pub stored : (xs : List ℕ) → rest_from find w i ≡ Some xs → (left : List ℕ) × (rest_from find w at ≡ Some left) × (sets places 0 xs ≡ sets held n left)
 
 abbrev pub invariant-loop-at : goal.invariant-loop-at
 invariant-loop-at l = Here (id_from (parts_of l.edge_at l.edge_n l.id l.byte l.to) l.rest.node) l.w l.i l.initial.held l.held l.at l.n

@@ -1,10 +1,10 @@
 -- `wordpiece::checked::encode_tested` meets its contract: what `judge` finds is refused, and a call without a fault is ready
 -- for the core. Assumes nothing.
+use Rattle.std.specs.Result.{result_err}
+use Rattle.std.specs.Prelude.{None}
 use mathlib.Core.Path.{◌≡◌, sym, ap, ◌∙◌}
 use mathlib.Core.Bool.{Bool}
-use mathlib.Core.Option.{none}
 use lib.ListN.{length}
-use Rattle.refusal.specs.Refusal.{fault_in}
 use Rattle.refusal.proofs.Codings.{coded-refused, coded-ids}
 use Rattle.trie.specs.Trie.{parts_of}
 use Rattle.trie.specs.Sound.{sound}
@@ -14,17 +14,17 @@ use Rattle.wordpiece.proofs.checked.encode_tested.Goals as goal
 
 pub encode-requires : goal.encode-requires
 encode-requires c =
-    let judged-fault : encode_fault (sound (parts_of c.args.edge_at.now c.args.edge_n.now c.args.id.now c.args.byte.now c.args.to.now)) c.args.prefix.now c.args.word.now (length c.args.ids.now) ≡ fault_in c.judge-judged.result = ap (λ (b : Bool). encode_fault b c.args.prefix.now c.args.word.now (length c.args.ids.now)) (sym c.requires) ∙ sym c.judge-judged.ensures in
-    let fine : encode_fault (sound (parts_of c.args.edge_at.now c.args.edge_n.now c.args.id.now c.args.byte.now c.args.to.now)) c.args.prefix.now c.args.word.now (length c.args.ids.now) ≡ none = judged-fault ∙ ap fault_in c.in-Fine.is in
+    let judged-fault : encode_fault (sound (parts_of c.args.edge_at.now c.args.edge_n.now c.args.id.now c.args.byte.now c.args.to.now)) c.args.prefix.now c.args.word.now (length c.args.ids.now) ≡ result_err c.judge-judged.result = ap (λ (b : Bool). encode_fault b c.args.prefix.now c.args.word.now (length c.args.ids.now)) (sym c.requires) ∙ sym c.judge-judged.ensures in
+    let fine : encode_fault (sound (parts_of c.args.edge_at.now c.args.edge_n.now c.args.id.now c.args.byte.now c.args.to.now)) c.args.prefix.now c.args.word.now (length c.args.ids.now) ≡ None = judged-fault ∙ ap result_err c.in-Fine.is in
     ready (parts_of c.args.edge_at.now c.args.edge_n.now c.args.id.now c.args.byte.now c.args.to.now) c.args.prefix.now c.args.word.now c.args.ids.now (fine)
 
 pub returns-in-Bad : goal.returns-in-Bad
 returns-in-Bad c =
-    let judged-fault : encode_fault (sound (parts_of c.args.edge_at.now c.args.edge_n.now c.args.id.now c.args.byte.now c.args.to.now)) c.args.prefix.now c.args.word.now (length c.args.ids.now) ≡ fault_in c.judge-judged.result = ap (λ (b : Bool). encode_fault b c.args.prefix.now c.args.word.now (length c.args.ids.now)) (sym c.requires) ∙ sym c.judge-judged.ensures in
-    coded-refused (judged-fault ∙ ap fault_in c.in-Bad.is)
+    let judged-fault : encode_fault (sound (parts_of c.args.edge_at.now c.args.edge_n.now c.args.id.now c.args.byte.now c.args.to.now)) c.args.prefix.now c.args.word.now (length c.args.ids.now) ≡ result_err c.judge-judged.result = ap (λ (b : Bool). encode_fault b c.args.prefix.now c.args.word.now (length c.args.ids.now)) (sym c.requires) ∙ sym c.judge-judged.ensures in
+    coded-refused (judged-fault ∙ ap result_err c.in-Bad.is)
 
 pub returns-in-Fine : goal.returns-in-Fine
 returns-in-Fine c =
-    let judged-fault : encode_fault (sound (parts_of c.args.edge_at.now c.args.edge_n.now c.args.id.now c.args.byte.now c.args.to.now)) c.args.prefix.now c.args.word.now (length c.args.ids.now) ≡ fault_in c.judge-judged.result = ap (λ (b : Bool). encode_fault b c.args.prefix.now c.args.word.now (length c.args.ids.now)) (sym c.requires) ∙ sym c.judge-judged.ensures in
-    let fine : encode_fault (sound (parts_of c.args.edge_at.now c.args.edge_n.now c.args.id.now c.args.byte.now c.args.to.now)) c.args.prefix.now c.args.word.now (length c.args.ids.now) ≡ none = judged-fault ∙ ap fault_in c.in-Fine.is in
+    let judged-fault : encode_fault (sound (parts_of c.args.edge_at.now c.args.edge_n.now c.args.id.now c.args.byte.now c.args.to.now)) c.args.prefix.now c.args.word.now (length c.args.ids.now) ≡ result_err c.judge-judged.result = ap (λ (b : Bool). encode_fault b c.args.prefix.now c.args.word.now (length c.args.ids.now)) (sym c.requires) ∙ sym c.judge-judged.ensures in
+    let fine : encode_fault (sound (parts_of c.args.edge_at.now c.args.edge_n.now c.args.id.now c.args.byte.now c.args.to.now)) c.args.prefix.now c.args.word.now (length c.args.ids.now) ≡ None = judged-fault ∙ ap result_err c.in-Fine.is in
     coded-ids (fine) c.encode.ensures.0 c.encode.ensures.1

@@ -1,6 +1,6 @@
+use Rattle.std.specs.Prelude.{Some}
 use mathlib.Core.Path.{◌≡◌}
 use mathlib.Core.List.{List, []}
-use mathlib.Core.Option.{some}
 use Prim.Native.Nat.{ℕ, ◌-◌, ◌≤◌, ◌<◌}
 use lib.ListN.{length}
 use Rattle.text.specs.Text.{part}
@@ -14,7 +14,7 @@ pub record Here (t : Trie) (k : ℕ) (w : List ℕ) (i node j end last : ℕ) : 
   pub above : i ≤ j
   pub below : j ≤ length w
   pub inside : node < length t.edge_at
-  pub walked : walk t k (part w i j) ≡ some node
+  pub walked : walk t k (part w i j) ≡ Some node
   pub longest : found_since i end last ≡ longest_to (id_from t k) [] w i j
 
 abbrev pub invariant-loop-j : goal.invariant-loop-j

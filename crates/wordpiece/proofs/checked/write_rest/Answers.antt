@@ -1,9 +1,9 @@
 -- `wordpiece::checked::write_rest` meets its contract. The loop's invariant: writing the ids of the pieces from where the loop
 -- stands, from place n on, completes what was to be written. There is no miss, since all pieces are there (`Fitting`). The
 -- measure is what is left of the word. Assumes nothing.
+use Rattle.std.specs.Prelude.{Option, Some}
 use mathlib.Core.Path.{◌≡◌, sym, ap, ◌∙◌}
 use mathlib.Core.List.{List, [], ◌∷◌}
-use mathlib.Core.Option.{Option, some}
 use Prim.Native.Nat.{ℕ, suc, ◌+◌, ◌<◌}
 use native.Mathlib.Numerals.{add-one}
 use native.Mathlib.Omega.{arith}
@@ -25,24 +25,24 @@ returns-in_default c =
 pub bounds-ids-n : goal.bounds-ids-n
 bounds-ids-n c =
     let find : List ℕ → Option ℕ = id_from (parts_of c.args.edge_at.now c.args.edge_n.now c.args.id.now c.args.byte.now c.args.to.now) c.args.rest.node in
-    let piece : longest_to (find) [] c.args.w.now c.loop-at.at (length c.args.w.now) ≡ some (record { end = c.in-Is.piece.end; id = c.in-Is.piece.id }) = sym c.longest.ensures ∙ ap found_in c.in-Is.is in
-    let turn : (zs : List ℕ) × (rest_from (find) c.args.w.now c.in-Is.piece.end ≡ some zs) × (c.loop-at.invariant.left ≡ c.in-Is.piece.id ∷ zs) = before-some c.in-Is.piece.id (rest_from (find) c.args.w.now c.in-Is.piece.end) (sym (rest-piece (find) c.args.w.now c.loop-at.at c.loop-at-test.true (piece)) ∙ c.loop-at.invariant.rest) in
+    let piece : longest_to (find) [] c.args.w.now c.loop-at.at (length c.args.w.now) ≡ Some (record { end = c.in-Is.piece.end; id = c.in-Is.piece.id }) = sym c.longest.ensures ∙ ap found_in c.in-Is.is in
+    let turn : (zs : List ℕ) × (rest_from (find) c.args.w.now c.in-Is.piece.end ≡ Some zs) × (c.loop-at.invariant.left ≡ c.in-Is.piece.id ∷ zs) = before-some c.in-Is.piece.id (rest_from (find) c.args.w.now c.in-Is.piece.end) (sym (rest-piece (find) c.args.w.now c.loop-at.at c.loop-at-test.true (piece)) ∙ c.loop-at.invariant.rest) in
     let place : c.loop-at.n < length c.loop-at.ids = omega (arith, c.loop-at.invariant.room, ap length (turn).2) in
     place
 
 pub loop-at-smaller : goal.loop-at-smaller
 loop-at-smaller c =
     let find : List ℕ → Option ℕ = id_from (parts_of c.args.edge_at.now c.args.edge_n.now c.args.id.now c.args.byte.now c.args.to.now) c.args.rest.node in
-    let piece : longest_to (find) [] c.args.w.now c.loop-at.at (length c.args.w.now) ≡ some (record { end = c.in-Is.piece.end; id = c.in-Is.piece.id }) = sym c.longest.ensures ∙ ap found_in c.in-Is.is in
+    let piece : longest_to (find) [] c.args.w.now c.loop-at.at (length c.args.w.now) ≡ Some (record { end = c.in-Is.piece.end; id = c.in-Is.piece.id }) = sym c.longest.ensures ∙ ap found_in c.in-Is.is in
     let ends : Ends c.args.w.now c.loop-at.at (length c.args.w.now) (record { end = c.in-Is.piece.end; id = c.in-Is.piece.id }) = longest-ends (find) [] c.args.w.now c.loop-at.at (length c.args.w.now) (piece) in
     omega (arith, (ends).above, (ends).below)
 
 pub loop-at-preserved : goal.loop-at-preserved
 loop-at-preserved c =
     let find : List ℕ → Option ℕ = id_from (parts_of c.args.edge_at.now c.args.edge_n.now c.args.id.now c.args.byte.now c.args.to.now) c.args.rest.node in
-    let piece : longest_to (find) [] c.args.w.now c.loop-at.at (length c.args.w.now) ≡ some (record { end = c.in-Is.piece.end; id = c.in-Is.piece.id }) = sym c.longest.ensures ∙ ap found_in c.in-Is.is in
+    let piece : longest_to (find) [] c.args.w.now c.loop-at.at (length c.args.w.now) ≡ Some (record { end = c.in-Is.piece.end; id = c.in-Is.piece.id }) = sym c.longest.ensures ∙ ap found_in c.in-Is.is in
     let ends : Ends c.args.w.now c.loop-at.at (length c.args.w.now) (record { end = c.in-Is.piece.end; id = c.in-Is.piece.id }) = longest-ends (find) [] c.args.w.now c.loop-at.at (length c.args.w.now) (piece) in
-    let turn : (zs : List ℕ) × (rest_from (find) c.args.w.now c.in-Is.piece.end ≡ some zs) × (c.loop-at.invariant.left ≡ c.in-Is.piece.id ∷ zs) = before-some c.in-Is.piece.id (rest_from (find) c.args.w.now c.in-Is.piece.end) (sym (rest-piece (find) c.args.w.now c.loop-at.at c.loop-at-test.true (piece)) ∙ c.loop-at.invariant.rest) in
+    let turn : (zs : List ℕ) × (rest_from (find) c.args.w.now c.in-Is.piece.end ≡ Some zs) × (c.loop-at.invariant.left ≡ c.in-Is.piece.id ∷ zs) = before-some c.in-Is.piece.id (rest_from (find) c.args.w.now c.in-Is.piece.end) (sym (rest-piece (find) c.args.w.now c.loop-at.at c.loop-at-test.true (piece)) ∙ c.loop-at.invariant.rest) in
     let n = c.loop-at.n in
     let t = turn in
     let one : n + 1 ≡ suc n = add-one n in

@@ -1,8 +1,8 @@
 -- `trie::checked::Walk::over` meets its contract. The loop's invariant: the walk over s is the walk over what is left of s from
 -- the node come to, and that is a node. What is left of s falls. Assumes nothing.
+use Rattle.std.specs.Prelude.{Some}
 use mathlib.Core.Path.{◌≡◌, sym, ap, ◌∙◌}
 use mathlib.Core.List.{List}
-use mathlib.Core.Option.{some}
 use Prim.Native.Nat.{ℕ}
 use native.Mathlib.Omega.{arith}
 use lib.ListN.{get_or}
@@ -23,7 +23,7 @@ pub loop-i-preserved : goal.loop-i-preserved
 loop-i-preserved c =
     let parts : List ℕ → Trie = λ ids. let a = c.args in parts_of a.edge_at.now a.edge_n.now ids a.byte.now a.to.now in
     let stepped : (ids : List ℕ) → step (parts ids) c.loop-i.node (get_or c.args.s.now c.loop-i.i 0) ≡ next_of c.step.result = λ ids. sym (c.step.ensures ids) in
-    let led : (ids : List ℕ) → step (parts ids) c.loop-i.node (get_or c.args.s.now c.loop-i.i 0) ≡ some c.in-To.next.node = λ ids. stepped ids ∙ ap next_of c.in-To.is in (
+    let led : (ids : List ℕ) → step (parts ids) c.loop-i.node (get_or c.args.s.now c.loop-i.i 0) ≡ Some c.in-To.next.node = λ ids. stepped ids ∙ ap next_of c.in-To.is in (
       omega arith,
       step-inside _ c.requires.parts c.loop-i.node (get_or c.args.s.now c.loop-i.i 0) c.loop-i.invariant.1 (led c.requires.ids),
       λ ids.
