@@ -1,4 +1,5 @@
 -- The promise of a look-up fixes its answer: it is an equation with a value of the inputs.
+use Rattle.refusal.specs.declared.Fault.{Fault}
 use Rattle.std.specs.Prelude.{Result, Option, ℕ}
 use mathlib.Core.Path.{◌≡◌, sym, ◌∙◌}
 use Prim.Native.Nat.{ℕ}

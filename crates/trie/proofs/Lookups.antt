@@ -15,7 +15,7 @@ use Rattle.refusal.proofs.Tests.{Not, refused-so, not_found, passed}
 use Rattle.text.specs.Text.{well_formed, text_fault}
 use Rattle.text.proofs.Spans.{fine-text, text-not}
 use Rattle.trie.specs.Trie.{Trie, id_of}
-use Rattle.trie.specs.Lookup.{lookup_fault, found, lookup_answer, LookedUp}
+use Rattle.trie.specs.Lookup.{lookup_fault, lookup_answer, LookedUp}
 
 -- ---- which fault
 
@@ -54,9 +54,9 @@ module _ {sound : Bool} {t : Trie} {s : List ℕ} where
   unfolding lookup_answer
   refused-for e = record { answered = sym (ap (λ (o : Option Fault). lookup_answer o (id_of t s)) e) }
 
-  pub found-for : {o : Option ℕ} → lookup_fault sound s ≡ None → id_of t s ≡ o → LookedUp sound t s (found o)
+  pub found-for : {o : Option ℕ} → lookup_fault sound s ≡ None → id_of t s ≡ o → LookedUp sound t s (Ok o)
   unfolding lookup_answer
-  found-for {o} e i = record { answered = sym (ap (λ (f : Option Fault). lookup_answer f (id_of t s)) e ∙ ap found i) }
+  found-for {o} e i = record { answered = sym (ap (λ (f : Option Fault). lookup_answer f (id_of t s)) e ∙ ap Ok i) }
 
   -- with what the test of soundness answered
   pub refused-unsound : length s ≤ max_text → sound ≡ false → LookedUp sound t s (Err fault.Trie)
@@ -69,19 +69,18 @@ module _ {sound : Bool} {t : Trie} {s : List ℕ} where
 
 -- the faults and ids behind an answer
 refused-only : (f : Option Fault) (o : Option ℕ) {g : Fault} → lookup_answer f o ≡ Err g → f ≡ Some g
-unfolding lookup_answer found
-refused-only None None e = cc
-refused-only None (Some i) e = cc
+unfolding lookup_answer
+refused-only None o e = cc
 refused-only (Some f) o e = cc
 
-found-only : (f : Option Fault) (o : Option ℕ) {i : ℕ} → lookup_answer f o ≡ FOUND i → (f ≡ None) × (o ≡ Some i)
-unfolding lookup_answer found
+found-only : (f : Option Fault) (o : Option ℕ) {i : ℕ} → lookup_answer f o ≡ Ok (Some i) → (f ≡ None) × (o ≡ Some i)
+unfolding lookup_answer
 found-only None None e = (refl, cc)
 found-only None (Some j) e = (refl, cc)
 found-only (Some f) o e = (cc, cc)
 
 absent-only : (f : Option Fault) (o : Option ℕ) → lookup_answer f o ≡ Ok None → (f ≡ None) × (o ≡ None)
-unfolding lookup_answer found
+unfolding lookup_answer
 absent-only None None e = (refl, refl)
 absent-only None (Some j) e = (refl, cc)
 absent-only (Some f) o e = (cc, cc)
@@ -96,17 +95,17 @@ module _ {sound : Bool} {t : Trie} {s : List ℕ} {answer : Result (Option ℕ) 
   fault-refused f e = p.answered ∙ ap (λ (o : Option Fault). lookup_answer o (id_of t s)) e
 
   -- an id exactly where there is no fault and the string has it
-  pub found-id : (i : ℕ) → answer ≡ FOUND i → (lookup_fault sound s ≡ None) × (id_of t s ≡ Some i)
+  pub found-id : (i : ℕ) → answer ≡ Ok (Some i) → (lookup_fault sound s ≡ None) × (id_of t s ≡ Some i)
   found-id i e = found-only (lookup_fault sound s) (id_of t s) (sym p.answered ∙ e)
 
-  pub id-found : (i : ℕ) → lookup_fault sound s ≡ None → id_of t s ≡ Some i → answer ≡ FOUND i
-  unfolding lookup_answer found
-  id-found i e o = p.answered ∙ ap (λ (f : Option Fault). lookup_answer f (id_of t s)) e ∙ ap found o
+  pub id-found : (i : ℕ) → lookup_fault sound s ≡ None → id_of t s ≡ Some i → answer ≡ Ok (Some i)
+  unfolding lookup_answer
+  id-found i e o = p.answered ∙ ap (λ (f : Option Fault). lookup_answer f (id_of t s)) e ∙ ap Ok o
 
   -- none exactly where there is no fault and the string has none
   pub absent-id : answer ≡ Ok None → (lookup_fault sound s ≡ None) × (id_of t s ≡ None)
   absent-id e = absent-only (lookup_fault sound s) (id_of t s) (sym p.answered ∙ e)
 
   pub id-absent : lookup_fault sound s ≡ None → id_of t s ≡ None → answer ≡ Ok None
-  unfolding lookup_answer found
-  id-absent e o = p.answered ∙ ap (λ (f : Option Fault). lookup_answer f (id_of t s)) e ∙ ap found o
+  unfolding lookup_answer
+  id-absent e o = p.answered ∙ ap (λ (f : Option Fault). lookup_answer f (id_of t s)) e ∙ ap Ok o

@@ -27,7 +27,7 @@ module _ (t : Trie) where
 
   -- in front
   pub walk-cons : (k b : ℕ) (s : List ℕ) → walk t k (b ∷ s) ≡ option_and_then (λ j. walk t j s) (step t k b)
-  unfolding walk option_and_then
+  unfolding walk
   walk-cons k b s = go (step t k b)
     where
       go : (o : Option ℕ) → elim o [ None ↦ None | Some j ↦ walk t j s ] ≡ option_and_then (λ j. walk t j s) o
@@ -35,16 +35,14 @@ module _ (t : Trie) where
       go (Some j) = refl
 
   pub walk-stop : (k b : ℕ) (s : List ℕ) → step t k b ≡ None → walk t k (b ∷ s) ≡ None
-  unfolding option_and_then
   walk-stop k b s e = walk-cons k b s ∙ ap (λ (o : Option ℕ). option_and_then (λ j. walk t j s) o) e
 
   pub walk-to : (k b : ℕ) (s : List ℕ) {j : ℕ} → step t k b ≡ Some j → walk t k (b ∷ s) ≡ walk t j s
-  unfolding option_and_then
   walk-to k b s e = walk-cons k b s ∙ ap (λ (o : Option ℕ). option_and_then (λ j. walk t j s) o) e
 
   -- a walk over s and then over u
   pub walk-append : (k : ℕ) (s u : List ℕ) → walk t k (s ++ u) ≡ option_and_then (λ j. walk t j u) (walk t k s)
-  unfolding walk option_and_then
+  unfolding walk
   walk-append k [] u = refl
   walk-append k (b ∷ s) u = go (step t k b) (λ j. walk-append j s u)
     where
@@ -55,7 +53,6 @@ module _ (t : Trie) where
       go (Some j) all = all j
 
   pub walk-append-none : (k : ℕ) (s u : List ℕ) → walk t k s ≡ None → walk t k (s ++ u) ≡ None
-  unfolding option_and_then
   walk-append-none k s u e = walk-append k s u ∙ ap (λ (o : Option ℕ). option_and_then (λ j. walk t j u) o) e
 
   -- one byte alone, and one at the end
@@ -68,7 +65,6 @@ module _ (t : Trie) where
       go (Some j) = refl
 
   pub walk-snoc : (k : ℕ) (s : List ℕ) (b : ℕ) → walk t k (s ++ (b ∷ [])) ≡ option_and_then (λ j. step t j b) (walk t k s)
-  unfolding option_and_then
   walk-snoc k s b = walk-append k s (b ∷ []) ∙ go (walk t k s)
     where
       go : (o : Option ℕ) → option_and_then (λ j. walk t j (b ∷ [])) o ≡ option_and_then (λ j. step t j b) o
@@ -107,7 +103,7 @@ module _ (t : Trie) (k : ℕ) where
       (ap Some (get_or-inside t.id k no_id 0 l))
 
   pub from-walk : (s : List ℕ) → id_from t k s ≡ option_and_then (id_at t) (walk t k s)
-  unfolding id_from option_and_then
+  unfolding id_from
   from-walk s = go (walk t k s)
     where
       go : (o : Option ℕ) → elim o [ None ↦ None | Some j ↦ id_at t j ] ≡ option_and_then (id_at t) o
@@ -115,16 +111,13 @@ module _ (t : Trie) (k : ℕ) where
       go (Some j) = refl
 
   pub from-none : (s : List ℕ) → walk t k s ≡ None → id_from t k s ≡ None
-  unfolding option_and_then
   from-none s e = from-walk s ∙ ap (λ (o : Option ℕ). option_and_then (id_at t) o) e
 
   pub from_some : (s : List ℕ) {j : ℕ} → walk t k s ≡ Some j → id_from t k s ≡ id_at t j
-  unfolding option_and_then
   from_some s e = from-walk s ∙ ap (λ (o : Option ℕ). option_and_then (id_at t) o) e
 
 -- the id of what a walk over s leads on to
 pub from-append : (t : Trie) (k : ℕ) (s u : List ℕ) → id_from t k (s ++ u) ≡ option_and_then (λ j. id_from t j u) (walk t k s)
-unfolding option_and_then
 from-append t k s u =
     from-walk t k (s ++ u) ∙ ap (λ (o : Option ℕ). option_and_then (id_at t) o) (walk-append t k s u) ∙ go (walk t k s)
   where

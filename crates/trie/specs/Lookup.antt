@@ -14,12 +14,8 @@ lookup_fault sound_parts s =
     (refuse (not sound_parts) fault.Trie (text_fault s))
 
 -- the id, none, or the number
-unfoldable pub found : Option ℕ → Result (Option ℕ) Fault
-found None = Ok None
-found (Some i) = FOUND i
-
 unfoldable pub lookup_answer : Option Fault → Option ℕ → Result (Option ℕ) Fault
-lookup_answer None id = found id
+lookup_answer None id = Ok id
 lookup_answer (Some f) id = Err f
 
 -- what a look-up of s in the parts t promises of its answer

@@ -1,4 +1,5 @@
 -- What steps and walks in sound parts rest on, and their answers as options. Definitions only; assumes nothing.
+use Rattle.trie.specs.declared.checked.Walk.{Walk}
 use Rattle.std.specs.Prelude.{◌≡◌, ℕ, ◌<◌, true, cond, List, eqb, length, get_or, Option, None, Some}
 use Rattle.refusal.specs.Sizes.{no_id}
 use Rattle.trie.specs.Trie.{parts_of, seek}
@@ -14,11 +15,6 @@ pub record Stands (edge_at edge_n byte to : List ℕ) (node : ℕ) : Type 0 wher
 abbrev pub next_of : Option Walk → Option ℕ
 next_of (Some walk) = Some walk.node
 next_of None = None
-
--- the id that a node has
-abbrev pub id_in : Option ℕ → Option ℕ
-id_in (Some i) = Some i
-id_in None = None
 
 -- a place of a table: a node, or the mark for none
 abbrev pub marked : ℕ → Option ℕ

@@ -4,7 +4,7 @@ ghost use Rattle.std.specs.Prelude.{◌≡◌, true, cond, List, ℕ, ◌+◌, �
 ghost use Rattle.refusal.specs.Sizes.{no_id};
 ghost use Rattle.trie.specs.Trie.{Trie, parts_of, seek, step, walk, id_at, id_of, parts, parts_now};
 ghost use Rattle.trie.specs.Sound.{rises, sound};
-ghost use Rattle.trie.specs.Walks.{Stands, next_of, id_in, marked, Leads};
+ghost use Rattle.trie.specs.Walks.{Stands, next_of, marked, Leads};
 ghost use Rattle.refusal.specs.Lent.{was};
 
 use refusal::NO_ID;
@@ -105,7 +105,14 @@ impl Walk {
     }
 
     // Where the byte b leads from here, in parts with any ids.
-    pub fn step(self, edge_at: &[u32], edge_n: &[u16], byte: &[u8], to: &[u32], b: u8) -> Option<Walk>
+    pub fn step(
+        self,
+        edge_at: &[u32],
+        edge_n: &[u16],
+        byte: &[u8],
+        to: &[u32],
+        b: u8,
+    ) -> Option<Walk>
         requires { Stands edge_at.now edge_n.now byte.now to.now self.node }
         ensures { (ids : List ℕ) → next_of result ≡ step (parts_of (was edge_at) (was edge_n) ids (was byte) (was to))
             self.node b }
@@ -138,7 +145,14 @@ impl Walk {
     }
 
     // Where the bytes of s lead from here.
-    pub fn over(self, edge_at: &[u32], edge_n: &[u16], byte: &[u8], to: &[u32], s: &[u8]) -> Option<Walk>
+    pub fn over(
+        self,
+        edge_at: &[u32],
+        edge_n: &[u16],
+        byte: &[u8],
+        to: &[u32],
+        s: &[u8],
+    ) -> Option<Walk>
         requires { Stands edge_at.now edge_n.now byte.now to.now self.node }
         ensures { (ids : List ℕ) → next_of result ≡ walk (parts_of (was edge_at) (was edge_n) ids (was byte) (was to))
             self.node (was s) }
@@ -157,7 +171,7 @@ impl Walk {
 // The id of the node of a position, in parts with any edges.
 pub fn id_at(id: &[u32], at: Walk) -> Option<u32>
     requires { at.node < length id.now }
-    ensures { (t : Trie) → t.id ≡ was id → id_in result ≡ id_at t at.node }
+    ensures { (t : Trie) → t.id ≡ was id → result ≡ id_at t at.node }
 {
     let node = at.node as usize;
     let i = id[node];
@@ -177,7 +191,7 @@ pub fn exact(
     s: &[u8],
 ) -> Option<u32>
     requires { sound (parts_now edge_at edge_n id byte to) ≡ true }
-    ensures { id_in result ≡ id_of (parts edge_at edge_n id byte to) (was s) }
+    ensures { result ≡ id_of (parts edge_at edge_n id byte to) (was s) }
 {
     let end = Walk::root().over(edge_at, edge_n, byte, to, s)?;
     id_at(id, end)

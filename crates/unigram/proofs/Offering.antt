@@ -139,7 +139,6 @@ module _ (m : Model) (s : List ℕ) (at : ℕ) where
 
   module _ (i k : ℕ) (l : at ≤ i) (h : i < length s) (w : walk m.trie 0 (part s at i) ≡ Some k) where
     stepped : walk m.trie 0 (part s at (i + 1)) ≡ step m.trie k (get_or s i 0)
-    unfolding option_and_then
     stepped =
         ap (walk m.trie 0) (part-more i l h)
         ∙ walk-snoc m.trie 0 (part s at i) (get_or s i 0)

@@ -137,7 +137,6 @@ module _ (t : Trie) (k : ℕ) (w : List ℕ) (i : ℕ) where
   -- one step more
   pub longest-step :
       (j : ℕ) {n m : ℕ} → i ≤ j → j < length w → walk t k (part w i j) ≡ Some n → step t n (get_or w j 0) ≡ Some m → (walk t k (part w i (suc j)) ≡ Some m) × (best (suc j) ≡ first (end_at (boundary w (suc j)) (suc j) (id_at t m)) (best j))
-  unfolding option_and_then
   longest-step j {n} {m} h b e s =
       let on : walk t k (part w i (suc j)) ≡ Some m =
       ap (walk t k) (part-more w i j h b) ∙ walk-snoc t k (part w i j) (get_or w j 0) ∙ rw e s in
@@ -146,7 +145,6 @@ module _ (t : Trie) (k : ℕ) (w : List ℕ) (i : ℕ) where
   -- no step: nothing beyond is a piece
   pub longest-stops :
       (j : ℕ) {n : ℕ} → i ≤ j → j < length w → walk t k (part w i j) ≡ Some n → step t n (get_or w j 0) ≡ None → best (length w) ≡ best j
-  unfolding option_and_then
   longest-stops j {n} h b e s =
       longest-until (id_from t k) [] w i j (length w) (omega arith)
       (λ m q l. piece-absent (id_from t k) [] w i m (from-none t k (part w i m) (none-at m q)))

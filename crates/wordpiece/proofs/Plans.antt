@@ -65,7 +65,6 @@ module _ (t : Trie) (unknown : ℕ) (prefix w : List ℕ) (well : well_formed w 
 
   -- the prefix leads nowhere
   pub absent : walk t 0 prefix ≡ None → One (id_of t) unknown prefix w unknown
-  unfolding option_and_then
   absent e =
       missed (id_of t) unknown prefix w well some_byte
       (pieces-absent (id_of t) prefix w some_byte (after-prefix t prefix w e) longest below)

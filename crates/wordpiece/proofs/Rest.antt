@@ -119,7 +119,6 @@ module _ (t : Trie) (prefix w : List ℕ) where
 
   -- so the rest goes on from there
   pub pieces-with : {f : Found} {k : ℕ} → 0 < length w → longest_to (id_of t) [] w 0 (length w) ≡ Some f → walk t 0 prefix ≡ Some k → pieces_of (id_of t) prefix w ≡ before f.id (rest_from (id_from t k) w f.end)
-  unfolding option_and_then
   pieces-with {f} {k} h e g =
       let s = longest-ends (id_of t) [] w 0 (length w) e in
       pieces-first (id_of t) prefix w h e

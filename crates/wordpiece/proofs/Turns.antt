@@ -35,7 +35,7 @@ turn-same false (Some f) on other h = ap (before f.id) (h f refl)
 
 module _ (find : List ℕ → Option ℕ) (prefix w : List ℕ) (n : ℕ) (at : List ℕ) (i : ℕ) where
   pub pieces-turn : pieces_from find prefix w (suc n) at i ≡ turn (eqb i (length w)) (longest_to find at w i (length w)) (pieces_from find prefix w n prefix)
-  unfolding pieces_from option_and_then
+  unfolding pieces_from
   pieces-turn = go (eqb i (length w)) (longest_to find at w i (length w))
     where
       go :

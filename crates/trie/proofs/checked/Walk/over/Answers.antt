@@ -11,19 +11,19 @@ use Rattle.trie.specs.Walks.{next_of}
 use Rattle.trie.proofs.Walking.{turn-stop, turn-to, turn_end, step-inside}
 use Rattle.trie.proofs.checked.Walk.over.Goals as goal
 
-pub returns-in-Stop : goal.returns-in-Stop
-returns-in-Stop c ids =
+pub returns-in_err-node : goal.returns-in_err-node
+returns-in_err-node c ids = rw c.from_residual.ensures (
     let parts : List ℕ → Trie = λ ids. let a = c.args in parts_of a.edge_at.now a.edge_n.now ids a.byte.now a.to.now in
     let stepped : (ids : List ℕ) → step (parts ids) c.loop-i.node (get_or c.args.s.now c.loop-i.i 0) ≡ next_of c.step.result = λ ids. sym (c.step.ensures ids) in
     sym
     (c.loop-i.invariant.2 ids
-    ∙ turn-stop (parts ids) c.args.s.now c.loop-i.i c.loop-i.node (omega arith) (stepped ids ∙ ap next_of c.in-Stop.is))
+    ∙ turn-stop (parts ids) c.args.s.now c.loop-i.i c.loop-i.node (omega arith) (stepped ids ∙ ap next_of c.in_err-node.was)))
 
 pub loop-i-preserved : goal.loop-i-preserved
 loop-i-preserved c =
     let parts : List ℕ → Trie = λ ids. let a = c.args in parts_of a.edge_at.now a.edge_n.now ids a.byte.now a.to.now in
     let stepped : (ids : List ℕ) → step (parts ids) c.loop-i.node (get_or c.args.s.now c.loop-i.i 0) ≡ next_of c.step.result = λ ids. sym (c.step.ensures ids) in
-    let led : (ids : List ℕ) → step (parts ids) c.loop-i.node (get_or c.args.s.now c.loop-i.i 0) ≡ Some c.in-To.next.node = λ ids. stepped ids ∙ ap next_of c.in-To.is in (
+    let led : (ids : List ℕ) → step (parts ids) c.loop-i.node (get_or c.args.s.now c.loop-i.i 0) ≡ Some c.in_ok-node.field-0.node = λ ids. stepped ids ∙ ap next_of c.in_ok-node.was in (
       omega arith,
       step-inside _ c.requires.parts c.loop-i.node (get_or c.args.s.now c.loop-i.i 0) c.loop-i.invariant.1 (led c.requires.ids),
       λ ids.
