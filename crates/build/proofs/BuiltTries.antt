@@ -1,7 +1,7 @@
 -- What a build leaves, for a reader: the lent columns, cut to the counts, are the trie of the rows, since N nodes have N places
 -- of each node column and N - 1 edges, and the rest of each column is behind them. That trie is sound, and for Unigram its
 -- scores and its unknown score are finite. Assumes nothing.
-use Rattle.std.specs.Prelude.{Option, None, Some}
+use Rattle.std.specs.Prelude.{Option, None, Some, Result, Ok}
 use mathlib.Core.Path.{◌≡◌, refl, sym, ap, ◌∙◌, subst}
 use mathlib.Core.Bool.{Bool, true, false}
 use mathlib.Core.List.{List, []}
@@ -31,7 +31,7 @@ use Rattle.build.specs.Parts.{trie_of}
 use Rattle.build.specs.Rules.{tokens_of, first_row, last_id, score_of, scores_of, node_score_of, unigram_trie, unigram_scores, wordpiece_trie}
 use Rattle.build.specs.Memory.{Memory, holding}
 use Rattle.build.specs.Checked.{nodes_of}
-use Rattle.build.specs.Promise.{trie_in, scores_in, Told, built, Promised}
+use Rattle.build.specs.Promise.{trie_in, scores_in, Promised}
 use Rattle.build.proofs.Laid.{get_or-map-of}
 use Rattle.build.proofs.Sounds.{sound-built, length-edge_at, length-edge_n, length-id, length-byte, length_to}
 use Rattle.build.proofs.Lookups.{no_row, tokens-bytes}
@@ -125,8 +125,8 @@ module _ (tab : List ℕ) (rows : List Row) (fine : first_bad Unigram tab 0 rows
 
 -- ---- after a build
 
-module _ {A : Type 0} {kind : Kind} {tab : List ℕ} {rows : List Row} {judged : Option Reason} {short : Bool} {summary : A} {m : Memory} {answer : Told A} {after : Memory}
-    (p : Promised kind tab rows judged short summary m answer after) {s : A} (e : answer ≡ built s) {n : ℕ} (count : n ≡ nodes_of tab rows) where
+module _ {A : Type 0} {kind : Kind} {tab : List ℕ} {rows : List Row} {judged : Option Reason} {short : Bool} {summary : A} {m : Memory} {answer : Result A Reason} {after : Memory}
+    (p : Promised kind tab rows judged short summary m answer after) {s : A} (e : answer ≡ Ok s) {n : ℕ} (count : n ≡ nodes_of tab rows) where
   -- the lent columns, cut to the counts, are the trie of the rows
   pub built-parts : Bytes tab → parts_in n after ≡ trie_in kind tab rows
   built-parts bytes =

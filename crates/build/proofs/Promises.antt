@@ -1,7 +1,7 @@
 -- What every build promises, in each case. What was found before the room comes first, and its number is never 7, so nothing is
 -- written; then the room decides; and what the core says of its rows is said of the memory, the score column beside it. Then
 -- what the promise says: which fault exactly when, and one outcome. Assumes nothing.
-use Rattle.std.specs.Prelude.{Option, None, Some, ℕ}
+use Rattle.std.specs.Prelude.{Option, None, Some, ℕ, Result, Ok, Err}
 use mathlib.Core.Path.{◌≡◌, refl, sym, ap, ◌∙◌}
 use mathlib.Core.Bool.{Bool, true, false, cond}
 use mathlib.Core.List.{List, []}
@@ -20,7 +20,7 @@ use Rattle.rows.specs.declared.Kind.{Kind}
 use Rattle.rows.specs.Rows.{Row}
 use Rattle.build.specs.Memory.{Memory, with_scores, cleared, holding, zero_scores, leaves}
 use Rattle.build.specs.Checked.{nodes_of, BuiltOf}
-use Rattle.build.specs.Promise.{trie_in, scores_in, build_fault, Told, built, refused, told_for, Promised}
+use Rattle.build.specs.Promise.{trie_in, scores_in, build_fault, told_for, Promised}
 use Rattle.build.proofs.Outcomes.{core-full, core-fits}
 
 -- ---- which fault
@@ -70,7 +70,7 @@ module _ {A : Type 0} (kind : Kind) (tab : List ℕ) (rows : List Row) (summary 
 
   -- what is told and left where the fault is known
   case-of :
-      (judged : Option Reason) (short : Bool) {o : Option Reason} {answer : Told A} {after : Memory} → build_fault judged short ≡ o
+      (judged : Option Reason) (short : Bool) {o : Option Reason} {answer : Result A Reason} {after : Memory} → build_fault judged short ≡ o
       → answer ≡ told_for o summary → after ≡ leaves o held (cleared m) m → Promised kind tab rows judged short summary m answer after
   case-of judged short f t l =
       record {
@@ -80,19 +80,19 @@ module _ {A : Type 0} (kind : Kind) (tab : List ℕ) (rows : List Row) (summary 
 
   pub built-bad :
       {judged : Option Reason} {short : Bool} {r : Reason} → judged ≡ Some r → eqb (number_of r) 7 ≡ false
-      → Promised kind tab rows judged short summary m (refused r) m
+      → Promised kind tab rows judged short summary m (Err r) m
   unfolding told_for leaves
   built-bad {judged = judged} {short = short} e n =
       case-of judged short (fault-found judged short e) refl (sym (ap (λ (b : Bool). cond b (cleared m) m) n))
 
   pub built-short :
       {judged : Option Reason} {short : Bool} {after : Memory} → judged ≡ None → short ≡ true → after ≡ cleared m
-      → Promised kind tab rows judged short summary m (refused (reason.Call fault.Room)) after
+      → Promised kind tab rows judged short summary m (Err (reason.Call fault.Room)) after
   unfolding told_for leaves refuse
   built-short {judged = judged} {short = short} e s a = case-of judged short (fault-left judged short e s) refl a
 
   pub built-held :
-      {judged : Option Reason} {short : Bool} {answer : Told A} {after : Memory} → judged ≡ None → short ≡ false → answer ≡ built summary
+      {judged : Option Reason} {short : Bool} {answer : Result A Reason} {after : Memory} → judged ≡ None → short ≡ false → answer ≡ Ok summary
       → after ≡ holding (trie_in kind tab rows) (scores_in kind tab rows) m → Promised kind tab rows judged short summary m answer after
   unfolding told_for leaves refuse
   built-held {judged = judged} {short = short} e s t a = case-of judged short (fault-left judged short e s) t a
@@ -110,14 +110,14 @@ module _ {A : Type 0} (kind : Kind) (tab : List ℕ) (rows : List Row) (summary 
   left_is : {b : Bool} → ltb room (nodes_of tab rows) ≡ b → after ≡ cond b (cleared m) (holding (trie_in kind tab rows) [] m)
   left_is e = d.left ∙ ap (λ (b : Bool). cond b (cleared m) (holding (trie_in kind tab rows) [] m)) e
 
-  pub core-short : answer ≡ None → ys ≡ zero_scores xs → Promised kind tab rows judged short summary (with_scores m xs) (refused (reason.Call fault.Room)) (with_scores after ys)
+  pub core-short : answer ≡ None → ys ≡ zero_scores xs → Promised kind tab rows judged short summary (with_scores m xs) (Err (reason.Call fault.Room)) (with_scores after ys)
   core-short e s =
       let full = core-full d e in built-short kind tab rows summary (with_scores m xs) fine (decides ∙ full) (cleared-with m xs (left_is full) s)
 
   pub core-left : {n : ℕ} → answer ≡ Some n → after ≡ holding (trie_in kind tab rows) [] m
   core-left e = left_is (core-fits d e).0
 
-  pub core-held : {n : ℕ} {told : Told A} → answer ≡ Some n → told ≡ built summary → ys ≡ filled plus_zero (scores_in kind tab rows) xs → Promised kind tab rows judged short summary (with_scores m xs) told (with_scores after ys)
+  pub core-held : {n : ℕ} {told : Result A Reason} → answer ≡ Some n → told ≡ Ok summary → ys ≡ filled plus_zero (scores_in kind tab rows) xs → Promised kind tab rows judged short summary (with_scores m xs) told (with_scores after ys)
   unfolding holding
   core-held e t s =
       built-held kind tab rows summary (with_scores m xs) fine (decides ∙ (core-fits d e).0) t
@@ -127,7 +127,7 @@ module _ {A : Type 0} (kind : Kind) (tab : List ℕ) (rows : List Row) (summary 
 
 -- a refusal looks at no rows: it is that of any other build that is refused so
 pub refused-moved :
-    {A : Type 0} {kind : Kind} {tab : List ℕ} {rows : List Row} {judged : Option Reason} {short : Bool} {summary : A} {m : Memory} {answer : Told A} {after : Memory}
+    {A : Type 0} {kind : Kind} {tab : List ℕ} {rows : List Row} {judged : Option Reason} {short : Bool} {summary : A} {m : Memory} {answer : Result A Reason} {after : Memory}
     (rows' : List Row) (judged' : Option Reason) (short' : Bool) (summary' : A) {r : Reason} → build_fault judged short ≡ Some r → build_fault judged' short' ≡ Some r
     → Promised kind tab rows judged short summary m answer after → Promised kind tab rows' judged' short' summary' m answer after
 unfolding told_for leaves
@@ -141,31 +141,31 @@ refused-moved {kind = kind} {tab = tab} {rows = rows} {summary = summary} {m = m
 
 module _ {A : Type 0} {kind : Kind} {tab : List ℕ} {rows : List Row} {judged : Option Reason} {short : Bool} {summary : A} {m : Memory} where
   -- one outcome
-  pub promised-once : {a b : Told A} {m₁ m₂ : Memory} → Promised kind tab rows judged short summary m a m₁ → Promised kind tab rows judged short summary m b m₂ → (a ≡ b) × (m₁ ≡ m₂)
+  pub promised-once : {a b : Result A Reason} {m₁ m₂ : Memory} → Promised kind tab rows judged short summary m a m₁ → Promised kind tab rows judged short summary m b m₂ → (a ≡ b) × (m₁ ≡ m₂)
   promised-once p q = (p.answered ∙ sym q.answered, p.left ∙ sym q.left)
 
-  module _ {answer : Told A} {after : Memory} (p : Promised kind tab rows judged short summary m answer after) where
-    says-refused : {r : Reason} (o : Option Reason) → told_for o summary ≡ refused r → o ≡ Some r
+  module _ {answer : Result A Reason} {after : Memory} (p : Promised kind tab rows judged short summary m answer after) where
+    says-refused : {r : Reason} (o : Option Reason) → told_for o summary ≡ Err r → o ≡ Some r
     unfolding told_for
     says-refused None e = absurd (zero_one cc)
     says-refused {r = r} (Some q) e = let same : q ≡ r = cc in ap Some same
 
-    says-built : {s : A} (o : Option Reason) → told_for o summary ≡ built s → (o ≡ None) × (s ≡ summary)
+    says-built : {s : A} (o : Option Reason) → told_for o summary ≡ Ok s → (o ≡ None) × (s ≡ summary)
     unfolding told_for
     says-built None e = (refl, cc)
     says-built (Some q) e = absurd (zero_one cc)
 
     -- refused with r exactly when r is the fault, and accepted exactly when there is none
-    pub refused-exactly : (r : Reason) → (answer ≡ refused r) ↔ (build_fault judged short ≡ Some r)
+    pub refused-exactly : (r : Reason) → (answer ≡ Err r) ↔ (build_fault judged short ≡ Some r)
     unfolding told_for
     refused-exactly r = (λ q. says-refused (build_fault judged short) (sym p.answered ∙ q), λ e. p.answered ∙ ap (λ (o : Option Reason). told_for o summary) e)
 
-    pub accepted-exactly : (answer ≡ built summary) ↔ (build_fault judged short ≡ None)
+    pub accepted-exactly : (answer ≡ Ok summary) ↔ (build_fault judged short ≡ None)
     unfolding told_for
     accepted-exactly = (λ q. (says-built (build_fault judged short) (sym p.answered ∙ q)).0, λ e. p.answered ∙ ap (λ (o : Option Reason). told_for o summary) e)
 
     -- of what was built: nothing was found before the room, no column is too short, and what is told is what was to be
-    module _ {s : A} (e : answer ≡ built s) where
+    module _ {s : A} (e : answer ≡ Ok s) where
       no-fault : (build_fault judged short ≡ None) × (s ≡ summary)
       no-fault = says-built (build_fault judged short) (sym p.answered ∙ e)
 

@@ -1,6 +1,6 @@
 -- What every build promises. A call says what it builds, the kind and the rows; what was found before the room is looked at;
 -- whether a lent column is too short; and what it reports of the trie. Definitions only; assumes nothing.
-use Rattle.std.specs.Prelude.{◌≡◌, Bool, List, [], ℕ, Option, None, Some}
+use Rattle.std.specs.Prelude.{◌≡◌, Bool, List, [], ℕ, Option, None, Some, Result, Ok, Err}
 use Rattle.doubles.specs.Double.{Double}
 use Rattle.refusal.specs.declared.Fault.TheVariants as fault
 use Rattle.refusal.specs.declared.Reason.{Reason}
@@ -27,17 +27,13 @@ unfoldable pub build_fault : Option Reason → Bool → Option Reason
 build_fault judged short = first judged (refuse short (reason.Call fault.Room) None)
 
 -- what an answer says: "An accepted build reports a summary", or the reason
-pub data Told (A : Type 0) : Type 0 where
-  built : A → Told A
-  refused : Reason → Told A
-
-unfoldable pub told_for : {A : Type 0} → Option Reason → A → Told A
-told_for None summary = built summary
-told_for (Some r) summary = refused r
+unfoldable pub told_for : {A : Type 0} → Option Reason → A → Result A Reason
+told_for None summary = Ok summary
+told_for (Some r) summary = Err r
 
 -- What a build promises of its answer and of the memory lent to it, before and after.
 pub record Promised {A : Type 0} (kind : Kind) (tab : List ℕ) (rows : List Row) (judged : Option Reason) (short : Bool)
-    (summary : A) (before : Memory) (answer : Told A) (after : Memory) : Type 0 where
+    (summary : A) (before : Memory) (answer : Result A Reason) (after : Memory) : Type 0 where
   pub answered : answer ≡ told_for (build_fault judged short) summary
   pub left :
       after

@@ -1,7 +1,7 @@
 -- Each exported promise fixes its answer and what every lent column holds afterwards: each field is an equation with a value of
 -- the inputs, and of scores, which are promised as doubles, the format has one value each. That the format holds the scores is
 -- so of every `f64` column. Assumes nothing.
-use Rattle.std.specs.Prelude.{Ok, ℕ}
+use Rattle.std.specs.Prelude.{Ok, ℕ, Result}
 use mathlib.Core.Path.{◌≡◌, sym, ap, ◌∙◌}
 use Prim.Native.Nat.{ℕ}
 use mathlib.Core.List.{List, [], map}
@@ -14,7 +14,6 @@ use Rattle.refusal.proofs.Codings.{coded-once}
 use Rattle.trie.specs.Trie.{Trie}
 use Rattle.rows.specs.Columns.{Columns}
 use Rattle.build.specs.Memory.{Memory, with_scores}
-use Rattle.build.specs.Promise.{Told}
 use Rattle.build.proofs.Promises.{promised-once}
 use Rattle.scored.specs.Build.{Report, told, Built}
 use Rattle.unigram.specs.Pieces.{Model}
@@ -97,7 +96,7 @@ module _ (m₁ m₂ : Memory) (x y u v : List Float) (hx : T (all_held x)) (hy :
     built-once p q =
         let one = promised-once p.promised.0 q.promised.0 in
         one_of (as-once p q (ap told_number one.0)) one.1
-        (p.promised.1 ∙ ap (λ (t : Told Report). told_score t e) one.0 ∙ sym q.promised.1)
+        (p.promised.1 ∙ ap (λ (t : Result Report Reason). told_score t e) one.0 ∙ sym q.promised.1)
 
   -- `sk_pack_build`
   module _ (bytes : List ℕ) (before : Memory) (e : List Double) where
@@ -110,7 +109,7 @@ module _ (m₁ m₂ : Memory) (x y u v : List Float) (hx : T (all_held x)) (hy :
     pack-built-once p q =
         let one = promised-once p.promised.0 q.promised.0 in
         one_of (as-once p q (ap pack_number one.0)) one.1
-        (p.promised.1 ∙ ap (λ (t : Told packs.Report). pack_score t e) one.0 ∙ sym q.promised.1)
+        (p.promised.1 ∙ ap (λ (t : Result packs.Report Reason). pack_score t e) one.0 ∙ sym q.promised.1)
 
 -- `sk_print`
 pub printed-once : {bytes input before a b : List ℕ} {r s : ℕ} → PrintedAs bytes input before r a → PrintedAs bytes input before s b → (r ≡ s) × (a ≡ b)

@@ -8,7 +8,6 @@ use Rattle.refusal.specs.declared.Fault.TheVariants as fault
 use Rattle.refusal.specs.Refusal.{number, refuse}
 use Rattle.refusal.specs.Sizes.{max_text, no_id, above}
 use Rattle.refusal.specs.Places.{overlay}
-use Rattle.build.specs.Promise.{Told, built, refused}
 use Rattle.text.specs.Text.{text_fault}
 use Rattle.scored.specs.Build.{Report}
 use Rattle.pack.specs.Build as pack
@@ -58,32 +57,32 @@ from_rows_number (Ok n) = n
 from_rows_number (Err r) = reason_number r
 
 -- what `build` tells: how many nodes, or why nothing was built
-abbrev pub told_number : Told Report → ℕ
-told_number (built s) = s.nodes
-told_number (refused r) = reason_number r
+abbrev pub told_number : Result Report Reason → ℕ
+told_number (Ok s) = s.nodes
+told_number (Err r) = reason_number r
 
 -- the places lent for the unknown score: the first has it, if there is one
 abbrev pub with_first : Double → List Double → List Double
 with_first x [] = []
 with_first x (y ∷ ys) = x ∷ ys
 
-abbrev pub told_score : Told Report → List Double → List Double
-told_score (built s) places = with_first s.unknown places
-told_score (refused r) places = places
+abbrev pub told_score : Result Report Reason → List Double → List Double
+told_score (Ok s) places = with_first s.unknown places
+told_score (Err r) places = places
 
 -- ---- packs
 
 -- what a build from a pack tells: how many nodes, or why nothing was built. The rest of its answer stands in the pack's header.
-abbrev pub pack_number : Told pack.Report → ℕ
-pack_number (built (pack.unigram n u x)) = n
-pack_number (built (pack.wordpiece n u c off len)) = n
-pack_number (refused r) = reason_number r
+abbrev pub pack_number : Result pack.Report Reason → ℕ
+pack_number (Ok (pack.unigram n u x)) = n
+pack_number (Ok (pack.wordpiece n u c off len)) = n
+pack_number (Err r) = reason_number r
 
 -- the places lent for the unknown score, which only a Unigram pack has
-abbrev pub pack_score : Told pack.Report → List Double → List Double
-pack_score (built (pack.unigram n u x)) places = with_first x places
-pack_score (built (pack.wordpiece n u c off len)) places = places
-pack_score (refused r) places = places
+abbrev pub pack_score : Result pack.Report Reason → List Double → List Double
+pack_score (Ok (pack.unigram n u x)) places = with_first x places
+pack_score (Ok (pack.wordpiece n u c off len)) places = places
+pack_score (Err r) places = places
 
 -- what the program prints, over the first places of the buffer, and how many bytes; in a buffer that may be too short for some
 -- output 2 ^ 32, and nothing is written

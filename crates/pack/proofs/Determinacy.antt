@@ -1,7 +1,7 @@
 -- The promise of a build from a pack fixes what it answers and what it leaves: each field is an equation with a value of the
 -- inputs. Scores are promised as doubles, of which the format has one value each. And it is refused with r exactly where r is
 -- the pack's fault. Assumes nothing.
-use Rattle.std.specs.Prelude.{None, Some, Result, Err, ℕ}
+use Rattle.std.specs.Prelude.{None, Some, Result, Err, ℕ, Ok}
 use mathlib.Core.Path.{◌≡◌, ap}
 use mathlib.Core.Logic.{◌↔◌}
 use mathlib.Core.Bool.{Bool, true}
@@ -15,7 +15,6 @@ use Rattle.doubles.proofs.Floats.{units-injective}
 use Rattle.doubles.proofs.Determinacy.{held, all_held, column-once}
 use Rattle.refusal.specs.declared.Reason.{Reason}
 use Rattle.build.specs.Memory.{Memory, with_scores}
-use Rattle.build.specs.Promise.{built, refused}
 use Rattle.build.proofs.Promises as builds
 use Rattle.build.proofs.Promises.{promised-once}
 use Rattle.pack.specs.Build.{pack_fault, told, report_of, the_kind, PackBuilt}
@@ -57,7 +56,7 @@ module _ (bytes : List ℕ) (m m₁ m₂ : Memory) (a b : Result Pack Reason) (x
       )
 
 -- an answer that says a reason is that refusal
-told-refused : (a : Result Pack Reason) (r : Reason) → told a ≡ refused r → a ≡ Err r
+told-refused : (a : Result Pack Reason) (r : Reason) → told a ≡ Err r → a ≡ Err r
 unfolding told
 told-refused (PACKU n u x) r e = absurd (zero_one cc)
 told-refused (PACKW n u c off len) r e = absurd (zero_one cc)
@@ -70,5 +69,5 @@ module _ (bytes : List ℕ) (m : Memory) (answer : Result Pack Reason) (after : 
   unfolding told
   refused-exactly r = let two = builds.refused-exactly p r in (λ q. two.0 (ap told q), λ e. told-refused answer r (two.1 e))
 
-  pub accepted-exactly : (told answer ≡ built (report_of (the_kind bytes) bytes)) ↔ (pack_fault bytes m ≡ None)
+  pub accepted-exactly : (told answer ≡ Ok (report_of (the_kind bytes) bytes)) ↔ (pack_fault bytes m ≡ None)
   accepted-exactly = builds.accepted-exactly p

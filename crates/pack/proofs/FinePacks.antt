@@ -1,6 +1,6 @@
 -- A pack in which nothing is wrong: its rows are fine, its strings are the rest of the file, and what its header gives is
 -- answered. Assumes nothing.
-use Rattle.std.specs.Prelude.{ℕ}
+use Rattle.std.specs.Prelude.{ℕ, Ok}
 use mathlib.Core.Path.{◌≡◌, refl, sym, ap, ◌∙◌, subst}
 use mathlib.Core.List.{List}
 use Prim.Native.Nat.{ℕ, ◌-◌, ◌≤◌}
@@ -18,7 +18,6 @@ use Rattle.build.specs.Memory.{zero_scores}
 use Rattle.scored.specs.NodeScores.{filled_scores}
 use Rattle.pack.specs.declared.header.Header.{Header}
 use Rattle.pack.specs.Pack.{header_of, rows_from, rows_of, strings_of}
-use Rattle.build.specs.Promise.{built}
 use Rattle.pack.specs.Build.{nodes_of, unigram, wordpiece, told, report_of}
 use Rattle.pack.specs.Reading.{FineRows, FiniteRows, PackFine, ScoresLeft}
 use Rattle.pack.proofs.Headers.{rows_inside, kind-laid, few-rows}
@@ -75,21 +74,21 @@ module _ {bytes : List ℕ} {kind : Kind} {h : Header} (f : PackFine bytes kind 
 
   pub told-unigram :
       {n : ℕ} (x : Float) → kind ≡ Unigram → units x ≡ unknown_score (scores_of (rows_from Unigram bytes 36 h.rows)) → n ≡ nodes_of kind bytes
-      → told (PACKU n h.unknown x) ≡ built (report_of kind bytes)
+      → told (PACKU n h.unknown x) ≡ Ok (report_of kind bytes)
   unfolding told
   told-unigram {n = n} x k e c =
       let u : h.unknown ≡ (header_of bytes).unknown = ap (λ (y : Header). y.unknown) f.header in
       let s : units x ≡ unknown_score (scores_of (rows_of Unigram bytes)) = e ∙ ap (λ rows. unknown_score (scores_of rows)) (rows-read Unigram) in
       let count : n ≡ nodes_of Unigram bytes = c ∙ ap (λ (y : Kind). nodes_of y bytes) k in
-      ap built ((λ i. unigram (count i) (u i) (s i)) ∙ unigram-told bytes ∙ ap (λ (y : Kind). report_of y bytes) (sym k))
+      ap Ok ((λ i. unigram (count i) (u i) (s i)) ∙ unigram-told bytes ∙ ap (λ (y : Kind). report_of y bytes) (sym k))
 
   pub told-wordpiece :
       {n : ℕ} → kind ≡ WordPiece → n ≡ nodes_of kind bytes
-      → told (PACKW n h.unknown h.max_chars h.prefix_off h.prefix_len) ≡ built (report_of kind bytes)
+      → told (PACKW n h.unknown h.max_chars h.prefix_off h.prefix_len) ≡ Ok (report_of kind bytes)
   unfolding told
   told-wordpiece {n = n} k c =
       let count : n ≡ nodes_of WordPiece bytes = c ∙ ap (λ (y : Kind). nodes_of y bytes) k in
-      ap built
+      ap Ok
       ((λ i. wordpiece (count i) (f.header i).unknown (f.header i).max_chars (f.header i).prefix_off (f.header i).prefix_len)
       ∙ wordpiece-told bytes ∙ ap (λ (y : Kind). report_of y bytes) (sym k))
 

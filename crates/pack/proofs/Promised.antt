@@ -1,6 +1,6 @@
 -- What `build` promises of a fine pack: the room, that of the score column too, decides; and what the core says of the rows is
 -- said of the pack. Assumes nothing.
-use Rattle.std.specs.Prelude.{Option, None, Some, Err, ℕ}
+use Rattle.std.specs.Prelude.{Option, None, Some, Err, ℕ, Result, Ok}
 use mathlib.Core.Path.{◌≡◌, refl, sym, ap, ◌∙◌, subst}
 use mathlib.Core.List.{List, [], map}
 use Prim.Native.Nat.{ℕ, ◌-◌, ◌≤◌, min}
@@ -19,7 +19,7 @@ use Rattle.rows.specs.declared.Kind.TheVariants.{Unigram, WordPiece}
 use Rattle.rows.specs.Rows.{Row}
 use Rattle.build.specs.Memory.{Memory, with_scores, no_scored_room, holding, zero_scores}
 use Rattle.build.specs.Checked.{room_of, BuiltOf}
-use Rattle.build.specs.Promise.{trie_in, scores_in, Told, built, refused, Promised}
+use Rattle.build.specs.Promise.{trie_in, scores_in, Promised}
 use Rattle.build.proofs.Rooms.{RoomFor, room_for, scored-room, scores-roomy, scored-decides, nodes-some, nodes-few}
 use Rattle.build.proofs.Outcomes.{core-fits, core-room}
 use Rattle.build.proofs.Promises.{built-bad, core-short, core-left, core-held}
@@ -78,7 +78,7 @@ module _ {bytes : List ℕ} {kind : Kind} {h : Header} (f : PackFine bytes kind 
     lent = take (length bytes - h.strings_off) (drop h.strings_off bytes)
 
     -- the promise of this kind is that of the pack
-    abbrev Of : Kind → Told Report → Memory → Type 0
+    abbrev Of : Kind → Result Report Reason → Memory → Type 0
     Of k answer later =
         Promised k strings (rows_of k bytes) (pack_judged bytes) (no_scored_room (nodes_of k bytes) (with_scores m was)) (report_of k bytes) (with_scores m was) answer later
 
@@ -99,7 +99,7 @@ module _ {bytes : List ℕ} {kind : Kind} {h : Header} (f : PackFine bytes kind 
           → PackBuilt bytes (with_scores m was) (Err (reason.Call fault.Room)) (with_scores after ys)
       unfolding told
       fine-full {ys = ys} e s =
-          subst (λ (k : Kind). Of k (refused (reason.Call fault.Room)) (with_scores after ys)) kind-is
+          subst (λ (k : Kind). Of k (Err (reason.Call fault.Room)) (with_scores after ys)) kind-is
           (core-short kind strings rows (report_of kind bytes) m after was ys said fine decides e s)
 
       module _ {n : ℕ} (e : answer ≡ Some n) where
@@ -129,7 +129,7 @@ module _ {bytes : List ℕ} {kind : Kind} {h : Header} (f : PackFine bytes kind 
             s.bare k ∙ ap (λ (j : ℕ). replicate j plus_zero) all
 
         pub fine-built :
-            {a : Told Report} {now : List Double} → (n ≡ nodes_of kind bytes → a ≡ built (report_of kind bytes)) → ScoresLeft bytes kind after.parts.id n was now
+            {a : Result Report Reason} {now : List Double} → (n ≡ nodes_of kind bytes → a ≡ Ok (report_of kind bytes)) → ScoresLeft bytes kind after.parts.id n was now
             → Promised (the_kind bytes) strings (rows_of (the_kind bytes) bytes) (pack_judged bytes) (no_scored_room (nodes_of (the_kind bytes) bytes) (with_scores m was)) (report_of (the_kind bytes) bytes) (with_scores m was) a (with_scores after now)
         fine-built {a = a} {now = now} t s =
             subst (λ (k : Kind). Of k a (with_scores after now)) kind-is

@@ -1,5 +1,5 @@
 -- What `pack::build` promises: the promise of every build, of the pack's rows. Definitions only; assumes nothing.
-use Rattle.std.specs.Prelude.{ℕ, Bool, ◌||◌, List, Option, None, Some, Result, Err}
+use Rattle.std.specs.Prelude.{ℕ, Bool, ◌||◌, List, Option, None, Some, Result, Err, Ok}
 use Rattle.doubles.specs.Double.{Double}
 use Rattle.doubles.specs.Units.{units}
 use Rattle.refusal.specs.declared.Fault.{Fault}
@@ -17,7 +17,7 @@ use Rattle.rows.specs.Scores.{unknown_score}
 use Rattle.build.specs.Rules.{scores_of}
 use Rattle.build.specs.Checked as builds
 use Rattle.build.specs.Memory.{Memory, no_scored_room}
-use Rattle.build.specs.Promise.{trie_in, scores_in, build_fault, Told, built, refused, Promised}
+use Rattle.build.specs.Promise.{trie_in, scores_in, build_fault, Promised}
 use Rattle.unigram.specs.Pieces.{Model}
 use Rattle.pack.specs.declared.header.Header.{Header}
 use Rattle.pack.specs.Pack.{header_of, kind_of, rows_of, strings_of}
@@ -50,10 +50,10 @@ pub data Report : Type 0 where
   unigram : ℕ → ℕ → Double → Report
   wordpiece : ℕ → ℕ → ℕ → ℕ → ℕ → Report
 
-unfoldable pub told : Result Pack Reason → Told Report
-told (PACKU n u x) = built (unigram n u (units x))
-told (PACKW n u c off len) = built (wordpiece n u c off len)
-told (Err r) = refused r
+unfoldable pub told : Result Pack Reason → Result Report Reason
+told (PACKU n u x) = Ok (unigram n u (units x))
+told (PACKW n u c off len) = Ok (wordpiece n u c off len)
+told (Err r) = Err r
 
 unfoldable pub report_of : Kind → List ℕ → Report
 report_of Unigram bytes =

@@ -1,8 +1,7 @@
 // The build of a pack in which nothing is wrong.
-ghost use Rattle.std.specs.Prelude.{◌≡◌, ◌≤◌, length};
+ghost use Rattle.std.specs.Prelude.{◌≡◌, ◌≤◌, length, Ok};
 ghost use Rattle.doubles.specs.Units.{scores_is, scores_was, scores_had};
 ghost use Rattle.build.specs.Memory.{scored_memory_is, scored_memory_was};
-ghost use Rattle.build.specs.Promise.{built};
 ghost use Rattle.pack.specs.Build.{told, report_of, nodes_of, PackBuilt};
 ghost use Rattle.pack.specs.Reading.{PackFine, ScoresLeft};
 ghost use Rattle.refusal.specs.Lent.{was};
@@ -34,7 +33,7 @@ fn fill_scores(
 // What is answered of a trie of n nodes.
 fn summary(kind: Kind, h: Header, bytes: &[u8], n: u32) -> PackAnswer
     requires { PackFine bytes.now kind h }
-    ensures { n ≡ nodes_of kind (was bytes) → told result ≡ built (report_of kind (was bytes)) }
+    ensures { n ≡ nodes_of kind (was bytes) → told result ≡ Ok (report_of kind (was bytes)) }
 {
     match kind {
         Kind::Unigram => PackAnswer::Unigram {

@@ -1,5 +1,6 @@
 -- Each promise of this crate fixes its answer: an answer about a row is known by the fault that it names, and a score by its
 -- units, since the format has one value for each double. Of a row list that is `judge-determined` in Judged. Assumes nothing.
+use Rattle.refusal.specs.declared.Fault.{Fault}
 use Rattle.std.specs.Result.{result_err}
 use Rattle.std.specs.Prelude.{Result, ⊤, ℕ}
 use mathlib.Core.Path.{◌≡◌}

@@ -19,7 +19,7 @@ use Rattle.refusal.specs.Sizes.{max_rows, max_table, above}
 use Rattle.rows.specs.declared.Kind.{Kind}
 use Rattle.rows.specs.Rows.{row_fault}
 use Rattle.rows.specs.Columns.{Columns, row_at, rows_of, too_large, level, columns_fault}
-use Rattle.refusal.proofs.Tests.{or_right, found}
+use Rattle.refusal.proofs.Tests.{or_right, found, err-exactly, ok-exactly, judged-once}
 use Rattle.rows.proofs.RowLists.{rows-length, rows_at}
 use Rattle.rows.proofs.FirstBad.{IsFirstBad, first-bad-says, first-bad-exactly}
 use Rattle.rows.proofs.ListFaults.{size, rows_left, sizes-first, many-rows, too_large_found, uneven, Sized, unsized, within}
@@ -100,24 +100,17 @@ module _ (kind : Kind) (tab : List ℕ) (c : Columns) where
 
 -- ---- the answer
 
--- an answer is known by the reason that it names
-unnamed : (a b : Result ⊤ Reason) → result_err a ≡ result_err b → a ≡ b
-unnamed Ok tt Ok tt e = refl
-unnamed Ok tt (Err r) e = cc
-unnamed (Err r) Ok tt e = cc
-unnamed (Err r) (Err s) e = cc
-
 module _ (kind : Kind) (tab : List ℕ) (c : Columns) {answer : Result ⊤ Reason} (a : result_err answer ≡ columns_fault kind tab c) where
   -- refused exactly where there is a reason, and with that reason
   pub refused-exactly : (r : Reason) → (answer ≡ Err r) ↔ (columns_fault kind tab c ≡ Some r)
-  refused-exactly r = (λ e. sym a ∙ ap result_err e, λ e. unnamed answer (Err r) (a ∙ e))
+  refused-exactly = err-exactly answer a
 
   -- fine exactly where there is none
   pub fine-exactly : (answer ≡ Ok tt) ↔ (columns_fault kind tab c ≡ None)
-  fine-exactly = (λ e. sym a ∙ ap result_err e, λ e. unnamed answer Ok tt (a ∙ e))
+  fine-exactly = ok-exactly answer a
 
 -- the promise met twice gives the same answer
 pub judge-determined :
     (kind : Kind) (tab : List ℕ) (c : Columns) {a b : Result ⊤ Reason}
     → result_err a ≡ columns_fault kind tab c → result_err b ≡ columns_fault kind tab c → a ≡ b
-judge-determined kind tab c {a = a} {b = b} p q = unnamed a b (p ∙ sym q)
+judge-determined kind tab c {a = a} {b = b} = judged-once a b

@@ -2,6 +2,7 @@
 #![tactic(auto)]
 
 ghost use Rattle.std.specs.Result.{result_err};
+
 use refusal::{Fault, MAX_TOKEN, NO_ID};
 
 mod checked;

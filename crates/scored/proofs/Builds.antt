@@ -1,7 +1,8 @@
 -- What the build of Unigram rows in columns promises: the room, that of the score column too, decides; what the core says of
 -- its rows is said of the columns' rows; and the score column, filled by the ids of the nodes, is that of the rows. Assumes
 -- nothing.
-use Rattle.std.specs.Prelude.{Option, None, Some, unwrap_or, Err, ℕ}
+use Rattle.refusal.specs.declared.Reason.{Reason}
+use Rattle.std.specs.Prelude.{Option, None, Some, unwrap_or, Err, ℕ, Result, Ok}
 use mathlib.Core.Path.{◌≡◌, refl, sym, ap, ◌∙◌}
 use mathlib.Core.Bool.{Bool}
 use mathlib.Core.List.{List, [], ◌∷◌, map}
@@ -31,7 +32,7 @@ use Rattle.build.specs.Rules.{tokens_of, first_row, score_of, scores_of, node_sc
 use Rattle.build.specs.Given.{given}
 use Rattle.build.specs.Memory.{Memory, with_scores, no_scored_room, holding, zero_scores}
 use Rattle.build.specs.Checked.{room_of, nodes_of, BuiltOf}
-use Rattle.build.specs.Promise.{trie_in, scores_in, Told, built, Promised}
+use Rattle.build.specs.Promise.{trie_in, scores_in, Promised}
 use Rattle.build.proofs.Rooms.{room_for, scored-room, scores-roomy, scored-decides, nodes-some}
 use Rattle.build.proofs.Outcomes.{core-fits, core-room}
 use Rattle.build.proofs.Judging.{few-rows, nodes-small, columns-built}
@@ -56,7 +57,7 @@ scores-are tab c fine =
     ∙ ap score_of (unigram-row tab c i l fine))
 
 -- a node's score by its id: past all scores stands the mark for none
-node-score : (scores : List Double) → length scores ≤ no_id → (o : Option ℕ) → row_score scores (get_or o no_id) ≡ node_score_of scores o
+node-score : (scores : List Double) → length scores ≤ no_id → (o : Option ℕ) → row_score scores (unwrap_or o no_id) ≡ node_score_of scores o
 unfolding node_score_of
 node-score scores h None = get_or-eq_default scores plus_zero h
 node-score scores h (Some i) = refl
@@ -71,7 +72,7 @@ unfolding unigram_trie unigram_scores trie_of lay scores_of
 ids-scores tab rows few =
     let tokens = tokens_of tab rows in
     let h : length (scores_of rows) ≤ no_id = omega (arith, length-map rows (λ r. score_of r.worth)) in
-    map_both (row_score (scores_of rows)) (λ s. get_or (first_row tokens s) no_id) (λ s. node_score_of (scores_of rows) (first_row tokens s))
+    map_both (row_score (scores_of rows)) (λ s. unwrap_or (first_row tokens s) no_id) (λ s. node_score_of (scores_of rows) (first_row tokens s))
     (λ s. node-score (scores_of rows) h (first_row tokens s)) (names tokens)
 
 -- the first ids of a memory that holds the trie are the trie's
@@ -136,15 +137,15 @@ module _ (tab off len : List ℕ) (score : List Float) (ids : List ℕ) (m after
     lists-full {ys = ys} d e s = core-short Unigram tab rows (report_of tab rows) m after was ys (columns-built Unigram tab c fine d) fine decides e s
 
     pub lists-built :
-        {answer : (Option ℕ)} {n : ℕ} {said : Told Report} {ys : List Double} → BuiltOf Unigram tab (given off len ids) room m after answer → answer ≡ Some n
-        → said ≡ built (record { nodes = n; unknown = unknown_score (map units score) }) → ys ≡ filled_scores (map units score) (take n after.parts.id) was
+        {answer : (Option ℕ)} {n : ℕ} {said : Result Report Reason} {ys : List Double} → BuiltOf Unigram tab (given off len ids) room m after answer → answer ≡ Some n
+        → said ≡ Ok (record { nodes = n; unknown = unknown_score (map units score) }) → ys ≡ filled_scores (map units score) (take n after.parts.id) was
         → Promised Unigram tab rows (columns_fault Unigram tab c) (no_scored_room (nodes_of tab rows) (with_scores m was)) (report_of tab rows) (with_scores m was) said (with_scores after ys)
     lists-built {n = n} {ys = ys} d e t s =
         let same = columns-built Unigram tab c fine d in
         let count = (core-fits same e).1 in
         let scores = scores-are tab c fine in
         core-held Unigram tab rows (report_of tab rows) m after was ys same fine decides e
-        (t ∙ (λ i. built (record { nodes = count i; unknown = unknown_score (sym scores i) })))
+        (t ∙ (λ i. Ok (record { nodes = count i; unknown = unknown_score (sym scores i) })))
         (scores-filled tab rows m was (few-rows Unigram tab c fine) count
         (core-left Unigram tab rows (report_of tab rows) m after was ys same fine decides e)
         (s ∙ ap (λ (xs : List Double). filled_scores xs (take n after.parts.id) was) (sym scores)))

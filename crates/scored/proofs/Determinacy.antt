@@ -1,5 +1,6 @@
 -- The promise of `build` fixes what it answers and what it leaves. Scores are promised as doubles, of which the format has one
 -- value each, so that the answer and the score column themselves are fixed too.
+use Rattle.scored.specs.declared.Summary.{Summary}
 use Rattle.std.specs.Prelude.{None, Some, Result, Ok, Err, ℕ}
 use mathlib.Core.Path.{◌≡◌, ap, ap₂}
 use mathlib.Core.Bool.{Bool, true}
@@ -18,7 +19,7 @@ use Rattle.rows.specs.declared.Kind.TheVariants.{Unigram}
 use Rattle.rows.specs.Columns.{Columns, rows_of, columns_fault}
 use Rattle.build.specs.Memory.{Memory, with_scores, no_scored_room}
 use Rattle.build.specs.Checked.{nodes_of}
-use Rattle.build.specs.Promise.{Told, built, refused, build_fault}
+use Rattle.build.specs.Promise.{build_fault}
 use Rattle.build.proofs.Promises.{promised-once, refused-exactly, accepted-exactly}
 use Rattle.scored.specs.Build.{Report, report_of, told, Built}
 
@@ -36,13 +37,13 @@ told-known (Ok s) (Ok t) h k e =
     ap₂ (λ (n : ℕ) (x : Float). Ok (record { nodes = n; unknown_score = x })) n
     (units-injective s.unknown_score t.unknown_score h k x)
   where
-    nodes-in : ℕ → Told Report → ℕ
-    nodes-in d (built r) = r.nodes
-    nodes-in d (refused r) = d
+    nodes-in : ℕ → Result Report Reason → ℕ
+    nodes-in d (Ok r) = r.nodes
+    nodes-in d (Err r) = d
 
-    unknown-in : Double → Told Report → Double
-    unknown-in d (built r) = r.unknown
-    unknown-in d (refused r) = d
+    unknown-in : Double → Result Report Reason → Double
+    unknown-in d (Ok r) = r.unknown
+    unknown-in d (Err r) = d
 told-known (Ok s) (Err r) h k e = cc
 told-known (Err r) (Ok t) h k e = cc
 told-known (Err q) (Err r) h k e = let same : q ≡ r = cc in ap Err same
@@ -62,11 +63,11 @@ module _ (tab : List ℕ) (c : Columns) (m m₁ m₂ : Memory) (a b : Result Sum
 
 -- "exactly when", both ways: a build is refused with r exactly when r is its fault, and says N and the unknown score exactly
 -- when there is none
-pub told-refused : (b : Result Summary Reason) (r : Reason) → (b ≡ Err r) ↔ (told b ≡ refused r)
+pub told-refused : (b : Result Summary Reason) (r : Reason) → (b ≡ Err r) ↔ (told b ≡ Err r)
 unfolding told
 told-refused b r = (λ e. ap told e, says b)
   where
-    says : (b : Result Summary Reason) → told b ≡ refused r → b ≡ Err r
+    says : (b : Result Summary Reason) → told b ≡ Err r → b ≡ Err r
     says (Ok s) e = absurd (zero_one cc)
     says (Err q) e = let same : q ≡ r = cc in ap Err same
 
@@ -77,5 +78,5 @@ module _ (tab : List ℕ) (c : Columns) (m : Memory) (answer : Result Summary Re
       let two = refused-exactly p r in
       (λ q. two.0 (one.0 q), λ e. one.1 (two.1 e))
 
-  pub build-accepted-exactly : (told answer ≡ built (report_of tab (rows_of c))) ↔ (build_fault (columns_fault Unigram tab c) (no_scored_room (nodes_of tab (rows_of c)) m) ≡ None)
+  pub build-accepted-exactly : (told answer ≡ Ok (report_of tab (rows_of c))) ↔ (build_fault (columns_fault Unigram tab c) (no_scored_room (nodes_of tab (rows_of c)) m) ≡ None)
   build-accepted-exactly = accepted-exactly p

@@ -1,4 +1,6 @@
 -- What `scored::build` promises: the promise of every build, of Unigram rows in columns. Definitions only; assumes nothing.
+use Rattle.refusal.specs.declared.Reason.{Reason}
+use Rattle.scored.specs.declared.Summary.{Summary}
 use Rattle.std.specs.Prelude.{ℕ, List, Result, Ok, Err}
 use Rattle.doubles.specs.Double.{Double}
 use Rattle.doubles.specs.Units.{units}
@@ -9,7 +11,7 @@ use Rattle.rows.specs.Scores.{unknown_score}
 use Rattle.build.specs.Rules.{scores_of}
 use Rattle.build.specs.Checked.{nodes_of}
 use Rattle.build.specs.Memory.{Memory, no_scored_room}
-use Rattle.build.specs.Promise.{Told, built, refused, Promised}
+use Rattle.build.specs.Promise.{Promised}
 
 -- "a summary: N and, for Unigram, the unknown score"
 pub record Report : Type 0 where
@@ -19,9 +21,9 @@ pub record Report : Type 0 where
 abbrev pub report_of : List ℕ → List Row → Report
 report_of tab rows = record { nodes = nodes_of tab rows; unknown = unknown_score (scores_of rows) }
 
-unfoldable pub told : Result Summary Reason → Told Report
-told (Ok s) = built (record { nodes = s.nodes; unknown = units s.unknown_score })
-told (Err r) = refused r
+unfoldable pub told : Result Summary Reason → Result Report Reason
+told (Ok s) = Ok (record { nodes = s.nodes; unknown = units s.unknown_score })
+told (Err r) = Err r
 
 -- What `build` promises of its answer and of the memory lent to it, before and after.
 abbrev pub Built : List ℕ → Columns → Memory → Result Summary Reason → Memory → Type 0

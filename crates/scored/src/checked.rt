@@ -8,8 +8,7 @@ ghost use Rattle.build.specs.Checked.{room_of};
 ghost use Rattle.scored.specs.Build as promise;
 ghost use Rattle.refusal.specs.Lent.{was};
 
-use crate::{BuildAnswer, Summary};
-use build::Built;
+use crate::Summary;
 use refusal::{Fault, Reason};
 use rows::Kind;
 
@@ -48,7 +47,7 @@ pub fn build_rows(
     byte: &mut [u8],
     to: &mut [u32],
     work: &mut [u32],
-) -> BuildAnswer
+) -> Result<Summary, Reason>
     requires { columns_fault Unigram tab.now (scored_columns off.now len.now score.now id.now) ≡ None }
     ensures { promise.Built (was tab) (scored_was off len score id)
         (scored_memory_was edge_at edge_n node_id node_score byte to work) result
@@ -70,13 +69,13 @@ pub fn build_rows(
         room,
     );
     match built {
-        Built::NoRoom => {
+        None => {
             crate::scores::zero(node_score);
-            BuildAnswer::Refused(Reason::Call(Fault::Room))
+            Err(Reason::Call(Fault::Room))
         }
-        Built::Nodes(n) => {
+        Some(n) => {
             crate::scores::fill(score, node_id, n, node_score);
-            BuildAnswer::Built(Summary {
+            Ok(Summary {
                 nodes: n as u32,
                 unknown_score: rows::scores::unknown_score(score),
             })

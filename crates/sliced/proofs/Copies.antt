@@ -1,6 +1,7 @@
 -- The promise of `build_rows`, from what its steps promise. Rows without a fault that were put in the columns are the rows of
 -- the first places, so that what is built from these is what the rows ask for; where there is a fault or too little room,
 -- nothing was put. Assumes nothing.
+use Rattle.scored.specs.declared.Summary.{Summary}
 use Rattle.std.specs.Prelude.{Option, None, Some, Result, Err, ℕ}
 use mathlib.Core.Path.{◌≡◌, refl, sym, ap, ◌∙◌, subst}
 use mathlib.Core.Bool.{Bool, true, false, ◌||◌, cond}

@@ -1,5 +1,6 @@
 -- The promise of `build_rows` fixes what it answers and what it leaves, as that of `build` does.
-use Rattle.std.specs.Prelude.{None, Some, Result, Err, ℕ}
+use Rattle.scored.specs.declared.Summary.{Summary}
+use Rattle.std.specs.Prelude.{None, Some, Result, Err, ℕ, Ok}
 use mathlib.Core.Path.{◌≡◌, sym, ap, ◌∙◌}
 use mathlib.Core.Logic.{◌↔◌}
 use Prim.Native.Nat.{ℕ}
@@ -12,7 +13,7 @@ use Rattle.doubles.specs.Units.{units}
 use Rattle.doubles.proofs.Determinacy.{all_held, column-once}
 use Rattle.rows.specs.Rows.{Row}
 use Rattle.build.specs.Memory.{Memory, with_scores}
-use Rattle.build.specs.Promise.{built, build_fault}
+use Rattle.build.specs.Promise.{build_fault}
 use Rattle.build.proofs.Promises.{promised-once, refused-exactly, accepted-exactly}
 use Rattle.scored.specs.Build.{report_of, told}
 use Rattle.scored.proofs.Determinacy.{held_in, told-known, told-refused}
@@ -42,5 +43,5 @@ module _ (tab : List ℕ) (rows : List Row) (l : RowPlaces) (m : Memory) (answer
       let two = refused-exactly p.built r in
       (λ q. two.0 (one.0 q), λ e. one.1 (two.1 e))
 
-  pub rows-accepted-exactly : (told answer ≡ built (report_of tab rows)) ↔ (build_fault (rows_judged tab rows) (short_for (length rows) tab rows l m) ≡ None)
+  pub rows-accepted-exactly : (told answer ≡ Ok (report_of tab rows)) ↔ (build_fault (rows_judged tab rows) (short_for (length rows) tab rows l m) ≡ None)
   rows-accepted-exactly = accepted-exactly p.built

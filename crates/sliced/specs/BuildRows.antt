@@ -1,4 +1,5 @@
 -- What `sliced::build_rows` promises: as `scored::build`, over a slice of rows. Definitions only; assumes nothing.
+use Rattle.scored.specs.declared.Summary.{Summary}
 use Rattle.std.specs.Prelude.{◌≡◌, ℕ, Bool, ◌||◌, List, [], ◌∷◌, map, Float, length, Option, Result}
 use Rattle.doubles.specs.Double.{Double}
 use Rattle.doubles.specs.Units.{units}

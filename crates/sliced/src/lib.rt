@@ -1,8 +1,9 @@
 // A Unigram trie from a slice of rows: `build_rows`, over the build on columns.
 #![tactic(auto)]
 
+use refusal::Reason;
 use rows::Row;
-use scored::BuildAnswer;
+use scored::Summary;
 
 mod slice;
 
@@ -28,7 +29,7 @@ pub fn build_rows(
     byte: &mut [u8],
     to: &mut [u32],
     work: &mut [u32],
-) -> BuildAnswer
+) -> Result<Summary, Reason>
     ensures { RowsBuilt (was tab) (map row_is (was rows)) (places_was off len score)
         (scored_memory_was edge_at edge_n node_id node_score byte to work) result (places_is off len score)
         (scored_memory_is edge_at edge_n node_id node_score byte to work) }

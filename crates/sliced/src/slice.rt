@@ -18,32 +18,29 @@ ghost use Rattle.sliced.specs.BuildRows.{row_places, zero_rows, short_of, Places
 ghost use Rattle.sliced.specs.Copied.{found_after, put_row, put_fine, found_by, places_by, first_places, RowsCopied};
 ghost use Rattle.refusal.specs.Lent.{was};
 
-use refusal::{Fault, Judged, Reason};
-use rows::columns::RowsAnswer;
+use refusal::{Fault, Reason};
 use rows::{Kind, Row, Worth};
-use scored::{BuildAnswer, checked};
+use scored::{Summary, checked};
 
 // Too many rows or too large a table, before any row is looked at.
-pub(crate) fn sized(count: usize, table: usize) -> RowsAnswer
+pub(crate) fn sized(count: usize, table: usize) -> Result<(), Reason>
     ensures { result_err result ≡ refuse (too_large count table) (reason.Call fault.Size) None }
 {
     if rows::columns::is_large(count, table) {
-        return RowsAnswer::Refused(Reason::Call(Fault::Size));
+        return Err(Reason::Call(Fault::Size));
     }
-    RowsAnswer::Fine
+    Ok(())
 }
 
 // What is found once row i is looked at too: what was found before it stands.
-fn judge_row(found: RowsAnswer, tab: &[u8], row: Row, i: usize) -> RowsAnswer
+fn judge_row(found: Result<(), Reason>, tab: &[u8], row: Row, i: usize) -> Result<(), Reason>
     requires { result_err found ≡ None → i < 4_294_967_296 }
     ensures { result_err result ≡ found_after (result_err found) (was tab) (row_is row) i }
 {
-    match found {
-        RowsAnswer::Refused(r) => RowsAnswer::Refused(r),
-        RowsAnswer::Fine => match rows::row_fault(Kind::Unigram, tab, row) {
-            Judged::Bad(f) => RowsAnswer::Refused(Reason::Row(f, i as u32)),
-            Judged::Fine => RowsAnswer::Fine,
-        },
+    found?;
+    match rows::row_fault(Kind::Unigram, tab, row) {
+        Ok(()) => Ok(()),
+        Err(f) => Err(Reason::Row(f, i as u32)),
     }
 }
 
@@ -83,7 +80,7 @@ fn is_short(n: usize, off: usize, len: usize, score: usize) -> bool
 
 // A row goes to place i, where no fault was found and the columns have room for n rows.
 fn put_fine(
-    found: RowsAnswer,
+    found: Result<(), Reason>,
     n: usize,
     i: usize,
     row: Row,
@@ -94,7 +91,7 @@ fn put_fine(
     requires { i < n }
     ensures { places_is off len score ≡ put_fine n (result_err found) i (row_is row) (places_was off len score) }
 {
-    if let RowsAnswer::Refused(_) = found {
+    if found.is_err() {
         return;
     }
     if is_short(n, off.len(), len.len(), score.len()) {
@@ -105,7 +102,7 @@ fn put_fine(
 
 // Turn t of 2n over n rows: in the first n a row is judged, in the others it is put. Answers what is found so far.
 pub(crate) fn turn(
-    found: RowsAnswer,
+    found: Result<(), Reason>,
     n: usize,
     t: usize,
     tab: &[u8],
@@ -113,7 +110,7 @@ pub(crate) fn turn(
     off: &mut [u32],
     len: &mut [u32],
     score: &mut [f64],
-) -> RowsAnswer
+) -> Result<(), Reason>
     requires { (t < n + n) × (result_err found ≡ None → n ≤ max_rows) }
     ensures { (result_err result ≡ found_by n t (was tab) (row_is row) (result_err found)) ×
         (places_is off len score ≡ places_by n t (result_err found) (row_is row) (places_was off len score)) }
@@ -148,7 +145,7 @@ fn build_first(
     byte: &mut [u8],
     to: &mut [u32],
     work: &mut [u32],
-) -> BuildAnswer
+) -> Result<Summary, Reason>
     requires score_value { short_of n (row_places off.now len.now score.now) ≡ false }
     requires score_value_2 { columns_fault Unigram tab.now (first_places n off.now len.now score.now) ≡ None }
     ensures { promise.Built (was tab) (first_places n (was off) (was len) (was score))
@@ -184,8 +181,8 @@ fn refuse_short(
     byte: &mut [u8],
     to: &mut [u32],
     work: &mut [u32],
-) -> BuildAnswer
-    ensures { (result ≡ BuildAnswer.Refused (reason.Call fault.Room)) ×
+) -> Result<Summary, Reason>
+    ensures { (result ≡ Err (reason.Call fault.Room)) ×
         (places_is off len score ≡ zero_rows (places_was off len score)) × (memory_is edge_at edge_n node_id byte to
         work ≡ cleared (memory_was edge_at edge_n node_id byte to work)) ×
         (scores_is node_score ≡ zero_scores (scores_had node_score)) }
@@ -193,13 +190,13 @@ fn refuse_short(
     clear_rows(off, len, score);
     build::zero::clear(edge_at, edge_n, node_id, byte, to, work);
     scored::scores::zero(node_score);
-    BuildAnswer::Refused(Reason::Call(Fault::Room))
+    Err(Reason::Call(Fault::Room))
 }
 
 // The build of n rows that were found fine and copied, where the columns have room for them; or else what was found, or too
 // little room. Afterwards the columns are zero, but where a fault was found they are as they were.
 pub(crate) fn build_copied(
-    found: RowsAnswer,
+    found: Result<(), Reason>,
     n: usize,
     tab: &[u8],
     off: &mut [u32],
@@ -212,15 +209,13 @@ pub(crate) fn build_copied(
     byte: &mut [u8],
     to: &mut [u32],
     work: &mut [u32],
-) -> BuildAnswer
+) -> Result<Summary, Reason>
     requires { RowsCopied (result_err found) n tab.now off.old len.old score.old }
     ensures { PlacesBuilt (result_err found) n (was tab) (rows_of (first_places n off.old len.old score.old))
         (places_was off len score) (scored_memory_was edge_at edge_n node_id node_score byte to work) result
         (places_is off len score) (scored_memory_is edge_at edge_n node_id node_score byte to work) }
 {
-    if let RowsAnswer::Refused(r) = found {
-        return BuildAnswer::Refused(r);
-    }
+    found?;
     if is_short(n, off.len(), len.len(), score.len()) {
         return refuse_short(
             off, len, score, edge_at, edge_n, node_id, node_score, byte, to, work,

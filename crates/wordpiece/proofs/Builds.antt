@@ -17,7 +17,7 @@ use Rattle.rows.specs.Answers.{columns}
 use Rattle.build.specs.Given.{given}
 use Rattle.build.specs.Memory.{Memory, with_scores, no_room}
 use Rattle.build.specs.Checked.{room_of, nodes_of, BuiltOf}
-use Rattle.build.specs.Promise.{scores_in, built}
+use Rattle.build.specs.Promise.{scores_in}
 use Rattle.build.proofs.Rooms.{no_room_by, nodes-some}
 use Rattle.build.proofs.Outcomes.{core-fits}
 use Rattle.build.proofs.Judging.{nodes-small, columns-built}
@@ -48,4 +48,4 @@ module _ (tab off len : List ℕ) (ids : List ℕ) (m after : Memory) {room : �
     unfolding told scores_in
     lists-built e =
         let same = columns-built WordPiece tab c fine d in
-        core-held WordPiece tab rows (nodes_of tab rows) m after [] [] same fine decides e (ap built (core-fits same e).1) refl
+        core-held WordPiece tab rows (nodes_of tab rows) m after [] [] same fine decides e (ap Ok (core-fits same e).1) refl

@@ -1,5 +1,8 @@
 -- `rows::row_fault` meets its contract: each return is the fault that its test finds, and past the tests of the token the worth
 -- decides. Assumes nothing.
+use Rattle.std.proofs.lemmas.Result.{err_from_is_err_and}
+use Rattle.refusal.specs.declared.Fault.{Fault}
+use Rattle.std.specs.Prelude.{Option, List, ℕ}
 use Rattle.std.specs.Result.{result_err}
 use mathlib.Core.Path.{◌≡◌, sym, ap, ◌∙◌}
 use Prim.Native.Nat.{◌+◌, ◌≤◌}
@@ -13,6 +16,10 @@ use Rattle.rows.specs.Rows.{row_is, worth_is, token_of, worth_fault, row_fault}
 use Rattle.rows.proofs.RowFaults.{fault-span, fault-token, fault-text, fault-worth}
 use Rattle.rows.proofs.row_fault.Goals as goal
 
+-- what is found of the bytes given is found of the token
+told : {s t : List ℕ} {o : Option Fault} → o ≡ text_fault s → s ≡ t → text_fault t ≡ o
+told e p = sym (e ∙ ap text_fault p)
+
 pub returns-then-is_outside : goal.returns-then-is_outside
 unfolding row_is
 returns-then-is_outside c = let a = c.args in
@@ -25,30 +32,33 @@ returns-then-len-gt-MAX_TOKEN c =
     let a = c.args in
     sym (fault-token a.kind a.tab.now (row_is a.row) (inside) (omega arith))
 
-pub returns-in-Bad : goal.returns-in-Bad
+pub returns-in_err-judge : goal.returns-in_err-judge
 unfolding row_is
-returns-in-Bad c =
-    let inside : let a = c.args in a.row.off + a.row.len ≤ length a.tab.now = ltb-false _ _ (sym c.is_outside.ensures ∙ c.if-is_outside.false) in
-    let token-found : text_fault (token_of c.args.tab.now (row_is c.args.row)) ≡ result_err c.judge.result = sym (c.judge.ensures ∙ ap text_fault (bytes-given c.span-token.ensures)) in
+returns-in_err-judge c =
     let a = c.args in
-    sym
-    (fault-text a.kind a.tab.now (row_is a.row) (inside) (omega arith)
-    (token-found ∙ ap result_err c.in-Bad.is))
+    let p = err_from_is_err_and c.from_residual.result c.from_residual.ensures.1 in
+    rw (p.1, p.2)
+    (sym
+    (fault-text a.kind a.tab.now (row_is a.row) (ltb-false _ _ (sym c.is_outside.ensures ∙ c.if-is_outside.false))
+    (omega arith) (told c.judge.ensures (bytes-given c.span-token.ensures) ∙ ap result_err c.in_err-judge.was)))
 
+-- the worth decides where the token is fine
 pub returns-in-Unigram : goal.returns-in-Unigram
 unfolding row_is
 returns-in-Unigram c =
-    let inside : let a = c.args in a.row.off + a.row.len ≤ length a.tab.now = ltb-false _ _ (sym c.is_outside.ensures ∙ c.if-is_outside.false) in
-    let token-found : text_fault (token_of c.args.tab.now (row_is c.args.row)) ≡ result_err c.judge.result = sym (c.judge.ensures ∙ ap text_fault (bytes-given c.span-token.ensures)) in
-    let worth-left : let a = c.args in row_fault a.kind a.tab.now (row_is a.row) ≡ worth_fault a.kind (worth_is a.row.worth) = let a = c.args in fault-worth a.kind a.tab.now (row_is a.row) (inside) (omega arith) (token-found ∙ ap result_err c.in_default.is) in
-    let w = c.args.row.worth in
-    c.score_fault.ensures ∙ sym (worth-left ∙ ap (λ (k : Kind). worth_fault k (worth_is w)) c.in-Unigram.is)
+    let a = c.args in
+    c.score_fault.ensures
+    ∙ sym
+    (fault-worth a.kind a.tab.now (row_is a.row) (ltb-false _ _ (sym c.is_outside.ensures ∙ c.if-is_outside.false))
+    (omega arith) (told c.judge.ensures (bytes-given c.span-token.ensures) ∙ ap result_err c.in_ok-judge.was)
+    ∙ ap (λ (k : Kind). worth_fault k (worth_is a.row.worth)) c.in-Unigram.is)
 
 pub returns-in-WordPiece : goal.returns-in-WordPiece
 unfolding row_is
 returns-in-WordPiece c =
-    let inside : let a = c.args in a.row.off + a.row.len ≤ length a.tab.now = ltb-false _ _ (sym c.is_outside.ensures ∙ c.if-is_outside.false) in
-    let token-found : text_fault (token_of c.args.tab.now (row_is c.args.row)) ≡ result_err c.judge.result = sym (c.judge.ensures ∙ ap text_fault (bytes-given c.span-token.ensures)) in
-    let worth-left : let a = c.args in row_fault a.kind a.tab.now (row_is a.row) ≡ worth_fault a.kind (worth_is a.row.worth) = let a = c.args in fault-worth a.kind a.tab.now (row_is a.row) (inside) (omega arith) (token-found ∙ ap result_err c.in_default.is) in
-    let w = c.args.row.worth in
-    c.id_fault.ensures ∙ sym (worth-left ∙ ap (λ (k : Kind). worth_fault k (worth_is w)) c.in-WordPiece.is)
+    let a = c.args in
+    c.id_fault.ensures
+    ∙ sym
+    (fault-worth a.kind a.tab.now (row_is a.row) (ltb-false _ _ (sym c.is_outside.ensures ∙ c.if-is_outside.false))
+    (omega arith) (told c.judge.ensures (bytes-given c.span-token.ensures) ∙ ap result_err c.in_ok-judge.was)
+    ∙ ap (λ (k : Kind). worth_fault k (worth_is a.row.worth)) c.in-WordPiece.is)

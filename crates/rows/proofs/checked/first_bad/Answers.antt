@@ -13,12 +13,12 @@ use Rattle.rows.proofs.checked.first_bad.Goals as goal
 pub loop-i-init : goal.loop-i-init
 loop-i-init c = (omega arith, bad-start c.args.kind c.args.tab.now (let a = c.args in columns a.off.now a.len.now a.scored.now a.score.now a.id.now))
 
-pub returns-in-Bad : goal.returns-in-Bad
-returns-in-Bad c =
+pub returns-in-Err : goal.returns-in-Err
+returns-in-Err c =
     let turn : result_err c.row_fault.result ≡ row_fault c.args.kind c.args.tab.now (row_at (let a = c.args in columns a.off.now a.len.now a.scored.now a.score.now a.id.now) c.loop-i.i) = let a = c.args in c.row_fault.ensures ∙ ap (row_fault a.kind a.tab.now) c.row_at-row.ensures in
     sym
     (c.loop-i.invariant.1
-    ∙ bad-found c.args.kind c.args.tab.now (let a = c.args in columns a.off.now a.len.now a.scored.now a.score.now a.id.now) c.loop-i.i _ (omega arith) (sym (turn) ∙ ap result_err c.in-Bad.is))
+    ∙ bad-found c.args.kind c.args.tab.now (let a = c.args in columns a.off.now a.len.now a.scored.now a.score.now a.id.now) c.loop-i.i _ (omega arith) (sym (turn) ∙ ap result_err c.in-Err.is))
 
 pub loop-i-preserved : goal.loop-i-preserved
 loop-i-preserved c =
