@@ -1,6 +1,5 @@
 -- The coding of a text in a vocabulary of either kind: it is the coding of that kind; there are no more ids than characters,
 -- and they stand in the first id places; and the promise fixes all. Assumes nothing.
-use Rattle.std.specs.Result.{result_err}
 use Rattle.std.specs.Prelude.{Option, None, Some, Result, ℕ}
 use mathlib.Core.Path.{◌≡◌, refl, ap, ◌∙◌}
 use mathlib.Core.Bool.{Bool, true, false, cond}
@@ -27,12 +26,12 @@ use Rattle.wordpiece.specs.Pieces as wordpiece
 use Rattle.wordpiece.specs.Encode.{encode_fault, Encoded}
 use Rattle.wordpiece.proofs.Few as words
 use Rattle.wordpiece.proofs.Faults.{fine}
-use Rattle.coder.specs.Vocabulary.{Vocabulary, unigram_of, wordpiece_of, result_err, ids_in, writes_in, LawIn, CodedIn}
+use Rattle.coder.specs.Vocabulary.{Vocabulary, unigram_of, wordpiece_of, fault_in, ids_in, writes_in, LawIn, CodedIn}
 
 -- ---- the coding of each kind
 
 pub segmented-coded : {m : unigram.Model} {s : List ℕ} {before after : Scratch} {answer : Result ℕ Fault} → Segmented m s before answer after → CodedIn (unigram_of m) s before answer after
-unfolding result_err ids_in writes_in LawIn
+unfolding fault_in ids_in writes_in LawIn
 segmented-coded p = record { coded = p.coded; law = p.law }
 
 -- the same scratch with these id places
@@ -43,7 +42,7 @@ pub encoded-coded :
     (t : Trie) (unknown max_chars : ℕ) (prefix s : List ℕ) (before : Scratch) {answer : Result ℕ Fault} {places : List ℕ}
     → Encoded t unknown max_chars prefix s before.ids answer places
     → CodedIn (wordpiece_of t unknown max_chars prefix) s before answer (with_places places before)
-unfolding result_err ids_in writes_in LawIn unless_fault
+unfolding fault_in ids_in writes_in LawIn unless_fault
 encoded-coded t unknown max_chars prefix s before p =
     record {
       coded = record { answered = p.answered; left = ap (λ (l : List ℕ). with_places l before) p.left ∙ leaves (encode_fault (sound t) prefix s (length before.ids)) };
@@ -60,15 +59,15 @@ encoded-coded t unknown max_chars prefix s before p =
 -- ---- without a fault
 
 -- at most one id a character
-pub ids-few : (v : Vocabulary) (s : List ℕ) (n : Lengths) → result_err v s n ≡ None → length (ids_in v s) ≤ characters s
-unfolding result_err ids_in unigram.ids_of
+pub ids-few : (v : Vocabulary) (s : List ℕ) (n : Lengths) → fault_in v s n ≡ None → length (ids_in v s) ≤ characters s
+unfolding fault_in ids_in unigram.ids_of
 ids-few (unigram_of m) s n e =
     omega (arith, merged-few (λ i j. id_of m.trie (part s i j)) m.unknown.id 0 (unigram.pieces_of m s), pieces-few (ready_for m s n e))
 ids-few (wordpiece_of t unknown max_chars prefix) s n e = words.ids-few (id_of t) s (fine (sound t) prefix s n.ids e).1 unknown max_chars prefix
 
 -- and a place for each
-pub places-enough : (v : Vocabulary) (s : List ℕ) (n : Lengths) → result_err v s n ≡ None → characters s ≤ n.ids
-unfolding result_err
+pub places-enough : (v : Vocabulary) (s : List ℕ) (n : Lengths) → fault_in v s n ≡ None → characters s ≤ n.ids
+unfolding fault_in
 places-enough (unigram_of m) s n e = enough-ids _ s n e
 places-enough (wordpiece_of t unknown max_chars prefix) s n e = (fine (sound t) prefix s n.ids e).2
 
@@ -77,7 +76,7 @@ nothing [] e = refl
 nothing (x ∷ xs) e = absurd (omega arith)
 
 -- the ids stand in the first places: an empty text writes nothing, and has none
-pub ids-stand : (v : Vocabulary) (s : List ℕ) (n : Lengths) (b : Scratch) → result_err v s n ≡ None → (writes_in v s b).ids ≡ overlay (ids_in v s) b.ids
+pub ids-stand : (v : Vocabulary) (s : List ℕ) (n : Lengths) (b : Scratch) → fault_in v s n ≡ None → (writes_in v s b).ids ≡ overlay (ids_in v s) b.ids
 unfolding writes_in ids_in writes written
 ids-stand (unigram_of m) s n b e = go (eqb (length s) 0) refl (ids-few (unigram_of m) s n e)
   where

@@ -1,5 +1,4 @@
 -- A vocabulary of either kind, and what the coding of a text in it promises. Definitions only; assumes nothing.
-use Rattle.std.specs.Result.{result_err}
 use Rattle.std.specs.Prelude.{◌≡◌, Bool, List, ℕ, Option, None, Result}
 use Rattle.refusal.specs.declared.Fault.{Fault}
 use Rattle.refusal.specs.Coding.{Coded}
@@ -20,9 +19,9 @@ sound_in (unigram_of m) = sound_model m
 sound_in (wordpiece_of t unknown max_chars prefix) = sound t
 
 -- the first fault of a text or word, with so many places lent
-unfoldable pub result_err : Vocabulary → List ℕ → Lengths → Option Fault
-result_err (unigram_of m) s n = segment_fault (sound_model m) s n
-result_err (wordpiece_of t unknown max_chars prefix) s n = encode_fault (sound t) prefix s n.ids
+unfoldable pub fault_in : Vocabulary → List ℕ → Lengths → Option Fault
+fault_in (unigram_of m) s n = segment_fault (sound_model m) s n
+fault_in (wordpiece_of t unknown max_chars prefix) s n = encode_fault (sound t) prefix s n.ids
 
 unfoldable pub ids_in : Vocabulary → List ℕ → List ℕ
 ids_in (unigram_of m) s = unigram.ids_of m s
@@ -40,5 +39,5 @@ LawIn (wordpiece_of t unknown max_chars prefix) s after = Unit {0}
 
 -- What the coding of a text promises of its answer and of the lent columns, before and after.
 pub record CodedIn (v : Vocabulary) (s : List ℕ) (before : Scratch) (answer : Result ℕ Fault) (after : Scratch) : Type 0 where
-  pub coded : Coded (result_err v s (lengths_of before)) (ids_in v s) (writes_in v s before) before answer after
-  pub law : result_err v s (lengths_of before) ≡ None → LawIn v s after
+  pub coded : Coded (fault_in v s (lengths_of before)) (ids_in v s) (writes_in v s before) before answer after
+  pub law : fault_in v s (lengths_of before) ≡ None → LawIn v s after

@@ -6,7 +6,7 @@ ghost use Rattle.coder.specs.Columns.{vocabulary, vocabulary_now};
 ghost use Rattle.refusal.specs.Lent.{was};
 
 use crate::Coder;
-use refusal::CodeAnswer;
+use refusal::Fault;
 
 // The ids of a text by `unigram::segment`, or of a word by `wordpiece::encode`. `sound` is what was found of the parts.
 // WordPiece writes ids alone, and looks at no other place of the scratch.
@@ -26,7 +26,7 @@ pub fn code(
     slot_score: &mut [f64],
     path: &mut [u32],
     ids: &mut [u32],
-) -> CodeAnswer
+) -> Result<usize, Fault>
     requires { sound ≡ sound_in (vocabulary_now coder edge_at edge_n id score byte to prefix) }
     ensures { CodedIn (vocabulary coder edge_at edge_n id score byte to prefix) (was text)
         (scratch_was start slot_id slot_score path ids) result (scratch_is start slot_id slot_score path ids) }

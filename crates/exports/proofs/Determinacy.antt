@@ -1,6 +1,7 @@
 -- Each exported promise fixes its answer and what every lent column holds afterwards: each field is an equation with a value of
 -- the inputs, and of scores, which are promised as doubles, the format has one value each. That the format holds the scores is
 -- so of every `f64` column. Assumes nothing.
+use Rattle.refusal.specs.declared.Reason.{Reason}
 use Rattle.std.specs.Prelude.{Ok, ℕ, Result}
 use mathlib.Core.Path.{◌≡◌, sym, ap, ◌∙◌}
 use Prim.Native.Nat.{ℕ}

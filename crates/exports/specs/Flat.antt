@@ -35,8 +35,8 @@ count_number (Some f) n = 2 ^ 32 + number f
 
 -- a look-up: the id, which is below 2 ^ 32; 2 ^ 32 for none; or that and the number of the fault
 abbrev pub lookup_number : Result (Option ℕ) Fault → ℕ
-lookup_number (FOUND i) = i
-lookup_number Ok None = 2 ^ 32
+lookup_number (Ok (Some i)) = i
+lookup_number (Ok None) = 2 ^ 32
 lookup_number (Err f) = 2 ^ 32 + number f
 
 -- how many ids; or 2 ^ 32 and the number of the fault
@@ -52,7 +52,7 @@ reason_number (Call f) = number f * 2 ^ 32 + no_id
 reason_number (Row f i) = number f * 2 ^ 32 + i
 
 -- how many nodes, which is below 2 ^ 32; or why nothing was built
-abbrev pub from_rows_number : (Result ℕ Reason) → ℕ
+abbrev pub from_rows_number : Result ℕ Reason → ℕ
 from_rows_number (Ok n) = n
 from_rows_number (Err r) = reason_number r
 

@@ -10,24 +10,25 @@ ghost use Rattle.wordpiece.specs.Build as from-rows;
 ghost use Rattle.refusal.specs.Lent.{was};
 
 use refusal::Reason;
+use scored::Summary;
 
 // The reason as one number.
 pub(crate) fn reason_number(r: Reason) -> u64
     ensures { result ≡ reason_number r }
 {
     match r {
-        Reason::Call(f) => refusal::number(f) as u64 * 4_294_967_296 + 4_294_967_295,
-        Reason::Row(f, i) => refusal::number(f) as u64 * 4_294_967_296 + i as u64,
+        Reason::Call(f) => f.number() as u64 * 4_294_967_296 + 4_294_967_295,
+        Reason::Row(f, i) => f.number() as u64 * 4_294_967_296 + i as u64,
     }
 }
 
 // An answer of `from_rows` as one number.
-fn from_rows_number(a: wordpiece::BuildAnswer) -> u64
+fn from_rows_number(a: Result<u32, Reason>) -> u64
     ensures { result ≡ from_rows_number a }
 {
     match a {
-        wordpiece::BuildAnswer::Built(n) => n as u64,
-        wordpiece::BuildAnswer::Refused(r) => reason_number(r),
+        Ok(n) => n as u64,
+        Err(r) => reason_number(r),
     }
 }
 
@@ -65,15 +66,15 @@ pub(crate) fn put_score(places: &mut [f64], x: f64)
 }
 
 // An answer of `build` as one number, and its unknown score in the first of the lent places.
-fn built_number(a: scored::BuildAnswer, unknown_score: &mut [f64]) -> u64
+fn built_number(a: Result<Summary, Reason>, unknown_score: &mut [f64]) -> u64
     ensures { (result ≡ told_number (told a)) × (scores_is unknown_score ≡ told_score (told a) (scores_had unknown_score)) }
 {
     match a {
-        scored::BuildAnswer::Built(s) => {
+        Ok(s) => {
             put_score(unknown_score, s.unknown_score);
             s.nodes as u64
         }
-        scored::BuildAnswer::Refused(r) => reason_number(r),
+        Err(r) => reason_number(r),
     }
 }
 

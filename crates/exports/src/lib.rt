@@ -2,9 +2,7 @@
 // checked by nothing: it passes what the parameters' types say.
 #![tactic(auto)]
 
-use refusal::{CodeAnswer, Fault, Judged, MAX_TEXT};
-use trie::LookupAnswer;
-use trie::checked::NodeId;
+use refusal::{Fault, MAX_TEXT};
 
 pub mod builds;
 pub mod packs;
@@ -16,7 +14,7 @@ ghost use Rattle.text.specs.Text.{length_of, valid_up_to, boundary, characters};
 ghost use Rattle.text.specs.Span.{span_fault, span_of};
 ghost use Rattle.trie.specs.Trie.{id_of, parts, parts_now};
 ghost use Rattle.trie.specs.Sound.{sound, sound_scored};
-ghost use Rattle.trie.specs.Lookup.{lookup_fault, found, lookup_answer};
+ghost use Rattle.trie.specs.Lookup.{lookup_fault, lookup_answer};
 ghost use Rattle.unigram.specs.Work.{model, model_now};
 ghost use Rattle.unigram.specs.Checked.{scratch_is, scratch_now, scratch_was};
 ghost use Rattle.unigram.specs.Segment.{lengths_of, segment_fault, sound_model, Segmented};
@@ -55,7 +53,7 @@ pub extern "C" fn sk_is_boundary(s: &[u8], i: usize) -> bool
 fn refused(f: Fault) -> usize
     ensures { result ≡ 2 ^ 32 + number f }
 {
-    4_294_967_296 + refusal::number(f) as usize
+    4_294_967_296 + f.number() as usize
 }
 
 // How many characters a text has, or 2^32 and 1 or 4: what is no text is not taken for an empty one.
@@ -66,7 +64,7 @@ pub extern "C" fn sk_characters(s: &[u8]) -> usize
     if MAX_TEXT < s.len() {
         return refused(Fault::Size);
     }
-    if let Judged::Bad(f) = text::utf8::judge(s) {
+    if let Err(f) = text::utf8::judge(s) {
         return refused(f);
     }
     text::checked::characters(s)
@@ -78,8 +76,8 @@ pub extern "C" fn sk_text(tab: &[u8], off: u32, len: u32) -> u32
     ensures { result ≡ status (span_fault (was tab) off len) }
 {
     match text::text_answer(tab, off, len) {
-        Judged::Fine => 0,
-        Judged::Bad(f) => refusal::number(f),
+        Ok(()) => 0,
+        Err(f) => f.number(),
     }
 }
 
@@ -122,13 +120,13 @@ pub extern "C" fn sk_sound_scored(
 }
 
 // A look-up as one number.
-fn lookup_number(a: LookupAnswer) -> u64
+fn lookup_number(a: Result<Option<u32>, Fault>) -> u64
     ensures { result ≡ lookup_number a }
 {
     match a {
-        LookupAnswer::Found(i) => i as u64,
-        LookupAnswer::Absent => 4_294_967_296,
-        LookupAnswer::Refused(f) => 4_294_967_296 + refusal::number(f) as u64,
+        Ok(Some(i)) => i as u64,
+        Ok(None) => 4_294_967_296,
+        Err(f) => 4_294_967_296 + f.number() as u64,
     }
 }
 
@@ -177,21 +175,18 @@ pub extern "C" fn sk_exact_checked(
     s: &[u8],
 ) -> u64
     requires { sound (parts_now edge_at edge_n id byte to) ≡ true }
-    ensures { result ≡ lookup_number (found (id_of (parts edge_at edge_n id byte to) (was s))) }
+    ensures { result ≡ lookup_number (Ok (id_of (parts edge_at edge_n id byte to) (was s))) }
 {
-    match trie::checked::exact(edge_at, edge_n, id, byte, to, s) {
-        NodeId::Is(i) => i as u64,
-        NodeId::Missing => 4_294_967_296,
-    }
+    lookup_number(Ok(trie::checked::exact(edge_at, edge_n, id, byte, to, s)))
 }
 
 // An answer of `encode` or `segment` as one number.
-fn code_number(a: CodeAnswer) -> usize
+fn code_number(a: Result<usize, Fault>) -> usize
     ensures { result ≡ code_number a }
 {
     match a {
-        CodeAnswer::Ok(n) => n,
-        CodeAnswer::Refused(f) => refused(f),
+        Ok(n) => n,
+        Err(f) => refused(f),
     }
 }
 

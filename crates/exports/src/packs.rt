@@ -1,20 +1,22 @@
 // A build from a pack, and all that the program prints. Answers of the build are numbers as in `builds`.
-ghost use Rattle.std.specs.Prelude.{◌≡◌};
+ghost use Rattle.std.specs.Prelude.{◌≡◌, Ok};
 ghost use Rattle.doubles.specs.Units.{scores_is, scores_was, scores_had};
 ghost use Rattle.build.specs.Memory.{scored_memory_is, scored_memory_was};
-ghost use Rattle.pack.specs.Build.{told, PackBuilt};
+ghost use Rattle.pack.specs.Build.{told, reported, PackBuilt};
 ghost use Rattle.exports.specs.Flat.{pack_number, pack_score, As, PrintedAs};
 ghost use Rattle.refusal.specs.Lent.{was};
 
 use crate::builds::{put_score, reason_number};
-use pack::PackAnswer;
+use pack::Summary;
+use refusal::Reason;
 
-// An answer of the build as one number, and its unknown score in the first of the lent places.
-fn pack_number(a: PackAnswer, unknown_score: &mut [f64]) -> u64
-    ensures { (result ≡ pack_number (told a)) × (scores_is unknown_score ≡ pack_score (told a) (scores_had unknown_score)) }
+// How many nodes a pack's trie has, and a Unigram pack's unknown score in the first of the lent places.
+fn summary_number(s: Summary, unknown_score: &mut [f64]) -> u64
+    ensures { (result ≡ pack_number (Ok (reported s)))
+        × (scores_is unknown_score ≡ pack_score (Ok (reported s)) (scores_had unknown_score)) }
 {
-    match a {
-        PackAnswer::Unigram {
+    match s {
+        Summary::Unigram {
             nodes,
             unknown: _,
             unknown_score: x,
@@ -22,14 +24,23 @@ fn pack_number(a: PackAnswer, unknown_score: &mut [f64]) -> u64
             put_score(unknown_score, x);
             nodes as u64
         }
-        PackAnswer::WordPiece {
+        Summary::WordPiece {
             nodes,
             unknown: _,
             max_chars: _,
             prefix_off: _,
             prefix_len: _,
         } => nodes as u64,
-        PackAnswer::Refused(r) => reason_number(r),
+    }
+}
+
+// An answer of the build as one number, and its unknown score in the first of the lent places.
+fn pack_number(a: Result<Summary, Reason>, unknown_score: &mut [f64]) -> u64
+    ensures { (result ≡ pack_number (told a)) × (scores_is unknown_score ≡ pack_score (told a) (scores_had unknown_score)) }
+{
+    match a {
+        Ok(s) => summary_number(s, unknown_score),
+        Err(r) => reason_number(r),
     }
 }
 

@@ -1,6 +1,7 @@
 -- What is printed of a pack that was judged: the refusal of one that has a fault, and else the lines in the trie that its build
 -- left in the first places of the lent columns, which is the pack's. Assumes nothing.
-use Rattle.std.specs.Prelude.{Option, None, Some, Result, Err, ℕ}
+use Rattle.pack.specs.declared.Summary.{Summary}
+use Rattle.std.specs.Prelude.{Option, None, Some, Result, Err, ℕ, Ok}
 use mathlib.Core.Path.{◌≡◌, refl, sym, ap, ap₂, ◌∙◌, subst}
 use mathlib.Core.Bool.{Bool, true, false, ◌&&◌}
 use mathlib.Core.List.{List, [], ◌∷◌, map}
@@ -42,6 +43,7 @@ use Rattle.pack.proofs.BuiltPacks as packs
 use Rattle.output.specs.Lines.{printed_refusal}
 use Rattle.output.specs.Output.{max_pack, places, lent_memory, score_places, coded_line, vocabulary_in, lines_printed, output_of, output}
 use Rattle.output.specs.Cut.{PrefixGiven, Cuttable, cut_to, LentBuilt}
+use Rattle.pack.specs.declared.Summary.TheVariants as summary_is
 
 -- ---- a pack that is too large
 
@@ -84,7 +86,7 @@ zeros (suc n) z e = ap₂ ◌∷◌ e (zeros n z e)
 
 -- the memory that the program lends
 pub lent-built :
-    (pack : List ℕ) (answer : Result Pack Reason) {after : Memory} (z : Float) → units z ≡ plus_zero
+    (pack : List ℕ) (answer : Result Summary Reason) {after : Memory} (z : Float) → units z ≡ plus_zero
     → PackBuilt pack (with_scores (memory places places places places places (replicate 8_192 0)) (map units (replicate 4_096 z))) answer after
     → PackBuilt pack lent_memory answer after
 unfolding lent_memory
@@ -106,7 +108,7 @@ module _ (pack edge_at edge_n id : List ℕ) (scores : List Float) (byte to : Li
   after work = with_scores (memory edge_at edge_n id byte to work) (map units scores)
 
   -- the lent columns have room for so many nodes
-  cuttable : {answer : Result Pack Reason} {n : ℕ} → LentBuilt pack answer edge_at edge_n id scores byte to → (1 ≤ n) × (n ≤ 4_096) → Cuttable n edge_at edge_n id scores byte to
+  cuttable : {answer : Result Summary Reason} {n : ℕ} → LentBuilt pack answer edge_at edge_n id scores byte to → (1 ≤ n) × (n ≤ 4_096) → Cuttable n edge_at edge_n id scores byte to
   cuttable j m =
       let p = j.places in
       record {
@@ -126,7 +128,7 @@ module _ (pack edge_at edge_n id : List ℕ) (scores : List Float) (byte to : Li
 
   -- ---- Unigram
 
-  module _ (n unknown : ℕ) (lowest : Float) (j : LentBuilt pack (PACKU n unknown lowest) edge_at edge_n id scores byte to) where
+  module _ (n unknown : ℕ) (lowest : Float) (j : LentBuilt pack (Ok (summary_is.Unigram n unknown lowest)) edge_at edge_n id scores byte to) where
     abbrev left : Memory
     left = after j.work
 
@@ -169,7 +171,7 @@ module _ (pack edge_at edge_n id : List ℕ) (scores : List Float) (byte to : Li
 
   -- ---- WordPiece
 
-  module _ (n unknown most off len : ℕ) (j : LentBuilt pack (PACKW n unknown most off len) edge_at edge_n id scores byte to) where
+  module _ (n unknown most off len : ℕ) (j : LentBuilt pack (Ok (summary_is.WordPiece n unknown most off len)) edge_at edge_n id scores byte to) where
     abbrev left' : Memory
     left' = after j.work
 

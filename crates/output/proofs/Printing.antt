@@ -1,6 +1,5 @@
 -- What an answer of the coder says of the line to print: a refusal is the fault, and else the first places hold the ids, no
 -- more than the line has bytes. Assumes nothing.
-use Rattle.std.specs.Result.{result_err}
 use Rattle.std.specs.Prelude.{Option, Result, Ok, Err, ℕ}
 use mathlib.Core.Path.{◌≡◌, sym, ap, ◌∙◌}
 use mathlib.Core.List.{List, []}
@@ -16,7 +15,7 @@ use Rattle.refusal.proofs.Codings.{refused-exactly, told-ids}
 use Rattle.text.proofs.Boundaries.{characters-le}
 use Rattle.unigram.specs.Segment.{Scratch, Lengths, lengths, lengths_of}
 use Rattle.unigram.specs.Checked.{scratch_of}
-use Rattle.coder.specs.Vocabulary.{Vocabulary, result_err, ids_in, CodedIn}
+use Rattle.coder.specs.Vocabulary.{Vocabulary, fault_in, ids_in, CodedIn}
 use Rattle.coder.proofs.Codes.{ids-few, places-enough, ids-stand}
 use Rattle.output.specs.Lines.{printed_ids, printed_refusal}
 use Rattle.output.specs.Output.{lent_places, printed, coded_line}
@@ -53,9 +52,9 @@ module _
     (p : CodedIn v s before answer after)
   where
     -- what a line prints, given what was found
-    prints : {o : Option Fault} → result_err v s (lengths_of before) ≡ o → printed o (ids_in v s) ≡ coded_line v s
+    prints : {o : Option Fault} → fault_in v s (lengths_of before) ≡ o → printed o (ids_in v s) ≡ coded_line v s
     unfolding coded_line
-    prints e = ap (λ (x : Option Fault). printed x (ids_in v s)) (sym e ∙ ap (result_err v s) lent)
+    prints e = ap (λ (x : Option Fault). printed x (ids_in v s)) (sym e ∙ ap (fault_in v s) lent)
 
     pub line_refused : {f : Fault} → answer ≡ Err f → printed_refusal [] f ≡ coded_line v s
     unfolding printed

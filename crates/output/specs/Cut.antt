@@ -1,4 +1,6 @@
 -- A pack's prefix, and a trie in the first places of lent columns. Definitions only; assumes nothing.
+use Rattle.refusal.specs.declared.Reason.{Reason}
+use Rattle.pack.specs.declared.Summary.{Summary}
 use Rattle.std.specs.Prelude.{List, [], map, ℕ, ◌-◌, ◌≤◌, ◌≡◌, Float, length, take, Result}
 use Rattle.doubles.specs.Units.{units}
 use Rattle.refusal.specs.Refusal.{unless_fault}
@@ -34,7 +36,7 @@ cut_to coder n edge_at edge_n id score byte to prefix =
 
 -- the pack was judged, and built where it is fine, in the columns that the program lends; what the work places hold afterwards
 -- is no matter
-pub record LentBuilt (pack : List ℕ) (answer : Result Pack Reason) (edge_at edge_n id : List ℕ) (scores : List Float)
+pub record LentBuilt (pack : List ℕ) (answer : Result Summary Reason) (edge_at edge_n id : List ℕ) (scores : List Float)
     (byte to : List ℕ) : Type 0 where
   pub work : List ℕ
   pub built : PackBuilt pack lent_memory answer (with_scores (memory edge_at edge_n id byte to work) (map units scores))

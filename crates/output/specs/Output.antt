@@ -1,6 +1,5 @@
 -- What the program `ids` prints: a function of the bytes of `vocab.pack` and of standard input. Definitions only; assumes
 -- nothing.
-use Rattle.std.specs.Result.{result_err}
 use Rattle.std.specs.Prelude.{ℕ, ◌+◌, ◌*◌, true, false, length, replicate, Option, None, Some}
 use mathlib.Core.List.{List, [], flat_map}
 use Rattle.doubles.specs.Double.{Double, plus_zero}
@@ -14,7 +13,7 @@ use Rattle.rows.specs.declared.Kind.TheVariants.{Unigram, WordPiece}
 use Rattle.build.specs.Memory.{Memory, memory, with_scores}
 use Rattle.build.specs.Promise.{trie_in}
 use Rattle.unigram.specs.Segment.{Lengths, lengths}
-use Rattle.coder.specs.Vocabulary.{Vocabulary, unigram_of, wordpiece_of, result_err, ids_in}
+use Rattle.coder.specs.Vocabulary.{Vocabulary, unigram_of, wordpiece_of, fault_in, ids_in}
 use Rattle.pack.specs.Pack.{header_of, rows_of, strings_of, prefix_of}
 use Rattle.pack.specs.Build.{pack_fault, the_kind, unigram_model}
 use Rattle.output.specs.Lines.{lines, printed_ids, printed_refusal}
@@ -51,7 +50,7 @@ printed (Some f) ids = printed_refusal [] f
 
 -- what one line prints in a vocabulary
 unfoldable pub coded_line : Vocabulary → List ℕ → List ℕ
-coded_line v line = printed (result_err v line lent_places) (ids_in v line)
+coded_line v line = printed (fault_in v line lent_places) (ids_in v line)
 
 -- the vocabulary of a pack of this kind that is not refused
 unfoldable pub vocabulary_in : Kind → List ℕ → Vocabulary

@@ -13,7 +13,6 @@ ghost use Rattle.refusal.specs.Lent.{was};
 use crate::lines::line_end;
 use crate::put::{put_first, put_refusal};
 use coder::Coder;
-use refusal::CodeAnswer;
 
 // One line: its ids, or its refusal. Either takes at most 11 bytes for each byte of the line, and 11. `sound` is what was found
 // of the parts. The scratch may hold anything: what a line before it left there has no effect.
@@ -42,13 +41,13 @@ pub(crate) fn put_line(
     ensures { Put out.old at (coded_line (vocabulary coder edge_at edge_n id score byte to prefix) (was line)) result
         out.new × (result ≤ at + 11 * length (was line) + 11) }
 {
-    let answer = coder::checked::code(
+    let coded = coder::checked::code(
         coder, sound, edge_at, edge_n, id, score, byte, to, prefix, line, start, slot_id,
         slot_score, path, ids,
     );
-    match answer {
-        CodeAnswer::Refused(f) => put_refusal(out, at, b"", f),
-        CodeAnswer::Ids(n) => put_first(out, at, ids, n),
+    match coded {
+        Ok(n) => put_first(out, at, ids, n),
+        Err(f) => put_refusal(out, at, b"", f),
     }
 }
 

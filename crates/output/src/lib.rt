@@ -2,14 +2,14 @@
 #![tactic(auto)]
 
 use coder::Coder;
-use pack::PackAnswer;
-use refusal::Fault;
+use pack::Summary;
+use refusal::{Fault, Reason};
 
 mod coded;
 mod lines;
 mod put;
 
-ghost use Rattle.std.specs.Prelude.{◌≤◌, length};
+ghost use Rattle.std.specs.Prelude.{◌≤◌, length, Ok};
 ghost use Rattle.pack.specs.Pack.{header_of};
 ghost use Rattle.output.specs.Output.{coded_line, lines_printed, output_of, output, max_output};
 ghost use Rattle.output.specs.Put.{Put};
@@ -72,9 +72,56 @@ fn print_lines(
     )
 }
 
+// What is printed for all lines in the vocabulary that was built.
+fn print_summary(
+    summary: Summary,
+    pack: &[u8],
+    edge_at: &[u32],
+    edge_n: &[u16],
+    id: &[u32],
+    score: &[f64],
+    byte: &[u8],
+    to: &[u32],
+    input: &[u8],
+    out: &mut [u8],
+) -> usize
+    requires { LentBuilt pack.now (Ok summary) edge_at.now edge_n.now id.now score.now byte.now to.now
+        × (max_output ≤ length out.old) }
+    ensures { Put out.old 0 (output_of (was pack) (was input)) result out.new }
+{
+    match summary {
+        Summary::Unigram {
+            nodes,
+            unknown,
+            unknown_score,
+        } => {
+            let coder = Coder::Unigram {
+                unknown,
+                unknown_score,
+            };
+            print_lines(
+                coder, nodes, edge_at, edge_n, id, score, byte, to, b"", input, out,
+            )
+        }
+        Summary::WordPiece {
+            nodes,
+            unknown,
+            max_chars,
+            prefix_off,
+            prefix_len,
+        } => {
+            let prefix = prefix_of(pack, prefix_off, prefix_len);
+            let coder = Coder::WordPiece { unknown, max_chars };
+            print_lines(
+                coder, nodes, edge_at, edge_n, id, score, byte, to, prefix, input, out,
+            )
+        }
+    }
+}
+
 // What is printed once the pack is judged: its refusal, or the lines.
 fn print_built(
-    answer: PackAnswer,
+    answer: Result<Summary, Reason>,
     pack: &[u8],
     edge_at: &[u32],
     edge_n: &[u16],
@@ -90,33 +137,10 @@ fn print_built(
     ensures { Put out.old 0 (output_of (was pack) (was input)) result out.new }
 {
     match answer {
-        PackAnswer::Refused(r) => put::put_refusal(out, 0, b"pack ", refusal::fault_of(r)),
-        PackAnswer::Unigram {
-            nodes,
-            unknown,
-            unknown_score,
-        } => {
-            let coder = Coder::Unigram {
-                unknown,
-                unknown_score,
-            };
-            print_lines(
-                coder, nodes, edge_at, edge_n, id, score, byte, to, b"", input, out,
-            )
-        }
-        PackAnswer::WordPiece {
-            nodes,
-            unknown,
-            max_chars,
-            prefix_off,
-            prefix_len,
-        } => {
-            let prefix = prefix_of(pack, prefix_off, prefix_len);
-            let coder = Coder::WordPiece { unknown, max_chars };
-            print_lines(
-                coder, nodes, edge_at, edge_n, id, score, byte, to, prefix, input, out,
-            )
-        }
+        Ok(summary) => print_summary(
+            summary, pack, edge_at, edge_n, id, score, byte, to, input, out,
+        ),
+        Err(r) => put::put_refusal(out, 0, b"pack ", r.fault()),
     }
 }
 

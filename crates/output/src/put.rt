@@ -93,6 +93,6 @@ pub(crate) fn put_refusal(out: &mut [u8], at: usize, what: &[u8], f: Fault) -> u
     let named = put_text(out, at, what);
     let told = put_text(out, named, b"refused");
     let apart = put_byte(out, told, 0x20);
-    let end = put_number(out, apart, refusal::number(f));
+    let end = put_number(out, apart, f.number());
     put_byte(out, end, 0x0A)
 }

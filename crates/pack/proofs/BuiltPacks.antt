@@ -1,7 +1,7 @@
 -- What a reader may rely on after `build`: the lent columns, cut to the counts, are the pack's trie, with its scores for
 -- Unigram; these parts are sound, so `segment` and `encode` never refuse them with 8. The cut is the trie since N nodes have N
 -- places of each node column and N - 1 edges, and the rest of each column is behind them. Assumes nothing.
-use Rattle.std.specs.Prelude.{Option, None, Some, ℕ}
+use Rattle.std.specs.Prelude.{Option, None, Some, ℕ, Ok}
 use mathlib.Core.Path.{◌≡◌, refl, sym, ap, ◌∙◌, subst}
 use mathlib.Core.Bool.{true}
 use mathlib.Core.List.{List}
@@ -42,6 +42,7 @@ use Rattle.pack.specs.Reading.{PackFine}
 use Rattle.pack.proofs.Faults.{judged-wrong, judged-laid, rows-fine, prefix-inside, prefix-text}
 use Rattle.pack.proofs.Scoring.{scores-length, scores-at}
 use Rattle.pack.proofs.Promised.{few-rows}
+use Rattle.pack.specs.declared.Summary.TheVariants as summary_is
 
 -- ---- a pack that was built has no fault
 
@@ -144,7 +145,7 @@ told-wordpiece bytes {n = n} {u = u} {c = c} {off = off} {len = len} e =
     record { kind = k; count = cc; unknown = cc; most = cc; start = cc; size = cc }
 
 -- of a Unigram pack
-module _ (bytes : List ℕ) (m after : Memory) (n unknown : ℕ) (lowest : Float) (good : Bytes bytes) (b : PackBuilt bytes m (PACKU n unknown lowest) after) where
+module _ (bytes : List ℕ) (m after : Memory) (n unknown : ℕ) (lowest : Float) (good : Bytes bytes) (b : PackBuilt bytes m (Ok (summary_is.Unigram n unknown lowest)) after) where
   said : ToldUnigram bytes n unknown (units lowest)
   unfolding told
   said = told-unigram bytes (built-says b refl)
@@ -214,7 +215,7 @@ module _ (bytes : List ℕ) (m after : Memory) (n unknown : ℕ) (lowest : Float
   unigram-not-refused = tries.sound-not-refused given unigram-sound
 
 -- of a WordPiece pack
-module _ (bytes : List ℕ) (m after : Memory) (n unknown most off len : ℕ) (good : Bytes bytes) (b : PackBuilt bytes m (PACKW n unknown most off len) after) where
+module _ (bytes : List ℕ) (m after : Memory) (n unknown most off len : ℕ) (good : Bytes bytes) (b : PackBuilt bytes m (Ok (summary_is.WordPiece n unknown most off len)) after) where
   spoke : ToldWordPiece bytes n unknown most off len
   unfolding told
   spoke = told-wordpiece bytes (built-says b refl)

@@ -18,12 +18,13 @@ use Rattle.build.specs.Memory.{zero_scores}
 use Rattle.scored.specs.NodeScores.{filled_scores}
 use Rattle.pack.specs.declared.header.Header.{Header}
 use Rattle.pack.specs.Pack.{header_of, rows_from, rows_of, strings_of}
-use Rattle.pack.specs.Build.{nodes_of, unigram, wordpiece, told, report_of}
+use Rattle.pack.specs.Build.{nodes_of, unigram, wordpiece, reported, report_of}
 use Rattle.pack.specs.Reading.{FineRows, FiniteRows, PackFine, ScoresLeft}
 use Rattle.pack.proofs.Headers.{rows_inside, kind-laid, few-rows}
 use Rattle.pack.proofs.Resting.{none-bad}
 use Rattle.pack.proofs.Faults.{strings-start, strings-are, not-large, rows-fine}
 use Rattle.pack.proofs.Scoring.{fine-finite}
+use Rattle.pack.specs.declared.Summary.TheVariants as summary_is
 
 -- what is told of each kind
 unigram-told :
@@ -74,23 +75,20 @@ module _ {bytes : List ℕ} {kind : Kind} {h : Header} (f : PackFine bytes kind 
 
   pub told-unigram :
       {n : ℕ} (x : Float) → kind ≡ Unigram → units x ≡ unknown_score (scores_of (rows_from Unigram bytes 36 h.rows)) → n ≡ nodes_of kind bytes
-      → told (PACKU n h.unknown x) ≡ Ok (report_of kind bytes)
-  unfolding told
+      → reported (summary_is.Unigram n h.unknown x) ≡ report_of kind bytes
   told-unigram {n = n} x k e c =
       let u : h.unknown ≡ (header_of bytes).unknown = ap (λ (y : Header). y.unknown) f.header in
       let s : units x ≡ unknown_score (scores_of (rows_of Unigram bytes)) = e ∙ ap (λ rows. unknown_score (scores_of rows)) (rows-read Unigram) in
       let count : n ≡ nodes_of Unigram bytes = c ∙ ap (λ (y : Kind). nodes_of y bytes) k in
-      ap Ok ((λ i. unigram (count i) (u i) (s i)) ∙ unigram-told bytes ∙ ap (λ (y : Kind). report_of y bytes) (sym k))
+      (λ i. unigram (count i) (u i) (s i)) ∙ unigram-told bytes ∙ ap (λ (y : Kind). report_of y bytes) (sym k)
 
   pub told-wordpiece :
       {n : ℕ} → kind ≡ WordPiece → n ≡ nodes_of kind bytes
-      → told (PACKW n h.unknown h.max_chars h.prefix_off h.prefix_len) ≡ Ok (report_of kind bytes)
-  unfolding told
+      → reported (summary_is.WordPiece n h.unknown h.max_chars h.prefix_off h.prefix_len) ≡ report_of kind bytes
   told-wordpiece {n = n} k c =
       let count : n ≡ nodes_of WordPiece bytes = c ∙ ap (λ (y : Kind). nodes_of y bytes) k in
-      ap Ok
-      ((λ i. wordpiece (count i) (f.header i).unknown (f.header i).max_chars (f.header i).prefix_off (f.header i).prefix_len)
-      ∙ wordpiece-told bytes ∙ ap (λ (y : Kind). report_of y bytes) (sym k))
+      (λ i. wordpiece (count i) (f.header i).unknown (f.header i).max_chars (f.header i).prefix_off (f.header i).prefix_len)
+      ∙ wordpiece-told bytes ∙ ap (λ (y : Kind). report_of y bytes) (sym k)
 
   -- ---- the score column
 

@@ -129,8 +129,8 @@ module _ {bytes : List ℕ} {kind : Kind} {h : Header} (f : PackFine bytes kind 
             s.bare k ∙ ap (λ (j : ℕ). replicate j plus_zero) all
 
         pub fine-built :
-            {a : Result Report Reason} {now : List Double} → (n ≡ nodes_of kind bytes → a ≡ Ok (report_of kind bytes)) → ScoresLeft bytes kind after.parts.id n was now
-            → Promised (the_kind bytes) strings (rows_of (the_kind bytes) bytes) (pack_judged bytes) (no_scored_room (nodes_of (the_kind bytes) bytes) (with_scores m was)) (report_of (the_kind bytes) bytes) (with_scores m was) a (with_scores after now)
-        fine-built {a = a} {now = now} t s =
-            subst (λ (k : Kind). Of k a (with_scores after now)) kind-is
-            (core-held kind strings rows (report_of kind bytes) m after was now said fine decides e (t nodes-counted) (scores-held kind refl s))
+            {s : Report} {now : List Double} → (n ≡ nodes_of kind bytes → s ≡ report_of kind bytes) → ScoresLeft bytes kind after.parts.id n was now
+            → Promised (the_kind bytes) strings (rows_of (the_kind bytes) bytes) (pack_judged bytes) (no_scored_room (nodes_of (the_kind bytes) bytes) (with_scores m was)) (report_of (the_kind bytes) bytes) (with_scores m was) (Ok s) (with_scores after now)
+        fine-built {s = summary} {now = now} t s =
+            subst (λ (k : Kind). Of k (Ok summary) (with_scores after now)) kind-is
+            (core-held kind strings rows (report_of kind bytes) m after was now said fine decides e (ap Ok (t nodes-counted)) (scores-held kind refl s))

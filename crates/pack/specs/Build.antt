@@ -1,4 +1,5 @@
 -- What `pack::build` promises: the promise of every build, of the pack's rows. Definitions only; assumes nothing.
+use Rattle.pack.specs.declared.Summary.{Summary}
 use Rattle.std.specs.Prelude.{ℕ, Bool, ◌||◌, List, Option, None, Some, Result, Err, Ok}
 use Rattle.doubles.specs.Double.{Double}
 use Rattle.doubles.specs.Units.{units}
@@ -21,6 +22,7 @@ use Rattle.build.specs.Promise.{trie_in, scores_in, build_fault, Promised}
 use Rattle.unigram.specs.Pieces.{Model}
 use Rattle.pack.specs.declared.header.Header.{Header}
 use Rattle.pack.specs.Pack.{header_of, kind_of, rows_of, strings_of}
+use Rattle.pack.specs.declared.Summary.TheVariants as summary_is
 
 -- how many nodes the pack's trie has
 abbrev pub nodes_of : Kind → List ℕ → ℕ
@@ -50,9 +52,12 @@ pub data Report : Type 0 where
   unigram : ℕ → ℕ → Double → Report
   wordpiece : ℕ → ℕ → ℕ → ℕ → ℕ → Report
 
-unfoldable pub told : Result Pack Reason → Result Report Reason
-told (PACKU n u x) = Ok (unigram n u (units x))
-told (PACKW n u c off len) = Ok (wordpiece n u c off len)
+abbrev pub reported : Summary → Report
+reported (summary_is.Unigram n u x) = unigram n u (units x)
+reported (summary_is.WordPiece n u c off len) = wordpiece n u c off len
+
+unfoldable pub told : Result Summary Reason → Result Report Reason
+told (Ok v) = Ok (reported v)
 told (Err r) = Err r
 
 unfoldable pub report_of : Kind → List ℕ → Report
@@ -80,7 +85,7 @@ unigram_model bytes =
     }
 
 -- What `build` promises of its answer and of the memory lent to it, before and after.
-abbrev pub PackBuilt : List ℕ → Memory → Result Pack Reason → Memory → Type 0
+abbrev pub PackBuilt : List ℕ → Memory → Result Summary Reason → Memory → Type 0
 PackBuilt bytes before answer after =
     let kind = the_kind bytes in
     Promised kind (strings_of bytes) (rows_of kind bytes) (pack_judged bytes) (no_scored_room (nodes_of kind bytes) before)

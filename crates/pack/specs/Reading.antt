@@ -1,6 +1,7 @@
 -- What the code's header, layout and rows stand for, and what is known of a pack whose rows are read. Definitions only; assumes
 -- nothing.
-use Rattle.std.specs.Prelude.{◌≡◌, true, false, List, ℕ, ◌+◌, ◌*◌, ◌^◌, ◌≤◌, ◌<◌, length, take, Option, None, Some, Result, Err}
+use Rattle.refusal.specs.declared.Reason.{Reason}
+use Rattle.std.specs.Prelude.{◌≡◌, true, false, List, ℕ, ◌+◌, ◌*◌, ◌^◌, ◌≤◌, ◌<◌, length, take, Option, None, Some, Result, Err, Ok}
 use Rattle.doubles.specs.Double.{Double, is_finite, of_pattern}
 use Rattle.refusal.specs.Sizes.{max_rows}
 use Rattle.rows.specs.declared.Kind.{Kind}
@@ -13,11 +14,6 @@ use Rattle.scored.specs.NodeScores.{filled_scores}
 use Rattle.pack.specs.declared.header.Header.{Header}
 use Rattle.pack.specs.Pack.{header_of, kind_of, word, row_at, rows_of}
 use Rattle.pack.specs.Build.{content_fault, pack_judged}
-
--- the kind that a layout names
-abbrev pub kind_in : Option Kind → Option Kind
-kind_in (Some kind) = Some kind
-kind_in None = None
 
 -- ---- one row
 
@@ -81,7 +77,7 @@ pub record PackFine (bytes : List ℕ) (kind : Kind) (h : Header) : Type 0 where
 -- what was found before the room is looked at
 abbrev pub FoundIs : List ℕ → Result (Kind × Header) Reason → Type 0
 FoundIs bytes (Err r) = pack_judged bytes ≡ Some r
-FoundIs bytes (FINE kind h) = PackFine bytes kind h
+FoundIs bytes (Ok (kind, h)) = PackFine bytes kind h
 
 -- ---- the score column
 

@@ -2,13 +2,12 @@
 ghost use Rattle.std.specs.Prelude.{◌≡◌, ◌≤◌, length, Ok};
 ghost use Rattle.doubles.specs.Units.{scores_is, scores_was, scores_had};
 ghost use Rattle.build.specs.Memory.{scored_memory_is, scored_memory_was};
-ghost use Rattle.pack.specs.Build.{told, report_of, nodes_of, PackBuilt};
+ghost use Rattle.pack.specs.Build.{reported, report_of, nodes_of, PackBuilt};
 ghost use Rattle.pack.specs.Reading.{PackFine, ScoresLeft};
 ghost use Rattle.refusal.specs.Lent.{was};
 
-use crate::PackAnswer;
+use crate::Summary;
 use crate::header::Header;
-use build::Built;
 use refusal::{Fault, Reason};
 use rows::Kind;
 
@@ -31,17 +30,17 @@ fn fill_scores(
 }
 
 // What is answered of a trie of n nodes.
-fn summary(kind: Kind, h: Header, bytes: &[u8], n: u32) -> PackAnswer
+fn reported(kind: Kind, h: Header, bytes: &[u8], n: u32) -> Summary
     requires { PackFine bytes.now kind h }
-    ensures { n ≡ nodes_of kind (was bytes) → told result ≡ Ok (report_of kind (was bytes)) }
+    ensures { n ≡ nodes_of kind (was bytes) → reported result ≡ report_of kind (was bytes) }
 {
     match kind {
-        Kind::Unigram => PackAnswer::Unigram {
+        Kind::Unigram => Summary::Unigram {
             nodes: n,
             unknown: h.unknown,
             unknown_score: crate::scores::unknown_score(bytes, h.rows as usize),
         },
-        Kind::WordPiece => PackAnswer::WordPiece {
+        Kind::WordPiece => Summary::WordPiece {
             nodes: n,
             unknown: h.unknown,
             max_chars: h.max_chars,
@@ -63,7 +62,7 @@ pub fn build_fine(
     byte: &mut [u8],
     to: &mut [u32],
     work: &mut [u32],
-) -> PackAnswer
+) -> Result<Summary, Reason>
     requires { PackFine bytes.now kind h }
     ensures { PackBuilt (was bytes) (scored_memory_was edge_at edge_n node_id node_score byte to work) result
         (scored_memory_is edge_at edge_n node_id node_score byte to work) }
@@ -84,13 +83,13 @@ pub fn build_fine(
         room,
     );
     match built {
-        Built::NoRoom => {
+        None => {
             scored::scores::zero(node_score);
-            PackAnswer::Refused(Reason::Call(Fault::Room))
+            Err(Reason::Call(Fault::Room))
         }
-        Built::Nodes(n) => {
+        Some(n) => {
             fill_scores(kind, h, bytes, node_id, n, node_score);
-            summary(kind, h, bytes, n as u32)
+            Ok(reported(kind, h, bytes, n as u32))
         }
     }
 }

@@ -14,7 +14,6 @@ ghost use Rattle.refusal.specs.Lent.{was};
 
 use crate::header::{HEADER, ROW};
 use crate::row::row_at;
-use build::Built;
 use build::steps::{finish, start};
 use build::tokens::enter_token;
 use rows::{Kind, Worth};
@@ -96,7 +95,7 @@ pub fn build_rows(
     to: &mut [u32],
     work: &mut [u32],
     room: usize,
-) -> Built
+) -> Option<usize>
     requires { FineRows kind bytes.now strings.now rows × (room ≤ room_of
         (memory_now edge_at edge_n id byte to work)) }
     ensures { BuiltOf kind (was strings) (rows_from kind (was bytes) 36 rows) room

@@ -2,7 +2,7 @@
 ghost use Rattle.std.specs.Prelude.{◌≡◌, ◌&&◌, ◌+◌, ◌*◌, ◌≤◌, eqb, length};
 ghost use Rattle.trie.specs.Sound.{every};
 ghost use Rattle.pack.specs.Pack.{word, header_of, laid_out, kind_laid_out, kind_of};
-ghost use Rattle.pack.specs.Reading.{kind_in, row_start};
+ghost use Rattle.pack.specs.Reading.{row_start};
 ghost use Rattle.refusal.specs.Lent.{was};
 
 use rows::Kind;
@@ -24,13 +24,6 @@ pub struct Header {
     pub max_chars: u32,
     pub prefix_off: u32,
     pub prefix_len: u32,
-}
-
-// The kind of a pack that is laid out rightly.
-#[derive(Clone, Copy)]
-pub enum Layout {
-    Of(Kind),
-    Wrong,
 }
 
 // The little-endian word at byte `at`.
@@ -106,32 +99,32 @@ fn is_padded(bytes: &[u8], rows: usize) -> bool
 }
 
 // The kind of a file whose parts stand where they should.
-fn kind_laid_out(bytes: &[u8], h: Header) -> Layout
+fn kind_laid_out(bytes: &[u8], h: Header) -> Option<Kind>
     requires { row_start h.rows ≤ length bytes.now }
-    ensures { kind_in result ≡ kind_laid_out (was bytes) (h) }
+    ensures { result ≡ kind_laid_out (was bytes) (h) }
 {
     if h.kind == 1 {
         if is_bare(h) {
-            return Layout::Of(Kind::Unigram);
+            return Some(Kind::Unigram);
         }
-        return Layout::Wrong;
+        return None;
     }
     if h.kind != 2 {
-        return Layout::Wrong;
+        return None;
     }
     if is_padded(bytes, h.rows as usize) {
-        return Layout::Of(Kind::WordPiece);
+        return Some(Kind::WordPiece);
     }
-    Layout::Wrong
+    None
 }
 
 // The kind of a file with this header.
-pub(crate) fn layout_of(bytes: &[u8], h: Header) -> Layout
+pub(crate) fn layout_of(bytes: &[u8], h: Header) -> Option<Kind>
     requires { (36 ≤ length bytes.now) × (h ≡ header_of bytes.now) }
-    ensures { kind_in result ≡ kind_of (was bytes) }
+    ensures { result ≡ kind_of (was bytes) }
 {
     if !is_laid_out(bytes, h) {
-        return Layout::Wrong;
+        return None;
     }
     kind_laid_out(bytes, h)
 }

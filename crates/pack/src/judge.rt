@@ -6,17 +6,9 @@ ghost use Rattle.pack.specs.Build.{large_header, content_fault};
 ghost use Rattle.pack.specs.Reading.{FoundIs};
 ghost use Rattle.refusal.specs.Lent.{was};
 
-use crate::header::{Header, Layout};
-use refusal::{Fault, Judged, MAX_PREFIX, Reason};
+use crate::header::Header;
+use refusal::{Fault, MAX_PREFIX, Reason};
 use rows::Kind;
-use rows::columns::RowsAnswer;
-
-// What is found of a pack: why it is refused, or its kind and header.
-#[derive(Clone, Copy)]
-pub enum Found {
-    Refused(Reason),
-    Fine(Kind, Header),
-}
 
 // Whether a number of the header is above its limit.
 fn is_large(h: Header) -> bool
@@ -29,38 +21,30 @@ fn is_large(h: Header) -> bool
 }
 
 // The sizes, the rows, and then the prefix's span and text.
-fn judge_rows(kind: Kind, bytes: &[u8], h: Header) -> RowsAnswer
+fn judge_rows(kind: Kind, bytes: &[u8], h: Header) -> Result<(), Reason>
     requires { (h ≡ header_of bytes.now) × (kind_of bytes.now ≡ Some kind) }
     ensures { result_err result ≡ content_fault kind (was bytes) }
 {
     if is_large(h) {
-        return RowsAnswer::Refused(Reason::Call(Fault::Size));
+        return Err(Reason::Call(Fault::Size));
     }
     let start = h.strings_off as usize;
-    let found = crate::row::first_bad(kind, bytes, &bytes[start..], h.rows as usize);
-    if let RowsAnswer::Refused(r) = found {
-        return RowsAnswer::Refused(r);
-    }
-    let spelled = text::text_answer(&bytes[start..], h.prefix_off, h.prefix_len);
-    match spelled {
-        Judged::Bad(f) => RowsAnswer::Refused(Reason::Call(f)),
-        Judged::Fine => RowsAnswer::Fine,
-    }
+    crate::row::first_bad(kind, bytes, &bytes[start..], h.rows as usize)?;
+    text::text_answer(&bytes[start..], h.prefix_off, h.prefix_len)?;
+    Ok(())
 }
 
 // The layout, and then the rest.
-pub fn judge(bytes: &[u8]) -> Found
+pub fn judge(bytes: &[u8]) -> Result<(Kind, Header), Reason>
     ensures { FoundIs (was bytes) result }
 {
     if bytes.len() < crate::header::HEADER {
-        return Found::Refused(Reason::Call(Fault::Pack));
+        return Err(Reason::Call(Fault::Pack));
     }
     let h = crate::header::read_header(bytes);
-    let Layout::Of(kind) = crate::header::layout_of(bytes, h) else {
-        return Found::Refused(Reason::Call(Fault::Pack));
+    let Some(kind) = crate::header::layout_of(bytes, h) else {
+        return Err(Reason::Call(Fault::Pack));
     };
-    match judge_rows(kind, bytes, h) {
-        RowsAnswer::Refused(r) => Found::Refused(r),
-        RowsAnswer::Fine => Found::Fine(kind, h),
-    }
+    judge_rows(kind, bytes, h)?;
+    Ok((kind, h))
 }

@@ -1,7 +1,6 @@
 // The pack file: a vocabulary's header, rows and strings, and the build from it.
 #![tactic(auto)]
 
-use crate::judge::Found;
 use refusal::Reason;
 
 mod checked;
@@ -15,10 +14,10 @@ ghost use Rattle.build.specs.Memory.{scored_memory_is, scored_memory_was};
 ghost use Rattle.pack.specs.Build.{PackBuilt};
 ghost use Rattle.refusal.specs.Lent.{was};
 
-// What `build` answers: the kind with what `segment` or `encode` is to be given, or why nothing was built.
-// The prefix is the `prefix_len` bytes of the strings from `prefix_off` on.
+// What an accepted build reports: the kind with what `segment` or `encode` is to be given. The prefix is the `prefix_len` bytes
+// of the strings from `prefix_off` on.
 #[derive(Clone, Copy)]
-pub enum PackAnswer {
+pub enum Summary {
     Unigram {
         nodes: u32,
         unknown: u32,
@@ -31,7 +30,6 @@ pub enum PackAnswer {
         prefix_off: u32,
         prefix_len: u32,
     },
-    Refused(Reason),
 }
 
 // The trie of a pack's rows, in the lent columns. Refused are a wrong header or layout, sizes above their limits, the first bad
@@ -47,15 +45,12 @@ pub fn build(
     byte: &mut [u8],
     to: &mut [u32],
     work: &mut [u32],
-) -> PackAnswer
+) -> Result<Summary, Reason>
     ensures { PackBuilt (was bytes) (scored_memory_was edge_at edge_n node_id node_score byte to work) result
         (scored_memory_is edge_at edge_n node_id node_score byte to work) }
 {
-    let found = judge::judge(bytes);
-    match found {
-        Found::Refused(r) => PackAnswer::Refused(r),
-        Found::Fine(kind, h) => checked::build_fine(
-            kind, h, bytes, edge_at, edge_n, node_id, node_score, byte, to, work,
-        ),
-    }
+    let (kind, h) = judge::judge(bytes)?;
+    checked::build_fine(
+        kind, h, bytes, edge_at, edge_n, node_id, node_score, byte, to, work,
+    )
 }

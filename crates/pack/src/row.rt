@@ -11,8 +11,7 @@ ghost use Rattle.refusal.specs.Lent.{was};
 
 use crate::header::{HEADER, ROW, word};
 use doubles::Pattern;
-use refusal::{Judged, Reason};
-use rows::columns::RowsAnswer;
+use refusal::Reason;
 use rows::{Kind, Row, Worth};
 
 // The pattern of the positive infinity.
@@ -64,17 +63,17 @@ pub fn row_at(kind: Kind, bytes: &[u8], at: usize) -> Row
 }
 
 // The first bad one of the rows.
-pub fn first_bad(kind: Kind, bytes: &[u8], strings: &[u8], rows: usize) -> RowsAnswer
+pub fn first_bad(kind: Kind, bytes: &[u8], strings: &[u8], rows: usize) -> Result<(), Reason>
     requires { (row_start rows ≤ length bytes.now) × (rows ≤ max_rows) }
     ensures { result_err result ≡ first_bad kind (was strings) 0 (rows_from kind (was bytes) 36 rows) }
 {
     let mut i: usize = 0;
     while i < rows {
         let row = row_at(kind, bytes, HEADER + ROW * i);
-        if let Judged::Bad(f) = rows::row_fault(kind, strings, row) {
-            return RowsAnswer::Refused(Reason::Row(f, i as u32));
+        if let Err(f) = rows::row_fault(kind, strings, row) {
+            return Err(Reason::Row(f, i as u32));
         }
         i += 1;
     }
-    RowsAnswer::Fine
+    Ok(())
 }

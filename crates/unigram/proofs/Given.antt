@@ -1,10 +1,10 @@
 -- What a piece is in a Unigram trie meets what the laws of the records ask of any rule: for a well-formed text and sound scored
 -- parts. A node that a walk ends in is one of the parts, so its score is finite; the character at a boundary ends at the next.
 -- Assumes nothing.
-use Rattle.std.specs.Prelude.{Option, None, Some}
+use Rattle.std.specs.Prelude.{Option, None, Some, option_to_list}
 use mathlib.Core.Path.{◌≡◌, refl, sym, ap, subst, ◌∙◌}
 use mathlib.Core.Bool.{Bool, true, false, ◌&&◌, cond}
-use mathlib.Core.List.{List, Option-to_list}
+use mathlib.Core.List.{List}
 use mathlib.Core.Logic.{◌⊎◌, inl, inr, ⊎_elim}
 use Prim.Native.Nat.{ℕ, zero, suc, ◌+◌, ◌-◌, ◌≤◌, ◌<◌}
 use native.Mathlib.Omega.{arith}
@@ -88,15 +88,15 @@ one-there None u = (u, refl)
 one-there (Some p) u = (p, refl)
 
 -- what a list of at most one piece has
-listed_has : (o : Option Piece) (k : ℕ) (p : Piece) → nth (Option-to_list o) k ≡ Some p → o ≡ Some p
-unfolding nth Option-to_list
+listed_has : (o : Option Piece) (k : ℕ) (p : Piece) → nth (option_to_list o) k ≡ Some p → o ≡ Some p
+unfolding nth
 listed_has None k p e = none-some e
 listed_has (Some q) zero p e = e
 listed_has (Some q) (suc k) p e = none-some e
 
-listed-first : (o : Option Piece) (p : Piece) → o ≡ Some p → nth (Option-to_list o) 0 ≡ Some p
-unfolding nth Option-to_list
-listed-first o p e = ap (λ (q : Option Piece). nth (Option-to_list q) 0) e
+listed-first : (o : Option Piece) (p : Piece) → o ≡ Some p → nth (option_to_list o) 0 ≡ Some p
+unfolding nth
+listed-first o p e = ap (λ (q : Option Piece). nth (option_to_list q) 0) e
 
 back-number : (x y : Double) → T (is_number (sum x y)) → T (is_number x)
 unfolding sum is_number

@@ -1,10 +1,10 @@
 -- The work at one boundary. A walk from it offers each string with an id at its end, byte by byte: what the walk has come to
 -- says which string that is, and where it stops no longer one has an id (`offered-all`). With the one character that has none,
 -- that is every piece (`worked-all`), so the slots hold the records of one start more. Assumes nothing.
-use Rattle.std.specs.Prelude.{Option, None, Some, option_and_then, Option-elim}
+use Rattle.std.specs.Prelude.{Option, None, Some, option_and_then, option_to_list, is_some}
 use mathlib.Core.Path.{◌≡◌, refl, sym, ap, subst, ◌∙◌}
 use mathlib.Core.Bool.{Bool, true, false, ◌&&◌, ◌||◌, cond}
-use mathlib.Core.List.{List, [], ◌∷◌, ◌++◌, Option-to_list}
+use mathlib.Core.List.{List, [], ◌∷◌, ◌++◌}
 use mathlib.Core.Logic.{◌⊎◌, inl, inr, ⊎_elim}
 use Prim.Native.Nat.{ℕ, suc, ◌+◌, ◌-◌, ◌≤◌, ◌<◌}
 use native.Mathlib.Omega.{arith}
@@ -24,7 +24,7 @@ use Rattle.cutting.specs.Records.{candidate}
 use Rattle.unigram.specs.Pieces.{Model, piece_at, known, piece_of, rule}
 use Rattle.cutting.specs.Slots.{Slots, slot_at, PutAt, taken, after_offer}
 use Rattle.cutting.specs.Law.{Holds}
-use Rattle.unigram.specs.Work.{is_some, ends_here, Ended, known_to, KnownOffered, Ready, Recorded}
+use Rattle.unigram.specs.Work.{ends_here, Ended, known_to, KnownOffered, Ready, Recorded}
 use Rattle.refusal.specs.Refusal.{first}
 use Rattle.refusal.proofs.Lists.{true-false, below_or}
 use Rattle.cutting.proofs.Working.{Pieces, stands_at, looked}
@@ -61,7 +61,7 @@ or-that false false = refl
 module _ (m : Model) (s : List ℕ) (node i one : ℕ) (single : Bool) (at : ℕ) (x : Double) (b : Slots) where
   -- no piece ends here
   pub ended-none : ends_here m s node i ≡ None → Ended m s node i one single at x b b single
-  unfolding after_offer is_some
+  unfolding after_offer
   ended-none e =
       record {
         put = put_back b i (ap (λ (o : Option Piece). after_offer o x at (slot_at b i)) (sym e));
@@ -70,7 +70,7 @@ module _ (m : Model) (s : List ℕ) (node i one : ℕ) (single : Bool) (at : ℕ
 
   -- a piece does
   pub ended_some : (p : Piece) (a : Slots) (r : Bool) → ends_here m s node i ≡ Some p → PutAt b i (taken (slot_at b i) (candidate x at p)) a → r ≡ (single || eqb i one) → Ended m s node i one single at x b a r
-  unfolding after_offer is_some
+  unfolding after_offer
   ended_some p a r e put seen =
       record {
         put = put_as put (ap (λ (o : Option Piece). after_offer o x at (slot_at b i)) (sym e));
@@ -222,7 +222,6 @@ module _ (m : Model) (s : List ℕ) (at one : ℕ) (x : Double) (b : Slots) wher
       ends = ends-known m s at (i + 1) node (omega arith) w
 
   pub offered-all : {i : ℕ} {now : Slots} {single : Bool} → Offered i now single → ((j : ℕ) → i < j → known_to m s at j ≡ None) → KnownOffered m s at one x b now single
-  unfolding is_some Option-elim
   offered-all {i} {now} {single} o none-past =
       record {
         slots = λ k.
@@ -250,12 +249,10 @@ unfolding first
 here-unknown o u e = ap (λ (q : Option Piece). piece_here q true u) e
 
 is-some : (o : Option Piece) → is_some o ≡ true → (p : Piece) × (o ≡ Some p)
-unfolding is_some Option-elim
 is-some None e = absurd (true-false e refl)
 is-some (Some p) e = (p, refl)
 
 is_none : (o : Option Piece) → is_some o ≡ false → o ≡ None
-unfolding is_some Option-elim
 is_none None e = refl
 is_none (Some p) e = absurd (true-false refl e)
 
@@ -331,8 +328,8 @@ module _ (m : Model) (s : List ℕ) (at : ℕ) (on : boundary s at ≡ true) whe
 -- ---- the slots hold the records of one start more
 
 -- as a list of at most one
-offer-listed : (o : Option Piece) (x : Double) (at : ℕ) (r : Slot) → ((p : Piece) → o ≡ Some p → is_number (sum x p.score) ≡ true) → after_offer o x at r ≡ after_offers is_number (Option-to_list o) x at r
-unfolding after_offer after_offers Option-to_list candidate
+offer-listed : (o : Option Piece) (x : Double) (at : ℕ) (r : Slot) → ((p : Piece) → o ≡ Some p → is_number (sum x p.score) ≡ true) → after_offer o x at r ≡ after_offers is_number (option_to_list o) x at r
+unfolding after_offer after_offers candidate
 offer-listed None x at r number = refl
 offer-listed (Some p) x at r number = ap (λ (t : Bool). cond t (taken r (candidate x at p)) r) (sym (number p refl))
 
@@ -340,7 +337,7 @@ pub worked-all :
     {m : Model} {s : List ℕ} (ready : Ready m s) (at : ℕ) (on : boundary s at ≡ true) (below : at < length s) {r : ℕ} {x : Double} {before after : Slots}
     → r ≡ next s at → Holds (rule m s) (length s) at before → x ≡ (slot_at before at).score → EachOffered m s at x before after
     → Recorded m s r before after
-unfolding Option-to_list nth
+unfolding nth
 worked-all {m} {s} ready at on below {r} {x} {before} {after} there h e o =
     recorded laws (boundary-stands m s well ready.sound) (sym there) (omega (arith, there, next-inside s well at on below)) held (offered-past laws all)
   where
@@ -361,7 +358,7 @@ worked-all {m} {s} ready at on below {r} {x} {before} {after} there h e o =
           slots = λ k.
               o.slots k
               ∙ offer-listed (piece_of m s at k) x at (slot_at before k)
-              (λ p q. is_true (is_number (sum x p.score)) (sum_number x p.score (stands-counts laws at x stands) (laws.finite at k 0 p (ap (λ (u : Option Piece). nth (Option-to_list u) 0) q))));
+              (λ p q. is_true (is_number (sum x p.score)) (sum_number x p.score (stands-counts laws at x stands) (laws.finite at k 0 p (ap (λ (u : Option Piece). nth (option_to_list u) 0) q))));
         }
 
     held : Holds (rule m s) (length s) (next s at) after

@@ -1,6 +1,6 @@
 -- Which pieces a text has in a Unigram trie, and its ids. Definitions only; assumes nothing.
-use Rattle.std.specs.Prelude.{ℕ, ◌&&◌, cond, ltb, eqb, length, get_or, Option, None, Some}
-use mathlib.Core.List.{List, Option-to_list}
+use Rattle.std.specs.Prelude.{ℕ, ◌&&◌, cond, ltb, eqb, length, get_or, Option, None, Some, option_to_list}
+use mathlib.Core.List.{List}
 use Rattle.doubles.specs.Double.{Double, plus_zero, is_number}
 use Rattle.refusal.specs.Refusal.{first}
 use Rattle.text.specs.Text.{boundary, next, part}
@@ -33,7 +33,7 @@ piece_of m s i j =
 -- The rule of Unigram: a span has at most one piece. "A sum beyond the largest double is infinite as IEEE 754 has it and still
 -- compares": every sum that is a number counts.
 abbrev pub rule : Model → List ℕ → Rule
-rule m s = record { pieces = λ i j. Option-to_list (piece_of m s i j); counts = is_number }
+rule m s = record { pieces = λ i j. option_to_list (piece_of m s i j); counts = is_number }
 
 -- the pieces of the best cutting of s, in order
 abbrev pub pieces_of : Model → List ℕ → List Step

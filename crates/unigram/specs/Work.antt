@@ -1,5 +1,5 @@
 -- What the work at one boundary does to the slots, and what it rests on. Definitions only; assumes nothing.
-use Rattle.std.specs.Prelude.{◌≡◌, ℕ, ◌≤◌, ◌<◌, Bool, true, false, ◌&&◌, ◌||◌, List, map, ltb, eqb, Float, length, Option, None}
+use Rattle.std.specs.Prelude.{◌≡◌, ℕ, ◌≤◌, ◌<◌, Bool, true, false, ◌&&◌, ◌||◌, List, map, ltb, eqb, Float, length, Option, None, is_some, Some}
 use Rattle.doubles.specs.Double.{Double}
 use Rattle.doubles.specs.Units.{units}
 use Rattle.std.specs.Borrow.{Bor}
@@ -30,9 +30,6 @@ abbrev pub model_now :
     Bor (List ℕ) → Bor (List ℕ) → Bor (List ℕ) → Bor (List Float) → Bor (List ℕ) → Bor (List ℕ) → ℕ → Float → Model
 model_now edge_at edge_n id score byte to unknown unknown_score =
     model_of edge_at.now edge_n.now id.now score.now byte.now to.now unknown unknown_score
-
-unfoldable pub is_some : Option Piece → Bool
-is_some o = elim o [ None ↦ false | Some p ↦ true ]
 
 -- the piece that node k ends at i, if i is a boundary
 unfoldable pub ends_here : Model → List ℕ → ℕ → ℕ → Option Piece

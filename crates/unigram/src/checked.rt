@@ -7,7 +7,7 @@ ghost use Rattle.unigram.specs.Work.{model, model_now};
 ghost use Rattle.unigram.specs.Checked.{scratch_is, scratch_now, scratch_was};
 ghost use Rattle.refusal.specs.Lent.{was};
 
-use refusal::{CodeAnswer, Fault, Judged, MAX_TEXT};
+use refusal::{Fault, MAX_TEXT};
 
 // Nothing is refused here: the parts are sound, the text is well-formed and within the limit, and there are enough places. The
 // ids of the best cutting go to the first id places, the ends of its pieces to the first path places, the records to the slots;
@@ -102,26 +102,24 @@ fn judge(
     slot_scores: usize,
     path: usize,
     ids: usize,
-) -> Judged
+) -> Result<(), Fault>
     ensures { result_err result ≡ segment_fault sound (was text) (lengths starts slot_ids slot_scores path ids) }
 {
     if MAX_TEXT < text.len() {
-        return Judged::Bad(Fault::Size);
+        return Err(Fault::Size);
     }
     if !sound {
-        return Judged::Bad(Fault::Trie);
+        return Err(Fault::Trie);
     }
-    if let Judged::Bad(f) = text::utf8::judge(text) {
-        return Judged::Bad(f);
-    }
+    text::utf8::judge(text)?;
     let characters = text::checked::characters(text);
     if short_scratch(text.len(), characters, starts, slot_ids, slot_scores, path) {
-        return Judged::Bad(Fault::Scratch);
+        return Err(Fault::Scratch);
     }
     if ids < characters {
-        return Judged::Bad(Fault::Ok);
+        return Err(Fault::Ids);
     }
-    Judged::Fine
+    Ok(())
 }
 
 // As `unigram::segment`, where the parts have been tested: `sound` is what was found. So that one test serves many texts.
@@ -141,12 +139,12 @@ pub fn segment_tested(
     slot_score: &mut [f64],
     path: &mut [u32],
     ids: &mut [u32],
-) -> CodeAnswer
+) -> Result<usize, Fault>
     requires { sound ≡ sound_model (model_now edge_at edge_n id score byte to unknown unknown_score) }
     ensures { Segmented (model edge_at edge_n id score byte to unknown unknown_score) (was text)
         (scratch_was start slot_id slot_score path ids) result (scratch_is start slot_id slot_score path ids) }
 {
-    let judged = judge(
+    judge(
         sound,
         text,
         start.len(),
@@ -154,24 +152,21 @@ pub fn segment_tested(
         slot_score.len(),
         path.len(),
         ids.len(),
-    );
-    match judged {
-        Judged::Bad(f) => CodeAnswer::Refused(f),
-        Judged::Fine => CodeAnswer::Ok(segment(
-            edge_at,
-            edge_n,
-            id,
-            score,
-            byte,
-            to,
-            unknown,
-            unknown_score,
-            text,
-            start,
-            slot_id,
-            slot_score,
-            path,
-            ids,
-        )),
-    }
+    )?;
+    Ok(segment(
+        edge_at,
+        edge_n,
+        id,
+        score,
+        byte,
+        to,
+        unknown,
+        unknown_score,
+        text,
+        start,
+        slot_id,
+        slot_score,
+        path,
+        ids,
+    ))
 }

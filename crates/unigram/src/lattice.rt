@@ -11,7 +11,7 @@ ghost use Rattle.text.specs.Text.{characters, next};
 
 use cutting::slots::Slot;
 use refusal::NO_ID;
-use trie::checked::{NodeId, Step, Walk};
+use trie::checked::Walk;
 
 // A walk from `at` has come to `node` at i. If i is a boundary and the node has an id, the piece is offered to the slot at i.
 // Answers `single`, or true where that piece ends at `one`.
@@ -37,22 +37,16 @@ fn end_at(
     if !text::utf8::is_boundary(text, i) {
         return single;
     }
-    match trie::checked::id_at(id, Walk { node }) {
-        NodeId::Is(x) => {
-            let k = node as usize;
-            let q = Slot {
-                start: at as u32,
-                id: x,
-                score: doubles::added(till, score[k]),
-            };
-            cutting::slots::offer(start, slot_id, slot_score, i, q);
-            if i == one {
-                return true;
-            }
-            single
-        }
-        NodeId::Missing => single,
-    }
+    let Some(x) = trie::checked::id_at(id, Walk { node }) else {
+        return single;
+    };
+    let q = Slot {
+        start: at as u32,
+        id: x,
+        score: doubles::added(till, score[node as usize]),
+    };
+    cutting::slots::offer(start, slot_id, slot_score, i, q);
+    single || i == one
 }
 
 // Offers each string with an id that starts at `at`, longer by a byte at each turn. Answers whether one of them ends at `one`.
@@ -84,14 +78,10 @@ fn offer_known(
     let mut i = at;
     while i < text.len() {
         let here = Walk { node };
-        match here.step_by(edge_at, edge_n, byte, to, first, text[i]) {
-            Step::To(next) => {
-                node = next.node;
-            }
-            Step::Stop => {
-                return single;
-            }
-        }
+        let Some(next) = here.step_by(edge_at, edge_n, byte, to, first, text[i]) else {
+            return single;
+        };
+        node = next.node;
         i += 1;
         single = end_at(
             id, score, text, node, i, one, single, at, till, start, slot_id, slot_score,

@@ -1,7 +1,7 @@
 // Unigram: `segment`, the cutting of a text with the highest sum of scores.
 #![tactic(auto)]
 
-use refusal::CodeAnswer;
+use refusal::Fault;
 
 pub mod checked;
 mod lattice;
@@ -30,7 +30,7 @@ pub fn segment(
     slot_score: &mut [f64],
     path: &mut [u32],
     ids: &mut [u32],
-) -> CodeAnswer
+) -> Result<usize, Fault>
     ensures { Segmented (model edge_at edge_n id score byte to unknown unknown_score) (was text)
         (scratch_was start slot_id slot_score path ids) result (scratch_is start slot_id slot_score path ids) }
 {

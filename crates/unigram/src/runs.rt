@@ -9,8 +9,6 @@ ghost use Rattle.cutting.specs.Tracing.{steps_at};
 ghost use Rattle.refusal.specs.Lent.{was};
 ghost use Rattle.refusal.specs.Places.{overlay};
 
-use trie::checked::NodeId;
-
 // The id of the run's bytes, the second look-up; the unknown id if they have none.
 fn run_id(
     edge_at: &[u32],
@@ -26,10 +24,7 @@ fn run_id(
     requires { Run (parts_now edge_at edge_n id byte to) text.now run at }
     ensures { result ≡ run_id (part_id (parts edge_at edge_n id byte to) (was text)) unknown run at }
 {
-    match trie::checked::exact(edge_at, edge_n, id, byte, to, &text[run..at]) {
-        NodeId::Is(i) => i,
-        NodeId::Missing => unknown,
-    }
+    trie::checked::exact(edge_at, edge_n, id, byte, to, &text[run..at]).unwrap_or(unknown)
 }
 
 // Writes the id of the run, if there is one, at place n. Answers the place after it.

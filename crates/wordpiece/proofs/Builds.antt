@@ -22,7 +22,7 @@ use Rattle.build.proofs.Rooms.{no_room_by, nodes-some}
 use Rattle.build.proofs.Outcomes.{core-fits}
 use Rattle.build.proofs.Judging.{nodes-small, columns-built}
 use Rattle.build.proofs.Promises.{core-short, core-held}
-use Rattle.wordpiece.specs.Build.{told, Built}
+use Rattle.wordpiece.specs.Build.{Built}
 
 module _ (tab off len : List ℕ) (ids : List ℕ) (m after : Memory) {room : ℕ} {answer : (Option ℕ)}
     (r : room ≡ room_of m) (d : BuiltOf WordPiece tab (given off len ids) room m after answer)
@@ -41,11 +41,10 @@ module _ (tab off len : List ℕ) (ids : List ℕ) (m after : Memory) {room : �
         ∙ ap (λ (k : ℕ). ltb k (nodes_of tab rows)) (sym r)
 
     pub lists-full : answer ≡ None → Built tab c (with_scores m []) (Err (reason.Call fault.Room)) (with_scores after [])
-    unfolding told
     lists-full e = core-short WordPiece tab rows (nodes_of tab rows) m after [] [] (columns-built WordPiece tab c fine d) fine decides e refl
 
     pub lists-built : {n : ℕ} → answer ≡ Some n → Built tab c (with_scores m []) (Ok n) (with_scores after [])
-    unfolding told scores_in
+    unfolding scores_in
     lists-built e =
         let same = columns-built WordPiece tab c fine d in
         core-held WordPiece tab rows (nodes_of tab rows) m after [] [] same fine decides e (ap Ok (core-fits same e).1) refl

@@ -23,7 +23,7 @@ use Rattle.build.proofs.Judging.{rows-fine, few-rows, ids-marked}
 use Rattle.build.proofs.Promises as builds
 use Rattle.build.proofs.BuiltTries.{parts_in, rows-sound}
 use Rattle.build.proofs.BuiltTries as left
-use Rattle.wordpiece.specs.Build.{told, Built}
+use Rattle.wordpiece.specs.Build.{Built}
 use Rattle.wordpiece.specs.Pieces.{ids_of}
 use Rattle.wordpiece.specs.Encode.{encode_fault}
 use Rattle.wordpiece.proofs.Faults.{sound-fault}
@@ -51,12 +51,11 @@ sound-not-refused t prefix w places s e =
 module _ (tab : List ℕ) (c : Columns) (m after : Memory) (n : ℕ) (bytes : Bytes tab) (b : Built tab c m (Ok n) after) where
   -- a list that was built has no fault
   pub built-fine : columns_fault WordPiece tab c ≡ None
-  unfolding told
   built-fine = builds.built-fine b refl
 
   -- the lent columns, cut to the counts, are the trie of the rows
   pub built-parts : parts_in n after ≡ wordpiece_trie tab (rows_of c)
-  unfolding told trie_in
+  unfolding trie_in
   built-parts = left.built-parts b refl (builds.built-says b refl) bytes
 
   pub built-sound : sound (parts_in n after) ≡ true

@@ -19,20 +19,12 @@ use Rattle.build.specs.Checked.{nodes_of}
 use Rattle.build.specs.Promise.{build_fault}
 use Rattle.build.proofs.Promises as builds
 use Rattle.build.proofs.Promises.{promised-once}
-use Rattle.wordpiece.specs.Build.{told, Built}
+use Rattle.wordpiece.specs.Build.{Built}
 use Rattle.wordpiece.specs.Pieces.{ids_of}
 use Rattle.wordpiece.specs.Encode.{encode_fault, Encoded}
 
--- an answer is known by what it tells
-told-known : (a b : Result ℕ Reason) → told a ≡ told b → a ≡ b
-unfolding told
-told-known (Ok n) (Ok k) e = let same : n ≡ k = cc in ap Ok same
-told-known (Ok n) (Err r) e = cc
-told-known (Err r) (Ok n) e = cc
-told-known (Err q) (Err r) e = let same : q ≡ r = cc in ap Err same
-
 pub built-once : (tab : List ℕ) (c : Columns) (m : Memory) (a b : Result ℕ Reason) {m₁ m₂ : Memory} → Built tab c m a m₁ → Built tab c m b m₂ → (a ≡ b) × (m₁ ≡ m₂)
-built-once tab c m a b p q = let t = promised-once p q in (told-known a b t.0, t.1)
+built-once tab c m a b = promised-once
 
 -- `encode`: its answer and what it leaves, and "exactly when", both ways: refused with f exactly when f is the first fault, and
 -- ids exactly when there is none
@@ -53,10 +45,7 @@ module _ (t : Trie) (unknown max_chars : ℕ) (prefix w ids : List ℕ) where
 -- the same of `from_rows`: a build is refused with r exactly when r is its fault, and says N exactly when there is none
 module _ (tab : List ℕ) (c : Columns) (m : Memory) (answer : Result ℕ Reason) (after : Memory) (p : Built tab c m answer after) where
   pub build-refused-exactly : (r : Reason) → (answer ≡ Err r) ↔ (build_fault (columns_fault WordPiece tab c) (no_room (nodes_of tab (rows_of c)) m) ≡ Some r)
-  unfolding told
-  build-refused-exactly r = let two = builds.refused-exactly p r in (λ q. two.0 (ap told q), λ e. told-known answer (Err r) (two.1 e))
+  build-refused-exactly = builds.refused-exactly p
 
   pub build-accepted-exactly : (answer ≡ Ok (nodes_of tab (rows_of c))) ↔ (build_fault (columns_fault WordPiece tab c) (no_room (nodes_of tab (rows_of c)) m) ≡ None)
-  unfolding told
-  build-accepted-exactly =
-      let two = builds.accepted-exactly p in (λ q. two.0 (ap told q), λ e. told-known answer (Ok (nodes_of tab (rows_of c))) (two.1 e))
+  build-accepted-exactly = builds.accepted-exactly p

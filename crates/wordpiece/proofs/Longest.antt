@@ -57,7 +57,7 @@ since_none i end x e = ap (λ (b : Bool). cond b None (Some (piece-to end x))) (
 
 -- the piece that ends at j with this id, where j may be an end; and by a test
 abbrev pub end_at : Bool → ℕ → Option ℕ → Option Found
-end_at b j id = cond b (map (piece-to j) id) None
+end_at b j id = cond b (option_map (piece-to j) id) None
 
 abbrev pub found_if : Bool → ℕ → ℕ → Option Found
 found_if b j x = cond b (Some (piece-to j x)) None

@@ -16,7 +16,7 @@ use Rattle.text.specs.Text.{well_formed, characters}
 use Rattle.text.proofs.Boundaries.{characters-le, boundary-zero}
 use Rattle.trie.specs.Trie.{Trie, walk, id_from, id_of}
 use Rattle.wordpiece.specs.Pieces.{Found, longest_to, pieces_of, ids_of}
-use Rattle.wordpiece.specs.Checked.{rest_from, count_in, Walked}
+use Rattle.wordpiece.specs.Checked.{rest_from, Walked}
 use Rattle.wordpiece.proofs.Longest.{piece-to}
 use Rattle.wordpiece.proofs.Turns.{before, or_unknown}
 use Rattle.wordpiece.proofs.Rest.{Ends, longest-ends, pieces-empty, pieces-alone, pieces-absent, after-prefix, pieces-with, pieces-few, one_more, some-character}
@@ -73,22 +73,22 @@ module _ (t : Trie) (unknown : ℕ) (prefix w : List ℕ) (well : well_formed w 
     whole : pieces_of (id_of t) prefix w ≡ before id (rest_from (id_from t k) w end)
     whole = pieces-with t prefix w some_byte longest at
 
-    pub late : None ≡ map length (rest_from (id_from t k) w end) → One (id_of t) unknown prefix w unknown
+    pub late : None ≡ option_map length (rest_from (id_from t k) w end) → One (id_of t) unknown prefix w unknown
     late e = go (rest_from (id_from t k) w end) refl
       where
         go : (o : Option (List ℕ)) → rest_from (id_from t k) w end ≡ o → One (id_of t) unknown prefix w unknown
         go None g = missed (id_of t) unknown prefix w well some_byte (whole ∙ ap (before id) g)
-        go (Some ids) g = absurd (none-some (e ∙ ap (map length) g))
+        go (Some ids) g = absurd (none-some (e ∙ ap (option_map length) g))
 
     -- all pieces are there
-    pub follows : {n : ℕ} → Some n ≡ map length (rest_from (id_from t k) w end) → Follows (id_from t k) w end id (or_unknown unknown (pieces_of (id_of t) prefix w))
+    pub follows : {n : ℕ} → Some n ≡ option_map length (rest_from (id_from t k) w end) → Follows (id_from t k) w end id (or_unknown unknown (pieces_of (id_of t) prefix w))
     follows {n} e = go (rest_from (id_from t k) w end) refl
       where
         ends : Ends w 0 (length w) (piece-to end id)
         ends = longest-ends (id_of t) [] w 0 (length w) longest
 
         go : (o : Option (List ℕ)) → rest_from (id_from t k) w end ≡ o → Follows (id_from t k) w end id (or_unknown unknown (pieces_of (id_of t) prefix w))
-        go None g = absurd (none-some (sym (e ∙ ap (map length) g)))
+        go None g = absurd (none-some (sym (e ∙ ap (option_map length) g)))
         go (Some ids) g =
             record {
               below = ends.below;
@@ -117,9 +117,9 @@ sets-taken vs l h =
     ap (take (length vs)) (sets_over vs l h) ∙ take_at vs (drop (length vs) l) (length vs) refl
 
 -- so after a walk over a rest of n ids these are held
-pub walk-holds : {rest : Option (List ℕ)} {before after : List ℕ} {count : Option ℕ} {n : ℕ} → Walked rest before count after → count_in count ≡ Some n → (xs : List ℕ) → rest ≡ Some xs → (n ≡ length xs) × (n ≤ length after → take n after ≡ xs)
+pub walk-holds : {rest : Option (List ℕ)} {before after : List ℕ} {count : Option ℕ} {n : ℕ} → Walked rest before count after → count ≡ Some n → (xs : List ℕ) → rest ≡ Some xs → (n ≡ length xs) × (n ≤ length after → take n after ≡ xs)
 walk-holds {before = before} {after = after} {n = n} walked told xs e =
-    let many : n ≡ length xs = cc (told, walked.answered, ap (map length) e) in
+    let many : n ≡ length xs = cc (told, walked.answered, ap (option_map length) e) in
     let stored : after ≡ sets before 0 xs = walked.held xs e in (
       many,
       λ h.

@@ -183,9 +183,9 @@ module _ (w : List ℕ) (well : well_formed w ≡ true) where
 
 -- so many more
 abbrev pub more : ℕ → Option ℕ → Option ℕ
-more n o = map (λ m. n + m) o
+more n o = option_map (λ m. n + m) o
 
-pub count-piece : (x : ℕ) (o : Option (List ℕ)) → map length (before x o) ≡ more 1 (map length o)
+pub count-piece : (x : ℕ) (o : Option (List ℕ)) → option_map length (before x o) ≡ more 1 (option_map length o)
 count-piece x None = refl
 count-piece x (Some ids) = ap (λ (n : ℕ). Some n) (omega arith)
 

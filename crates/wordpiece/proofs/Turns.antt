@@ -17,10 +17,10 @@ use Rattle.wordpiece.proofs.Longest.{piece_is, longest-more}
 
 -- a piece's id before those of the pieces after it, and one unknown id for a miss
 abbrev pub before : ℕ → Option (List ℕ) → Option (List ℕ)
-before x o = map (λ ids. x ∷ ids) o
+before x o = option_map (λ ids. x ∷ ids) o
 
 abbrev pub or_unknown : ℕ → Option (List ℕ) → List ℕ
-or_unknown unknown o = get_or o (unknown ∷ [])
+or_unknown unknown o = unwrap_or o (unknown ∷ [])
 
 -- nothing at the end of the word, none at a miss, else the piece's id before what comes after it
 abbrev pub turn : Bool → Option Found → (ℕ → Option (List ℕ)) → Option (List ℕ)

@@ -1,4 +1,5 @@
 -- What the functions behind `encode` promise one another; no public call speaks of it. Definitions only; assumes nothing.
+use Rattle.wordpiece.specs.declared.checked.Piece.{Piece}
 use Rattle.std.specs.Prelude.{◌≡◌, ℕ, suc, ◌-◌, ◌≤◌, true, cond, List, [], eqb, length, Option, None, Some, option_map}
 use Rattle.std.proofs.lemmas.List.Edits.{sets}
 use Rattle.text.specs.Text.{well_formed, characters}
@@ -20,15 +21,10 @@ found_since i end x = cond (eqb end i) None (Some (record { end = end; id = x })
 abbrev pub rest_from : (List ℕ → Option ℕ) → List ℕ → ℕ → Option (List ℕ)
 rest_from find w i = pieces_from find [] w (suc (length w - i)) [] i
 
--- how many ids an answer counts
-abbrev pub count_in : Option ℕ → Option ℕ
-count_in (Some n) = Some n
-count_in None = None
-
 -- What a walk over the rest leaves: the count of its ids, none at a miss; and where there is none, these in the places that
 -- were lent, as many as there are places.
 pub record Walked (rest : Option (List ℕ)) (before : List ℕ) (count : Option ℕ) (after : List ℕ) : Type 0 where
-  pub answered : count_in count ≡ option_map length rest
+  pub answered : count ≡ option_map length rest
   pub held : (xs : List ℕ) → rest ≡ Some xs → after ≡ sets before 0 xs
 
 -- there are pieces from i on, and places for them from the second on

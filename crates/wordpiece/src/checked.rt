@@ -12,28 +12,14 @@ ghost use Rattle.wordpiece.specs.Encode.{encode_fault, Encoded};
 ghost use Rattle.wordpiece.specs.Checked.{found_in, found_since, rest_from, Walked, Fitting, Encodable};
 ghost use Rattle.refusal.specs.Lent.{was};
 
-use refusal::{CodeAnswer, Fault, Judged, MAX_PREFIX, MAX_TEXT};
-use trie::checked::{NodeId, Step, Walk};
+use refusal::{Fault, MAX_PREFIX, MAX_TEXT};
+use trie::checked::Walk;
 
 // A piece that was found: where it ends, and its id.
 #[derive(Clone, Copy)]
 pub struct Piece {
     pub end: usize,
     pub id: u32,
-}
-
-// The longest piece, if there is one.
-#[derive(Clone, Copy)]
-pub enum Match {
-    Is(Piece),
-    Missing,
-}
-
-// How many pieces the rest of a word has.
-#[derive(Clone, Copy)]
-pub enum Count {
-    Pieces(usize),
-    Miss,
 }
 
 // How many ids the first walk over a word's later pieces keeps. A word with more of them is walked again.
@@ -44,27 +30,21 @@ fn ends_here(id: &[u32], w: &[u8], at: Walk, j: usize) -> bool
     requires { at.node < length id.now }
     ensures { result ≡ (boundary (was w) j && not (eqb (get_or (was id) at.node 0) no_id)) }
 {
-    if !text::utf8::is_boundary(w, j) {
-        return false;
-    }
-    match trie::checked::id_at(id, at) {
-        NodeId::Is(_) => true,
-        NodeId::Missing => false,
-    }
+    text::utf8::is_boundary(w, j) && trie::checked::id_at(id, at).is_some()
 }
 
 // The piece from i to `end`, as an answer: there is none that is empty.
-fn piece_to(i: usize, end: usize, id: u32) -> Match
+fn piece_to(i: usize, end: usize, id: u32) -> Option<Piece>
     ensures { found_in result ≡ found_since i end id }
 {
     if end == i {
-        return Match::Missing;
+        return None;
     }
-    Match::Is(Piece { end, id })
+    Some(Piece { end, id })
 }
 
 // The longest piece of w from i, after what the node of the walk spells. The loop keeps the best piece as two numbers, its end
-// (i while there is none) and its id: a `Match` would go through memory in each turn.
+// (i while there is none) and its id: an `Option` would go through memory in each turn.
 pub(crate) fn longest(
     edge_at: &[u32],
     edge_n: &[u16],
@@ -74,7 +54,7 @@ pub(crate) fn longest(
     from: Walk,
     w: &[u8],
     i: usize,
-) -> Match
+) -> Option<Piece>
     requires to_value { soundness.sound (parts_now edge_at edge_n id byte to) ≡ true }
     requires node_in_bounds { from.node < length edge_at.now }
     requires i_in_bounds { i ≤ length w.now }
@@ -86,7 +66,7 @@ pub(crate) fn longest(
     let mut last: u32 = 0;
     while j < w.len() {
         let here = Walk { node };
-        let Step::To(next) = here.step(edge_at, edge_n, byte, to, w[j]) else {
+        let Some(next) = here.step(edge_at, edge_n, byte, to, w[j]) else {
             return piece_to(i, end, last);
         };
         node = next.node;
@@ -120,7 +100,7 @@ fn count_rest(
     w: &[u8],
     i: usize,
     held: &mut [u32],
-) -> Count
+) -> Option<usize>
     requires to_value { soundness.sound (parts_now edge_at edge_n id byte to) ≡ true }
     requires node_in_bounds { rest.node < length edge_at.now }
     requires i_in_bounds { i ≤ length w.now }
@@ -129,14 +109,14 @@ fn count_rest(
     let mut at = i;
     let mut n: usize = 0;
     while at < w.len() {
-        let Match::Is(piece) = longest(edge_at, edge_n, id, byte, to, rest, w, at) else {
-            return Count::Miss;
+        let Some(piece) = longest(edge_at, edge_n, id, byte, to, rest, w, at) else {
+            return None;
         };
         at = piece.end;
         hold(held, n, piece.id);
         n += 1;
     }
-    Count::Pieces(n)
+    Some(n)
 }
 
 // Writes the ids of the pieces of w from i on, from the second place on; answers how many places are then written.
@@ -160,7 +140,7 @@ fn write_rest(
     let mut at = i;
     let mut n: usize = 1;
     while at < w.len() {
-        let Match::Is(piece) = longest(edge_at, edge_n, id, byte, to, rest, w, at) else {
+        let Some(piece) = longest(edge_at, edge_n, id, byte, to, rest, w, at) else {
             return n;
         };
         at = piece.end;
@@ -258,14 +238,14 @@ fn encode_rest(
     ensures { let pieces = pieces_of (id_of (parts edge_at edge_n id byte to)) (was prefix) (was w) in
         let all = unwrap_or pieces (unknown ∷ []) in (result ≡ length all) × (ids.new ≡ overlay all ids.old) }
 {
-    let Step::To(rest) = Walk::root().over(edge_at, edge_n, byte, to, prefix) else {
+    let Some(rest) = Walk::root().over(edge_at, edge_n, byte, to, prefix) else {
         return put(ids, unknown);
     };
     let end = first.end;
     let mut held = [0u32; HELD];
     match count_rest(edge_at, edge_n, id, byte, to, rest, w, end, &mut held) {
-        Count::Pieces(n) => put_all(edge_at, edge_n, id, byte, to, rest, w, first, &held, n, ids),
-        Count::Miss => put(ids, unknown),
+        Some(n) => put_all(edge_at, edge_n, id, byte, to, rest, w, first, &held, n, ids),
+        None => put(ids, unknown),
     }
 }
 
@@ -292,7 +272,7 @@ pub fn encode(
     if too_long(w, max_chars) {
         return put(ids, unknown);
     }
-    let Match::Is(first) = longest(edge_at, edge_n, id, byte, to, Walk::root(), w, 0) else {
+    let Some(first) = longest(edge_at, edge_n, id, byte, to, Walk::root(), w, 0) else {
         return put(ids, unknown);
     };
     let end = first.end;
@@ -306,28 +286,24 @@ pub fn encode(
 
 // The first fault of a call of `encode` in parts that are sound or not, lent this many id places: the sizes, the parts, the
 // word, the prefix, the places.
-fn judge(sound: bool, prefix: &[u8], word: &[u8], places: usize) -> Judged
+fn judge(sound: bool, prefix: &[u8], word: &[u8], places: usize) -> Result<(), Fault>
     ensures { result_err result ≡ encode_fault sound (was prefix) (was word) places }
 {
     if MAX_TEXT < word.len() {
-        return Judged::Bad(Fault::Size);
+        return Err(Fault::Size);
     }
     if MAX_PREFIX < prefix.len() {
-        return Judged::Bad(Fault::Size);
+        return Err(Fault::Size);
     }
     if !sound {
-        return Judged::Bad(Fault::Trie);
+        return Err(Fault::Trie);
     }
-    if let Judged::Bad(f) = text::utf8::judge(word) {
-        return Judged::Bad(f);
-    }
-    if let Judged::Bad(f) = text::utf8::judge(prefix) {
-        return Judged::Bad(f);
-    }
+    text::utf8::judge(word)?;
+    text::utf8::judge(prefix)?;
     if places < text::checked::characters(word) {
-        return Judged::Bad(Fault::Ids);
+        return Err(Fault::Ids);
     }
-    Judged::Fine
+    Ok(())
 }
 
 // As `wordpiece::encode`, where the parts have been tested: `sound` is what was found. So that one test serves many words.
@@ -343,15 +319,12 @@ pub fn encode_tested(
     prefix: &[u8],
     word: &[u8],
     ids: &mut [u32],
-) -> CodeAnswer
+) -> Result<usize, Fault>
     requires { sound ≡ soundness.sound (parts_now edge_at edge_n id byte to) }
     ensures { Encoded (parts edge_at edge_n id byte to) unknown max_chars (was prefix) (was word) ids.old result ids.new }
 {
-    let judged = judge(sound, prefix, word, ids.len());
-    match judged {
-        Judged::Bad(f) => CodeAnswer::Refused(f),
-        Judged::Fine => CodeAnswer::Ids(encode(
-            edge_at, edge_n, id, byte, to, unknown, max_chars, prefix, word, ids,
-        )),
-    }
+    judge(sound, prefix, word, ids.len())?;
+    Ok(encode(
+        edge_at, edge_n, id, byte, to, unknown, max_chars, prefix, word, ids,
+    ))
 }

@@ -1,10 +1,8 @@
 // WordPiece: `from_rows`, a trie from rows; `encode`, the longest token first.
 #![tactic(auto)]
 
-use build::Built;
-use refusal::{CodeAnswer, Fault, Reason};
+use refusal::{Fault, Reason};
 use rows::Kind;
-use rows::columns::RowsAnswer;
 
 pub mod checked;
 
@@ -14,13 +12,6 @@ ghost use Rattle.build.specs.Memory.{memory_is, memory_was};
 ghost use Rattle.wordpiece.specs.Build as promise;
 ghost use Rattle.wordpiece.specs.Encode.{Encoded};
 ghost use Rattle.refusal.specs.Lent.{was};
-
-// What `from_rows` answers: how many nodes the trie has, or why nothing was built.
-#[derive(Clone, Copy)]
-pub enum BuildAnswer {
-    Built(u32),
-    Refused(Reason),
-}
 
 // The trie of the rows, in the lent columns. Refused are sizes above their limits or lists of unequal length, then the first
 // bad row, and then too few lent places. A refusal of the rows writes nothing; a refusal of the places leaves every lent place
@@ -38,14 +29,11 @@ pub fn from_rows(
     byte: &mut [u8],
     to: &mut [u32],
     work: &mut [u32],
-) -> BuildAnswer
+) -> Result<u32, Reason>
     ensures { promise.Built (was tab) (columns_was off len scored score id)
         (memory_was edge_at edge_n node_id byte to work) result (memory_is edge_at edge_n node_id byte to work) }
 {
-    let found = rows::columns::judge(Kind::WordPiece, tab, off, len, scored, score, id);
-    if let RowsAnswer::Refused(r) = found {
-        return BuildAnswer::Refused(r);
-    }
+    rows::columns::judge(Kind::WordPiece, tab, off, len, scored, score, id)?;
     let room = build::checked::room(edge_at, edge_n, node_id, byte, to, work);
     let built = build::checked::build(
         Kind::WordPiece,
@@ -62,8 +50,8 @@ pub fn from_rows(
         room,
     );
     match built {
-        Built::NoRoom => BuildAnswer::Refused(Reason::Call(Fault::Room)),
-        Built::Nodes(n) => BuildAnswer::Built(n as u32),
+        Some(n) => Ok(n as u32),
+        None => Err(Reason::Call(Fault::Room)),
     }
 }
 
@@ -81,7 +69,7 @@ pub fn encode(
     prefix: &[u8],
     word: &[u8],
     ids: &mut [u32],
-) -> CodeAnswer
+) -> Result<usize, Fault>
     ensures { Encoded (parts edge_at edge_n id byte to) unknown max_chars (was prefix) (was word) ids.old result ids.new }
 {
     let sound = trie::soundness::sound(edge_at, edge_n, id, byte, to);

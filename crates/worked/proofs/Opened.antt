@@ -2,7 +2,7 @@
 -- such a line opens every definition that computing an example meets, layer by layer. It says nothing itself.
 use Rattle.std.specs.Result.{result_err}
 use Rattle.std.specs.Prelude.{option_and_then}
-use mathlib.Core.List.{flat_map, flatten, Option-to_list}
+use mathlib.Core.List.{flat_map, flatten}
 use lib.Ieee.{size}
 use Rattle.doubles.specs.Double as doubles
 use Rattle.refusal.specs.Refusal as refusal
@@ -49,11 +49,11 @@ unfolding rows.worth_fault rows.row_fault rows.first_bad scores.lowest scores.lo
 build-opened = tt
 
 unfoldable pub unigram-opened : Unit {0}
-unfolding Option-to_list records.offered records.candidate records.offered_all records.standing records.best records.shown records.records_from records.followed runs.run_id runs.merged unigram.piece_at unigram.known unigram.piece_of unigram.ids_of segment.short_scratch segment.segment_fault
+unfolding records.offered records.candidate records.offered_all records.standing records.best records.shown records.records_from records.followed runs.run_id runs.merged unigram.piece_at unigram.known unigram.piece_of unigram.ids_of segment.short_scratch segment.segment_fault
 unigram-opened = tt
 
 unfoldable pub wordpiece-opened : Unit {0}
-unfolding option_and_then wordpiece.piece_to wordpiece.longest_to wordpiece.pieces_from wordpiece.pieces_of wordpiece.ids_of encode.encode_fault
+unfolding wordpiece.piece_to wordpiece.longest_to wordpiece.pieces_from wordpiece.pieces_of wordpiece.ids_of encode.encode_fault
 wordpiece-opened = tt
 
 unfoldable pub pack-opened : Unit {0}

@@ -21,10 +21,10 @@ told s e = sym (ap (λ (f : Option Fault). count_number f (characters s)) e)
 pub returns-then-s-gt-MAX_TEXT : goal.returns-then-s-gt-MAX_TEXT
 returns-then-s-gt-MAX_TEXT c = c.refused.ensures ∙ told c.args.s.now (found _ _ _ (lt-ltb max_text (length c.args.s.now) c.if-s-gt-MAX_TEXT.true))
 
-pub returns-in-Bad : goal.returns-in-Bad
-returns-in-Bad c =
+pub returns-in-Err : goal.returns-in-Err
+returns-in-Err c =
     let judged : count_fault c.args.s.now ≡ result_err c.judge.result = not_found _ _ _ (le-ltb max_text (length c.args.s.now) c.if-s-gt-MAX_TEXT.false) ∙ sym c.judge.ensures in
-    c.refused-in-Bad.ensures ∙ told c.args.s.now (judged ∙ ap result_err c.in-Bad.is)
+    c.refused-in-Err.ensures ∙ told c.args.s.now (judged ∙ ap result_err c.in-Err.is)
 
 pub characters-requires : goal.characters-requires
 characters-requires c = fine-text c.args.s.now (sym c.judge.ensures ∙ ap result_err c.in_default.is)

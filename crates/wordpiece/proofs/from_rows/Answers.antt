@@ -1,5 +1,6 @@
 -- `wordpiece::from_rows` meets its contract: what `judge` finds is refused. Rows without a fault are what the core asks for,
 -- the room is the least that the columns have, and what the core answers is answered. Assumes nothing.
+use Rattle.std.proofs.lemmas.Result.{err_from_is_err_and}
 use Rattle.std.specs.Result.{result_err}
 use Rattle.std.specs.Prelude.{None}
 use mathlib.Core.Path.{◌≡◌, sym, ap, ◌∙◌}
@@ -15,33 +16,33 @@ use Rattle.wordpiece.specs.Build as promise
 use Rattle.wordpiece.proofs.Builds.{lists-full, lists-built}
 use Rattle.wordpiece.proofs.from_rows.Goals as goal
 
-pub returns-in-Refused : goal.returns-in-Refused
-unfolding promise.told
-returns-in-Refused c =
-    let found-is : columns_fault WordPiece c.args.tab.now (columns c.args.off.now c.args.len.now c.args.scored.now c.args.score.now c.args.id.now) ≡ result_err c.judge-found.result = sym c.judge-found.ensures in
-    let is = found-is ∙ ap result_err c.in-Refused.is in
-    built-bad WordPiece c.args.tab.now (rows_of (columns c.args.off.now c.args.len.now c.args.scored.now c.args.score.now c.args.id.now)) _ (memory c.args.edge_at.now c.args.edge_n.now c.args.node_id.now c.args.byte.now c.args.to.now c.args.work.now) is (columns-not-room WordPiece c.args.tab.now (columns c.args.off.now c.args.len.now c.args.scored.now c.args.score.now c.args.id.now) _ is)
+pub returns-in_err-judge : goal.returns-in_err-judge
+returns-in_err-judge c =
+    let p = err_from_is_err_and c.from_residual.result c.from_residual.ensures.1 in
+    rw (p.1, p.2) (let found-is : columns_fault WordPiece c.args.tab.now (columns c.args.off.now c.args.len.now c.args.scored.now c.args.score.now c.args.id.now) ≡ result_err c.judge.result = sym c.judge.ensures in
+    let is = found-is ∙ ap result_err c.in_err-judge.was in
+    built-bad WordPiece c.args.tab.now (rows_of (columns c.args.off.now c.args.len.now c.args.scored.now c.args.score.now c.args.id.now)) _ (memory c.args.edge_at.now c.args.edge_n.now c.args.node_id.now c.args.byte.now c.args.to.now c.args.work.now) is (columns-not-room WordPiece c.args.tab.now (columns c.args.off.now c.args.len.now c.args.scored.now c.args.score.now c.args.id.now) _ is))
 
 pub build-built-requires : goal.build-built-requires
 build-built-requires c =
-    let found-is : columns_fault WordPiece c.args.tab.now (columns c.args.off.now c.args.len.now c.args.scored.now c.args.score.now c.args.id.now) ≡ result_err c.judge-found.result = sym c.judge-found.ensures in
-    let fine : columns_fault WordPiece c.args.tab.now (columns c.args.off.now c.args.len.now c.args.scored.now c.args.score.now c.args.id.now) ≡ None = found-is ∙ ap result_err c.in_default.is in (
+    let found-is : columns_fault WordPiece c.args.tab.now (columns c.args.off.now c.args.len.now c.args.scored.now c.args.score.now c.args.id.now) ≡ result_err c.judge.result = sym c.judge.ensures in
+    let fine : columns_fault WordPiece c.args.tab.now (columns c.args.off.now c.args.len.now c.args.scored.now c.args.score.now c.args.id.now) ≡ None = found-is ∙ ap result_err c.in_ok-judge.was in (
       judged WordPiece c.args.tab.now (columns c.args.off.now c.args.len.now c.args.scored.now c.args.score.now c.args.id.now) (fine),
       omega (arith, c.room-room.ensures),
     )
 
-pub returns-in-NoRoom : goal.returns-in-NoRoom
-returns-in-NoRoom c =
-    let found-is : columns_fault WordPiece c.args.tab.now (columns c.args.off.now c.args.len.now c.args.scored.now c.args.score.now c.args.id.now) ≡ result_err c.judge-found.result = sym c.judge-found.ensures in
-    let fine : columns_fault WordPiece c.args.tab.now (columns c.args.off.now c.args.len.now c.args.scored.now c.args.score.now c.args.id.now) ≡ None = found-is ∙ ap result_err c.in_default.is in
+pub returns-in-None : goal.returns-in-None
+returns-in-None c =
+    let found-is : columns_fault WordPiece c.args.tab.now (columns c.args.off.now c.args.len.now c.args.scored.now c.args.score.now c.args.id.now) ≡ result_err c.judge.result = sym c.judge.ensures in
+    let fine : columns_fault WordPiece c.args.tab.now (columns c.args.off.now c.args.len.now c.args.scored.now c.args.score.now c.args.id.now) ≡ None = found-is ∙ ap result_err c.in_ok-judge.was in
     let a = c.args in
     lists-full a.tab.now a.off.now a.len.now a.id.now (memory c.args.edge_at.now c.args.edge_n.now c.args.node_id.now c.args.byte.now c.args.to.now c.args.work.now) (memory c.build-built.new.edge_at c.build-built.new.edge_n c.build-built.new.id c.build-built.new.byte c.build-built.new.to c.build-built.new.work) c.room-room.ensures c.build-built.ensures
-    a.scored.now a.score.now (fine) c.in-NoRoom.is
+    a.scored.now a.score.now (fine) c.in-None.is
 
-pub returns-in-Nodes : goal.returns-in-Nodes
-returns-in-Nodes c =
-    let found-is : columns_fault WordPiece c.args.tab.now (columns c.args.off.now c.args.len.now c.args.scored.now c.args.score.now c.args.id.now) ≡ result_err c.judge-found.result = sym c.judge-found.ensures in
-    let fine : columns_fault WordPiece c.args.tab.now (columns c.args.off.now c.args.len.now c.args.scored.now c.args.score.now c.args.id.now) ≡ None = found-is ∙ ap result_err c.in_default.is in
+pub returns-in-Some : goal.returns-in-Some
+returns-in-Some c =
+    let found-is : columns_fault WordPiece c.args.tab.now (columns c.args.off.now c.args.len.now c.args.scored.now c.args.score.now c.args.id.now) ≡ result_err c.judge.result = sym c.judge.ensures in
+    let fine : columns_fault WordPiece c.args.tab.now (columns c.args.off.now c.args.len.now c.args.scored.now c.args.score.now c.args.id.now) ≡ None = found-is ∙ ap result_err c.in_ok-judge.was in
     let a = c.args in
     lists-built a.tab.now a.off.now a.len.now a.id.now (memory c.args.edge_at.now c.args.edge_n.now c.args.node_id.now c.args.byte.now c.args.to.now c.args.work.now) (memory c.build-built.new.edge_at c.build-built.new.edge_n c.build-built.new.id c.build-built.new.byte c.build-built.new.to c.build-built.new.work) c.room-room.ensures c.build-built.ensures
-    a.scored.now a.score.now (fine) c.in-Nodes.is
+    a.scored.now a.score.now (fine) c.in-Some.is

@@ -1,4 +1,5 @@
 -- `coder::checked::code` meets its contract: the coding of the kind. Assumes nothing.
+use Rattle.refusal.specs.declared.Fault.{Fault}
 use Rattle.std.specs.Prelude.{Result, ℕ}
 use mathlib.Core.Path.{◌≡◌, sym, ap, ◌∙◌, subst}
 use Rattle.trie.specs.Trie.{parts_of}

@@ -6,16 +6,16 @@ use Rattle.scored.specs.Build.{told}
 use Rattle.exports.specs.Flat.{told_number, told_score}
 use Rattle.exports.proofs.builds.built_number.Goals as goal
 
-pub returns-in-Built : goal.returns-in-Built
+pub returns-in-Ok : goal.returns-in-Ok
 unfolding told
-returns-in-Built c = (
-  sym (ap (λ x. told_number (told x)) c.in-Built.is),
-  c.put_score.ensures ∙ sym (ap (λ x. told_score (told x) (map units c.args.unknown_score.now)) c.in-Built.is),
+returns-in-Ok c = (
+  sym (ap (λ x. told_number (told x)) c.in-Ok.is),
+  c.put_score.ensures ∙ sym (ap (λ x. told_score (told x) (map units c.args.unknown_score.now)) c.in-Ok.is),
 )
 
-pub returns-in-Refused : goal.returns-in-Refused
+pub returns-in-Err : goal.returns-in-Err
 unfolding told
-returns-in-Refused c = (
-  c.reason_number.ensures ∙ sym (ap (λ x. told_number (told x)) c.in-Refused.is),
-  sym (ap (λ x. told_score (told x) (map units c.args.unknown_score.now)) c.in-Refused.is),
+returns-in-Err c = (
+  c.reason_number.ensures ∙ sym (ap (λ x. told_number (told x)) c.in-Err.is),
+  sym (ap (λ x. told_score (told x) (map units c.args.unknown_score.now)) c.in-Err.is),
 )

@@ -6,23 +6,16 @@ use Rattle.pack.specs.Build.{told}
 use Rattle.exports.specs.Flat.{pack_number, pack_score}
 use Rattle.exports.proofs.packs.pack_number.Goals as goal
 
-pub returns-in-Unigram : goal.returns-in-Unigram
+pub returns-in-Ok : goal.returns-in-Ok
 unfolding told
-returns-in-Unigram c = (
-  sym (ap (λ x. pack_number (told x)) c.in-Unigram.is),
-  c.put_score.ensures ∙ sym (ap (λ x. pack_score (told x) (map units c.args.unknown_score.now)) c.in-Unigram.is),
+returns-in-Ok c = (
+  c.summary_number.ensures.0 ∙ sym (ap (λ x. pack_number (told x)) c.in-Ok.is),
+  c.summary_number.ensures.1 ∙ sym (ap (λ x. pack_score (told x) (map units c.args.unknown_score.now)) c.in-Ok.is),
 )
 
-pub returns-in-WordPiece : goal.returns-in-WordPiece
+pub returns-in-Err : goal.returns-in-Err
 unfolding told
-returns-in-WordPiece c = (
-  sym (ap (λ x. pack_number (told x)) c.in-WordPiece.is),
-  sym (ap (λ x. pack_score (told x) (map units c.args.unknown_score.now)) c.in-WordPiece.is),
-)
-
-pub returns-in-Refused : goal.returns-in-Refused
-unfolding told
-returns-in-Refused c = (
-  c.reason_number.ensures ∙ sym (ap (λ x. pack_number (told x)) c.in-Refused.is),
-  sym (ap (λ x. pack_score (told x) (map units c.args.unknown_score.now)) c.in-Refused.is),
+returns-in-Err c = (
+  c.reason_number.ensures ∙ sym (ap (λ x. pack_number (told x)) c.in-Err.is),
+  sym (ap (λ x. pack_score (told x) (map units c.args.unknown_score.now)) c.in-Err.is),
 )

@@ -11,16 +11,16 @@ use Rattle.output.proofs.coded.put_line.Goals as goal
 
 pub put_first-requires : goal.put_first-requires
 put_first-requires c =
-    let places-there : 4_096 ≤ length c.code-answer.new.ids = omega (arith, c.code-answer.auto.ids, ap (λ (l : Lengths). l.ids) c.requires.ids_value) in
-    let s = line-ids c.requires.ids_value c.code-answer.ensures c.in-Ids.is in
+    let places-there : 4_096 ≤ length c.code-coded.new.ids = omega (arith, c.code-coded.auto.ids, ap (λ (l : Lengths). l.ids) c.requires.ids_value) in
+    let s = line-ids c.requires.ids_value c.code-coded.ensures c.in-Ok.is in
     (omega (arith, s.few, c.requires.line_in_bounds), omega (arith, s.inside, places-there), omega (arith, s.inside))
 
-pub returns-in-Refused : goal.returns-in-Refused
-returns-in-Refused c = (
-  put_as (line_refused c.requires.ids_value c.code-answer.ensures c.in-Refused.is) c.put_refusal.ensures.0,
+pub returns-in-Err : goal.returns-in-Err
+returns-in-Err c = (
+  put_as (line_refused c.requires.ids_value c.code-coded.ensures c.in-Err.is) c.put_refusal.ensures.0,
   omega (arith, c.put_refusal.ensures.1),
 )
 
-pub returns-in-Ids : goal.returns-in-Ids
-returns-in-Ids c = let s = line-ids c.requires.ids_value c.code-answer.ensures c.in-Ids.is in
+pub returns-in-Ok : goal.returns-in-Ok
+returns-in-Ok c = let s = line-ids c.requires.ids_value c.code-coded.ensures c.in-Ok.is in
     (put_as s.text c.put_first.ensures.0, omega (arith, c.put_first.ensures.1, s.few))

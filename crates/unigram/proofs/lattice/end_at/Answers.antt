@@ -9,7 +9,6 @@ use lib.Dec.{eqb}
 use lib.ListN.{get_or}
 use Rattle.doubles.specs.Double.{Double, plus_zero, sum}
 use Rattle.doubles.specs.Units.{units}
-use Rattle.trie.specs.Walks.{id_in}
 use Rattle.cutting.specs.Cuttings.{Piece}
 use Rattle.cutting.specs.Records.{candidate}
 use Rattle.unigram.specs.Pieces.{Model, piece_at}
@@ -21,43 +20,35 @@ use Rattle.cutting.proofs.Columns.{put_as}
 use Rattle.unigram.proofs.Offering.{piece_is, ends_is, ended-none, ended_some}
 use Rattle.unigram.proofs.lattice.end_at.Goals as goal
 
-or-true : (a b : Bool) → b ≡ true → true ≡ (a || b)
-or-true true b e = refl
-or-true false b e = sym e
-
-or-false : (a b : Bool) → b ≡ false → a ≡ (a || b)
-or-false true b e = refl
-or-false false b e = sym e
-
 pub returns-then-not-is_boundary : goal.returns-then-not-is_boundary
 returns-then-not-is_boundary c m ids scores = let a = c.args in
     ended-none m a.text.now a.node a.i a.one a.single a.at (units a.till) (slots_of c.args.start.now c.args.slot_id.now c.args.slot_score.now)
     (ends_is m a.node a.text.now a.i
     (sym c.is_boundary.ensures ∙ c.if-not-is_boundary.true))
 
-pub returns-then-i-one : goal.returns-then-i-one
+pub returns-then-single : goal.returns-then-single
 unfolding candidate
-returns-then-i-one c m ids scores =
-    let piece : Model → Piece = λ m. record { id = c.in-Is.x; score = get_or m.score c.args.node plus_zero } in
+returns-then-single c m ids scores =
+    let piece : Model → Piece = λ m. record { id = c.in-Some.x; score = get_or m.score c.args.node plus_zero } in
     let on : (m : Model) → ends_here m c.args.text.now c.args.node c.args.i ≡ piece_at m c.args.node = λ m. ends_is m c.args.node c.args.text.now c.args.i (sym c.is_boundary.ensures ∙ c.if-not-is_boundary.false) in
-    let ends : (m : Model) → m.trie.id ≡ c.args.id.now → ends_here m c.args.text.now c.args.node c.args.i ≡ Some (piece m) = λ m ids. on m ∙ piece_is m c.args.node (sym (c.id_at.ensures m.trie ids) ∙ ap id_in c.in-Is.is) in
+    let ends : (m : Model) → m.trie.id ≡ c.args.id.now → ends_here m c.args.text.now c.args.node c.args.i ≡ Some (piece m) = λ m ids. on m ∙ piece_is m c.args.node (sym (c.id_at.ensures m.trie ids) ∙ c.in-Some.is) in
     let score-is : (m : Model) → m.score ≡ map units c.args.score.now → units c.added.result ≡ sum (units c.args.till) (piece m).score = λ m scores. c.added.ensures ∙ ap (sum (units c.args.till)) (sym (ap (λ (l : List Double). get_or l c.args.node plus_zero) scores ∙ map-inside units c.args.score.now c.args.node _ plus_zero c.requires.1)) in
     let gave : (m : Model) → (r : Bool) → let a = c.args in m.trie.id ≡ a.id.now → m.score ≡ map units a.score.now → r ≡ (a.single || eqb a.i a.one) → Ended m a.text.now a.node a.i a.one a.single a.at (units a.till) (slots_of c.args.start.now c.args.slot_id.now c.args.slot_score.now) (slots_of c.offer.new.start c.offer.new.slot_id c.offer.new.slot_score) r = λ m r ids scores seen. let a = c.args in let p = piece m in ended_some m a.text.now a.node a.i a.one a.single a.at (units a.till) (slots_of c.args.start.now c.args.slot_id.now c.args.slot_score.now) p _ r (ends m ids) (put_as c.offer.ensures (ap (taken (slot_at (slots_of c.args.start.now c.args.slot_id.now c.args.slot_score.now) a.i)) (same-slot _ (candidate (units a.till) a.at p) refl refl (score-is m scores)))) seen in
-    gave m true ids scores (or-true c.args.single (eqb c.args.i c.args.one) (eq-eqb c.args.i c.args.one c.if-i-one.true))
+    gave m c.args.single ids scores (c.if-single.true ∙ ap (λ (b : Bool). b || eqb c.args.i c.args.one) (sym c.if-single.true))
 
-pub returns-else-i-one : goal.returns-else-i-one
+pub returns-else-single : goal.returns-else-single
 unfolding candidate
-returns-else-i-one c m ids scores =
-    let piece : Model → Piece = λ m. record { id = c.in-Is.x; score = get_or m.score c.args.node plus_zero } in
+returns-else-single c m ids scores =
+    let piece : Model → Piece = λ m. record { id = c.in-Some.x; score = get_or m.score c.args.node plus_zero } in
     let on : (m : Model) → ends_here m c.args.text.now c.args.node c.args.i ≡ piece_at m c.args.node = λ m. ends_is m c.args.node c.args.text.now c.args.i (sym c.is_boundary.ensures ∙ c.if-not-is_boundary.false) in
-    let ends : (m : Model) → m.trie.id ≡ c.args.id.now → ends_here m c.args.text.now c.args.node c.args.i ≡ Some (piece m) = λ m ids. on m ∙ piece_is m c.args.node (sym (c.id_at.ensures m.trie ids) ∙ ap id_in c.in-Is.is) in
+    let ends : (m : Model) → m.trie.id ≡ c.args.id.now → ends_here m c.args.text.now c.args.node c.args.i ≡ Some (piece m) = λ m ids. on m ∙ piece_is m c.args.node (sym (c.id_at.ensures m.trie ids) ∙ c.in-Some.is) in
     let score-is : (m : Model) → m.score ≡ map units c.args.score.now → units c.added.result ≡ sum (units c.args.till) (piece m).score = λ m scores. c.added.ensures ∙ ap (sum (units c.args.till)) (sym (ap (λ (l : List Double). get_or l c.args.node plus_zero) scores ∙ map-inside units c.args.score.now c.args.node _ plus_zero c.requires.1)) in
     let gave : (m : Model) → (r : Bool) → let a = c.args in m.trie.id ≡ a.id.now → m.score ≡ map units a.score.now → r ≡ (a.single || eqb a.i a.one) → Ended m a.text.now a.node a.i a.one a.single a.at (units a.till) (slots_of c.args.start.now c.args.slot_id.now c.args.slot_score.now) (slots_of c.offer.new.start c.offer.new.slot_id c.offer.new.slot_score) r = λ m r ids scores seen. let a = c.args in let p = piece m in ended_some m a.text.now a.node a.i a.one a.single a.at (units a.till) (slots_of c.args.start.now c.args.slot_id.now c.args.slot_score.now) p _ r (ends m ids) (put_as c.offer.ensures (ap (taken (slot_at (slots_of c.args.start.now c.args.slot_id.now c.args.slot_score.now) a.i)) (same-slot _ (candidate (units a.till) a.at p) refl refl (score-is m scores)))) seen in
-    gave m c.args.single ids scores (or-false c.args.single (eqb c.args.i c.args.one) (ne_eqb c.args.i c.args.one c.if-i-one.false))
+    gave m _ ids scores (ap (λ (b : Bool). b || eqb c.args.i c.args.one) (sym c.if-single.false))
 
-pub returns-in-Missing : goal.returns-in-Missing
-returns-in-Missing c m ids scores =
+pub returns-in_default : goal.returns-in_default
+returns-in_default c m ids scores =
     let on : (m : Model) → ends_here m c.args.text.now c.args.node c.args.i ≡ piece_at m c.args.node = λ m. ends_is m c.args.node c.args.text.now c.args.i (sym c.is_boundary.ensures ∙ c.if-not-is_boundary.false) in
     let a = c.args in
     ended-none m a.text.now a.node a.i a.one a.single a.at (units a.till) (slots_of c.args.start.now c.args.slot_id.now c.args.slot_score.now)
-    (on m ∙ piece_is m a.node (sym (c.id_at.ensures m.trie ids) ∙ ap id_in c.in-Missing.is))
+    (on m ∙ piece_is m a.node (sym (c.id_at.ensures m.trie ids) ∙ c.in_default.is))

@@ -26,23 +26,23 @@ returns-in_default c =
     let find : List ℕ → Option ℕ = id_from (parts_of c.args.edge_at.now c.args.edge_n.now c.args.id.now c.args.byte.now c.args.to.now) c.args.rest.node in
     let miss = rest-miss (find) c.args.w.now c.loop-at.at c.loop-at-test.true (sym c.longest.ensures ∙ ap found_in c.in_default.is) in
     record {
-      answered = sym (c.loop-at.invariant.same ∙ ap (λ (o : Option (List ℕ)). more c.loop-at.n (map length o)) miss);
+      answered = sym (c.loop-at.invariant.same ∙ ap (λ (o : Option (List ℕ)). more c.loop-at.n (option_map length o)) miss);
       held = λ xs g. absurd (none-some (sym miss ∙ (c.loop-at.invariant.stored xs g).1));
     }
 
 pub loop-at-smaller : goal.loop-at-smaller
 loop-at-smaller c =
     let find : List ℕ → Option ℕ = id_from (parts_of c.args.edge_at.now c.args.edge_n.now c.args.id.now c.args.byte.now c.args.to.now) c.args.rest.node in
-    let piece : longest_to (find) [] c.args.w.now c.loop-at.at (length c.args.w.now) ≡ Some (record { end = c.in-Is.piece.end; id = c.in-Is.piece.id }) = sym c.longest.ensures ∙ ap found_in c.in-Is.is in
-    let ends : Ends c.args.w.now c.loop-at.at (length c.args.w.now) (record { end = c.in-Is.piece.end; id = c.in-Is.piece.id }) = longest-ends (find) [] c.args.w.now c.loop-at.at (length c.args.w.now) (piece) in
+    let piece : longest_to (find) [] c.args.w.now c.loop-at.at (length c.args.w.now) ≡ Some (record { end = c.in-Some.piece.end; id = c.in-Some.piece.id }) = sym c.longest.ensures ∙ ap found_in c.in-Some.is in
+    let ends : Ends c.args.w.now c.loop-at.at (length c.args.w.now) (record { end = c.in-Some.piece.end; id = c.in-Some.piece.id }) = longest-ends (find) [] c.args.w.now c.loop-at.at (length c.args.w.now) (piece) in
     omega (arith, (ends).above, (ends).below)
 
 pub loop-at-preserved : goal.loop-at-preserved
 loop-at-preserved c =
     let find : List ℕ → Option ℕ = id_from (parts_of c.args.edge_at.now c.args.edge_n.now c.args.id.now c.args.byte.now c.args.to.now) c.args.rest.node in
-    let piece : longest_to (find) [] c.args.w.now c.loop-at.at (length c.args.w.now) ≡ Some (record { end = c.in-Is.piece.end; id = c.in-Is.piece.id }) = sym c.longest.ensures ∙ ap found_in c.in-Is.is in
-    let ends : Ends c.args.w.now c.loop-at.at (length c.args.w.now) (record { end = c.in-Is.piece.end; id = c.in-Is.piece.id }) = longest-ends (find) [] c.args.w.now c.loop-at.at (length c.args.w.now) (piece) in
-    let f : Found = record { end = c.in-Is.piece.end; id = c.in-Is.piece.id } in
+    let piece : longest_to (find) [] c.args.w.now c.loop-at.at (length c.args.w.now) ≡ Some (record { end = c.in-Some.piece.end; id = c.in-Some.piece.id }) = sym c.longest.ensures ∙ ap found_in c.in-Some.is in
+    let ends : Ends c.args.w.now c.loop-at.at (length c.args.w.now) (record { end = c.in-Some.piece.end; id = c.in-Some.piece.id }) = longest-ends (find) [] c.args.w.now c.loop-at.at (length c.args.w.now) (piece) in
+    let f : Found = record { end = c.in-Some.piece.end; id = c.in-Some.piece.id } in
     let on = rest-piece (find) c.args.w.now c.loop-at.at c.loop-at-test.true (piece) in
     let later = rest_from (find) c.args.w.now f.end in
     let n = c.loop-at.n in
@@ -53,9 +53,9 @@ loop-at-preserved c =
       few = omega (arith, c.loop-at.invariant.few, (ends).above);
       same =
           c.loop-at.invariant.same
-          ∙ ap (λ (o : Option (List ℕ)). more n (map length o)) on
+          ∙ ap (λ (o : Option (List ℕ)). more n (option_map length o)) on
           ∙ ap (more n) (count-piece f.id later)
-          ∙ more-one n (map length later);
+          ∙ more-one n (option_map length later);
       level = c.hold.auto.held ∙ c.loop-at.invariant.level;
       stored =
           λ xs g.
@@ -73,7 +73,7 @@ returns c =
       answered =
           sym
           (c.loop-at.invariant.same
-          ∙ ap (λ (o : Option (List ℕ)). more c.loop-at.n (map length o)) end
+          ∙ ap (λ (o : Option (List ℕ)). more c.loop-at.n (option_map length o)) end
           ∙ ap (λ (k : ℕ). Some k) (add-zero c.loop-at.n));
       held =
           λ xs g.

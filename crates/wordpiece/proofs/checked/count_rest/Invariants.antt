@@ -13,7 +13,7 @@ use Rattle.wordpiece.proofs.checked.count_rest.Given as goal
 pub record Here (find : List ℕ → Option ℕ) (w : List ℕ) (i : ℕ) (places held : List ℕ) (at n : ℕ) : Type 0 where
   pub below : at ≤ length w
   pub few : n ≤ at
-  pub same : map length (rest_from find w i) ≡ more n (map length (rest_from find w at))
+  pub same : option_map length (rest_from find w i) ≡ more n (option_map length (rest_from find w at))
   pub level : length held ≡ length places
   pub stored : (xs : List ℕ) → rest_from find w i ≡ Some xs → (left : List ℕ) × (rest_from find w at ≡ Some left) × (sets places 0 xs ≡ sets held n left)
 

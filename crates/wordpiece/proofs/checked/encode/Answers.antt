@@ -62,7 +62,7 @@ returns-then-end-w c =
     let some_byte : 0 < length c.args.w.now = omega (arith, c.if-w-eq0.false) in
     let short : (ids_of (find) c.args.unknown c.args.max_chars c.args.prefix.now c.args.w.now) ≡ (or_unknown c.args.unknown (pieces_of (find) c.args.prefix.now c.args.w.now)) = ids_short (find) c.args.unknown c.args.max_chars c.args.prefix.now c.args.w.now (sym c.too_long.ensures ∙ c.if-too_long.false) in
     let found : longest_to (find) [] c.args.w.now 0 (length c.args.w.now) ≡ found_in c.longest.result = sym (c.longest.ensures ∙ ap (λ (k : ℕ). longest_to (id_from (parts_of c.args.edge_at.now c.args.edge_n.now c.args.id.now c.args.byte.now c.args.to.now) k) [] c.args.w.now 0 (length c.args.w.now)) c.root.ensures) in
-    let first : longest_to (find) [] c.args.w.now 0 (length c.args.w.now) ≡ Some (record { end = c.in-Is.first.end; id = c.in-Is.first.id }) = found ∙ ap found_in c.in-Is.is in
+    let first : longest_to (find) [] c.args.w.now 0 (length c.args.w.now) ≡ Some (record { end = c.in-Some.first.end; id = c.in-Some.first.id }) = found ∙ ap found_in c.in-Some.is in
     let m = alone (find) c.args.unknown c.args.prefix.now c.args.w.now c.requires.well (some_byte) (first) c.if-end-w.true in
     written c.args.ids.now (short ∙ m.0) c.put-then-end-w.ensures
 
@@ -71,7 +71,7 @@ unfolding id_of
 encode_rest-requires-clause-w_value c =
     let find : List ℕ → Option ℕ = id_of (parts_of c.args.edge_at.now c.args.edge_n.now c.args.id.now c.args.byte.now c.args.to.now) in
     let found : longest_to (find) [] c.args.w.now 0 (length c.args.w.now) ≡ found_in c.longest.result = sym (c.longest.ensures ∙ ap (λ (k : ℕ). longest_to (id_from (parts_of c.args.edge_at.now c.args.edge_n.now c.args.id.now c.args.byte.now c.args.to.now) k) [] c.args.w.now 0 (length c.args.w.now)) c.root.ensures) in
-    let first : longest_to (find) [] c.args.w.now 0 (length c.args.w.now) ≡ Some (record { end = c.in-Is.first.end; id = c.in-Is.first.id }) = found ∙ ap found_in c.in-Is.is in
+    let first : longest_to (find) [] c.args.w.now 0 (length c.args.w.now) ≡ Some (record { end = c.in-Some.first.end; id = c.in-Some.first.id }) = found ∙ ap found_in c.in-Some.is in
     let s = longest-ends (find) [] c.args.w.now 0 (length c.args.w.now) (first) in first
 
 pub encode_rest-requires-clause-end_in_bounds : goal.encode_rest-requires-clause-end_in_bounds
@@ -79,7 +79,7 @@ unfolding id_of
 encode_rest-requires-clause-end_in_bounds c =
     let find : List ℕ → Option ℕ = id_of (parts_of c.args.edge_at.now c.args.edge_n.now c.args.id.now c.args.byte.now c.args.to.now) in
     let found : longest_to (find) [] c.args.w.now 0 (length c.args.w.now) ≡ found_in c.longest.result = sym (c.longest.ensures ∙ ap (λ (k : ℕ). longest_to (id_from (parts_of c.args.edge_at.now c.args.edge_n.now c.args.id.now c.args.byte.now c.args.to.now) k) [] c.args.w.now 0 (length c.args.w.now)) c.root.ensures) in
-    let first : longest_to (find) [] c.args.w.now 0 (length c.args.w.now) ≡ Some (record { end = c.in-Is.first.end; id = c.in-Is.first.id }) = found ∙ ap found_in c.in-Is.is in
+    let first : longest_to (find) [] c.args.w.now 0 (length c.args.w.now) ≡ Some (record { end = c.in-Some.first.end; id = c.in-Some.first.id }) = found ∙ ap found_in c.in-Some.is in
     let s = longest-ends (find) [] c.args.w.now 0 (length c.args.w.now) (first) in omega (arith, s.below, c.if-end-w.false)
 
 pub returns : goal.returns

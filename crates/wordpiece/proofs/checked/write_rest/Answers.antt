@@ -25,24 +25,24 @@ returns-in_default c =
 pub bounds-ids-n : goal.bounds-ids-n
 bounds-ids-n c =
     let find : List ℕ → Option ℕ = id_from (parts_of c.args.edge_at.now c.args.edge_n.now c.args.id.now c.args.byte.now c.args.to.now) c.args.rest.node in
-    let piece : longest_to (find) [] c.args.w.now c.loop-at.at (length c.args.w.now) ≡ Some (record { end = c.in-Is.piece.end; id = c.in-Is.piece.id }) = sym c.longest.ensures ∙ ap found_in c.in-Is.is in
-    let turn : (zs : List ℕ) × (rest_from (find) c.args.w.now c.in-Is.piece.end ≡ Some zs) × (c.loop-at.invariant.left ≡ c.in-Is.piece.id ∷ zs) = before-some c.in-Is.piece.id (rest_from (find) c.args.w.now c.in-Is.piece.end) (sym (rest-piece (find) c.args.w.now c.loop-at.at c.loop-at-test.true (piece)) ∙ c.loop-at.invariant.rest) in
+    let piece : longest_to (find) [] c.args.w.now c.loop-at.at (length c.args.w.now) ≡ Some (record { end = c.in-Some.piece.end; id = c.in-Some.piece.id }) = sym c.longest.ensures ∙ ap found_in c.in-Some.is in
+    let turn : (zs : List ℕ) × (rest_from (find) c.args.w.now c.in-Some.piece.end ≡ Some zs) × (c.loop-at.invariant.left ≡ c.in-Some.piece.id ∷ zs) = before-some c.in-Some.piece.id (rest_from (find) c.args.w.now c.in-Some.piece.end) (sym (rest-piece (find) c.args.w.now c.loop-at.at c.loop-at-test.true (piece)) ∙ c.loop-at.invariant.rest) in
     let place : c.loop-at.n < length c.loop-at.ids = omega (arith, c.loop-at.invariant.room, ap length (turn).2) in
     place
 
 pub loop-at-smaller : goal.loop-at-smaller
 loop-at-smaller c =
     let find : List ℕ → Option ℕ = id_from (parts_of c.args.edge_at.now c.args.edge_n.now c.args.id.now c.args.byte.now c.args.to.now) c.args.rest.node in
-    let piece : longest_to (find) [] c.args.w.now c.loop-at.at (length c.args.w.now) ≡ Some (record { end = c.in-Is.piece.end; id = c.in-Is.piece.id }) = sym c.longest.ensures ∙ ap found_in c.in-Is.is in
-    let ends : Ends c.args.w.now c.loop-at.at (length c.args.w.now) (record { end = c.in-Is.piece.end; id = c.in-Is.piece.id }) = longest-ends (find) [] c.args.w.now c.loop-at.at (length c.args.w.now) (piece) in
+    let piece : longest_to (find) [] c.args.w.now c.loop-at.at (length c.args.w.now) ≡ Some (record { end = c.in-Some.piece.end; id = c.in-Some.piece.id }) = sym c.longest.ensures ∙ ap found_in c.in-Some.is in
+    let ends : Ends c.args.w.now c.loop-at.at (length c.args.w.now) (record { end = c.in-Some.piece.end; id = c.in-Some.piece.id }) = longest-ends (find) [] c.args.w.now c.loop-at.at (length c.args.w.now) (piece) in
     omega (arith, (ends).above, (ends).below)
 
 pub loop-at-preserved : goal.loop-at-preserved
 loop-at-preserved c =
     let find : List ℕ → Option ℕ = id_from (parts_of c.args.edge_at.now c.args.edge_n.now c.args.id.now c.args.byte.now c.args.to.now) c.args.rest.node in
-    let piece : longest_to (find) [] c.args.w.now c.loop-at.at (length c.args.w.now) ≡ Some (record { end = c.in-Is.piece.end; id = c.in-Is.piece.id }) = sym c.longest.ensures ∙ ap found_in c.in-Is.is in
-    let ends : Ends c.args.w.now c.loop-at.at (length c.args.w.now) (record { end = c.in-Is.piece.end; id = c.in-Is.piece.id }) = longest-ends (find) [] c.args.w.now c.loop-at.at (length c.args.w.now) (piece) in
-    let turn : (zs : List ℕ) × (rest_from (find) c.args.w.now c.in-Is.piece.end ≡ Some zs) × (c.loop-at.invariant.left ≡ c.in-Is.piece.id ∷ zs) = before-some c.in-Is.piece.id (rest_from (find) c.args.w.now c.in-Is.piece.end) (sym (rest-piece (find) c.args.w.now c.loop-at.at c.loop-at-test.true (piece)) ∙ c.loop-at.invariant.rest) in
+    let piece : longest_to (find) [] c.args.w.now c.loop-at.at (length c.args.w.now) ≡ Some (record { end = c.in-Some.piece.end; id = c.in-Some.piece.id }) = sym c.longest.ensures ∙ ap found_in c.in-Some.is in
+    let ends : Ends c.args.w.now c.loop-at.at (length c.args.w.now) (record { end = c.in-Some.piece.end; id = c.in-Some.piece.id }) = longest-ends (find) [] c.args.w.now c.loop-at.at (length c.args.w.now) (piece) in
+    let turn : (zs : List ℕ) × (rest_from (find) c.args.w.now c.in-Some.piece.end ≡ Some zs) × (c.loop-at.invariant.left ≡ c.in-Some.piece.id ∷ zs) = before-some c.in-Some.piece.id (rest_from (find) c.args.w.now c.in-Some.piece.end) (sym (rest-piece (find) c.args.w.now c.loop-at.at c.loop-at-test.true (piece)) ∙ c.loop-at.invariant.rest) in
     let n = c.loop-at.n in
     let t = turn in
     let one : n + 1 ≡ suc n = add-one n in
@@ -50,8 +50,8 @@ loop-at-preserved c =
       below = (ends).below;
       left = t.0;
       rest = t.1;
-      room = omega (arith, c.loop-at.invariant.room, ap length t.2, length-set c.loop-at.ids n c.in-Is.piece.id);
-      level = length-set c.loop-at.ids n c.in-Is.piece.id ∙ c.loop-at.invariant.level;
+      room = omega (arith, c.loop-at.invariant.room, ap length t.2, length-set c.loop-at.ids n c.in-Some.piece.id);
+      level = length-set c.loop-at.ids n c.in-Some.piece.id ∙ c.loop-at.invariant.level;
       all =
           λ xs g.
           let r = c.loop-at.invariant.all xs g in

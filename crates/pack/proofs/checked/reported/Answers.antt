@@ -1,6 +1,6 @@
--- `pack::checked::summary` meets its contract, by the kind. Assumes nothing.
+-- `pack::checked::reported` meets its contract, by the kind. Assumes nothing.
 use Rattle.pack.proofs.FinePacks.{finite-rows, told-unigram, told-wordpiece}
-use Rattle.pack.proofs.checked.summary.Goals as goal
+use Rattle.pack.proofs.checked.reported.Goals as goal
 
 pub unknown_score-requires : goal.unknown_score-requires
 unknown_score-requires c = finite-rows c.requires c.in-Unigram.is
