@@ -57,7 +57,7 @@ unfolding wordpiece.piece_to wordpiece.longest_to wordpiece.pieces_from wordpiec
 wordpiece-opened = tt
 
 unfoldable pub pack-opened : Unit {0}
-unfolding pack.word pack.header_of pack.laid_out pack.kind_laid_out pack.kind_of pack.worth_at pack.row_at pack.rows_from pack.rows_of pack.strings_of pack.prefix_of build.content_fault build.pack_judged build.the_kind build.unigram_model lines.lines_after lines.lines lines.digits lines.decimal lines.spaced lines.printed_ids lines.printed_refusal coder.sound_in coder.result_err coder.ids_in output.lent_memory output.printed output.coded_line output.vocabulary_in output.lines_printed output.output_of output.output
+unfolding pack.word pack.header_of pack.laid_out pack.kind_laid_out pack.kind_of pack.worth_at pack.row_at pack.rows_from pack.rows_of pack.strings_of pack.prefix_of build.content_fault build.pack_judged build.the_kind build.unigram_model lines.lines_after lines.lines lines.digits lines.decimal lines.spaced lines.printed_ids lines.printed_refusal coder.sound_in coder.fault_in coder.ids_in output.lent_memory output.printed output.coded_line output.vocabulary_in output.lines_printed output.output_of output.output
 pack-opened = tt
 
 unfoldable pub example-opened : Unit {0}
