@@ -1,5 +1,8 @@
 -- Answers as numbers, for callers in other languages. Definitions only; assumes nothing.
-use Rattle.std.specs.Prelude.{◌≡◌, ℕ, ◌+◌, ◌*◌, ◌^◌, cond, List, [], ◌∷◌, ltb, length, Option, None, Some, Result, Ok, Err}
+use Rattle.refusal.specs.Lent.{Lent, was}
+use Rattle.rows.specs.Answers.{columns}
+use Rattle.rows.specs.Columns.{Columns}
+use Rattle.std.specs.Prelude.{◌≡◌, ℕ, ◌+◌, ◌*◌, ◌^◌, cond, List, [], ◌∷◌, ltb, length, Option, None, Some, Result, Ok, Err, Bool, Float}
 use Rattle.doubles.specs.Double.{Double}
 use Rattle.refusal.specs.declared.Fault.{Fault}
 use Rattle.refusal.specs.declared.Reason.{Reason}
@@ -12,6 +15,10 @@ use Rattle.text.specs.Text.{text_fault}
 use Rattle.scored.specs.Build.{Report}
 use Rattle.pack.specs.Build as pack
 use Rattle.output.specs.Output.{max_output, output}
+
+-- the lent lists of one row set as columns
+abbrev pub columns_was : Lent ℕ → Lent ℕ → Lent Bool → Lent Float → Lent ℕ → Columns
+columns_was off len scored score id = columns (was off) (was len) (was scored) (was score) (was id)
 
 -- What a call promises of what it says, `said`, where its answer is that as a number.
 pub record As {A : Type 0} (number : A → ℕ) (Promise : A → Type 0) (answer : ℕ) : Type 0 where

@@ -2,14 +2,14 @@
 // refusal's number and the low ones the row, or 4,294,967,295 where it names none.
 ghost use Rattle.std.specs.Prelude.{◌≡◌};
 ghost use Rattle.doubles.specs.Units.{units, scores_is, scores_was, scores_had};
-ghost use Rattle.rows.specs.Answers.{columns_was};
 ghost use Rattle.build.specs.Memory.{memory_is, memory_was, scored_memory_is, scored_memory_was};
-ghost use Rattle.exports.specs.Flat.{reason_number, from_rows_number, told_number, told_score, with_first, As};
+ghost use Rattle.exports.specs.Flat.{columns_was, reason_number, from_rows_number, told_number, told_score, with_first, As};
 ghost use Rattle.scored.specs.Build.{told, Built};
 ghost use Rattle.wordpiece.specs.Build as from-rows;
 ghost use Rattle.refusal.specs.Lent.{was};
 
 use refusal::Reason;
+use rows::columns::Lists;
 use scored::Summary;
 
 // The reason as one number.
@@ -51,9 +51,14 @@ pub extern "C" fn sk_from_rows(
     ensures { As from_rows_number (λ said. from-rows.Built (was tab) (columns_was off len scored score id)
         (memory_was edge_at edge_n node_id byte to work) said (memory_is edge_at edge_n node_id byte to work)) result }
 {
-    from_rows_number(wordpiece::from_rows(
-        tab, off, len, scored, score, id, edge_at, edge_n, node_id, byte, to, work,
-    ))
+    let lists = Lists {
+        off,
+        len,
+        scored,
+        score,
+        id,
+    };
+    from_rows_number(wordpiece::from_rows(tab, &lists, edge_at, edge_n, node_id, byte, to, work))
 }
 
 // A score in the first of the lent places, if there is one.
@@ -101,9 +106,16 @@ pub extern "C" fn sk_build(
         (scored_memory_is edge_at edge_n node_id node_score byte to work)
         × (scores_is unknown_score ≡ told_score (told said) (scores_had unknown_score))) result }
 {
+    let lists = Lists {
+        off,
+        len,
+        scored,
+        score,
+        id,
+    };
     built_number(
         scored::build(
-            tab, off, len, scored, score, id, edge_at, edge_n, node_id, node_score, byte, to, work,
+            tab, &lists, edge_at, edge_n, node_id, node_score, byte, to, work,
         ),
         unknown_score,
     )

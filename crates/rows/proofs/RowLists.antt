@@ -131,17 +131,13 @@ module _
     (off len : List ℕ) (scored : List Bool) (score : List Float) (id : List ℕ)
     (flat : Level off len scored score id) (i : ℕ) (h : i < length off)
   where
-    pub row-scored :
-        get_or scored i false ≡ true
-        → row_is (record { off = get_or off i 0; len = get_or len i 0; worth = code-worth-is.Score (get_or score i nan) }) ≡ row_at (columns off len scored score id) i
-    unfolding row_is worth_is row_at
-    row-scored e =
+    pub worth-scored : get_or scored i false ≡ true → worth_is (code-worth-is.Score (get_or score i nan)) ≡ (row_at (columns off len scored score id) i).worth
+    unfolding worth_is row_at
+    worth-scored e =
         let g : get_or (map units score) i plus_zero ≡ units (get_or score i nan) =
         get_or-map-inside units score i nan plus_zero (omega (arith, flat.score-level)) in
         rw (e, g)
 
-    pub row-numbered :
-        get_or scored i false ≡ false
-        → row_is (record { off = get_or off i 0; len = get_or len i 0; worth = code-worth-is.Id (get_or id i 0) }) ≡ row_at (columns off len scored score id) i
-    unfolding row_is worth_is row_at
-    row-numbered e = rw e
+    pub worth-numbered : get_or scored i false ≡ false → worth_is (code-worth-is.Id (get_or id i 0)) ≡ (row_at (columns off len scored score id) i).worth
+    unfolding worth_is row_at
+    worth-numbered e = rw e

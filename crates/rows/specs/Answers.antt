@@ -1,4 +1,5 @@
 -- What the answers about rows say, and the columns of a row list as one value. Definitions only; assumes nothing.
+use Rattle.rows.specs.declared.columns.Lists.{Lists}
 use Rattle.std.specs.Result.{result_err}
 use Rattle.std.specs.Prelude.{◌≡◌, ℕ, Bool, true, List, map, Float, length, replicate, Option, None, Some, Result, ⊤, Ok, Err}
 use Rattle.doubles.specs.Units.{units}
@@ -10,9 +11,9 @@ use Rattle.rows.specs.Columns.{Columns}
 abbrev pub columns : List ℕ → List ℕ → List Bool → List Float → List ℕ → Columns
 columns off len scored score id = record { off = off; len = len; scored = scored; score = map units score; id = id }
 
--- the same as a contract names the lists
-abbrev pub columns_was : Lent ℕ → Lent ℕ → Lent Bool → Lent Float → Lent ℕ → Columns
-columns_was off len scored score id = columns (was off) (was len) (was scored) (was score) (was id)
+-- the same, of the lists as they are lent together
+abbrev pub columns_in : Lists → Columns
+columns_in lists = columns lists.off.now lists.len.now lists.scored.now lists.score.now lists.id.now
 
 -- the lent lists where each row has a score for its worth
 abbrev pub scored_columns : List ℕ → List ℕ → List Float → List ℕ → Columns

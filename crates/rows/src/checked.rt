@@ -1,56 +1,52 @@
 // For callers that have tested their lists: what stands here asks for lists of one length.
+ghost use Rattle.std.specs.Prelude.{◌≡◌, ◌<◌, ◌≤◌, true, length};
 ghost use Rattle.std.specs.Result.{result_err};
-ghost use Rattle.std.specs.Prelude.{◌≡◌, ◌<◌, ◌≤◌, length};
 ghost use Rattle.refusal.specs.Sizes.{max_rows};
-ghost use Rattle.rows.specs.Rows.{row_is, first_bad};
-ghost use Rattle.rows.specs.Columns.{row_at, rows_of};
-ghost use Rattle.rows.specs.Answers.{Level, columns_was};
+ghost use Rattle.rows.specs.Rows.{worth_is, row_is, first_bad};
+ghost use Rattle.rows.specs.Columns.{row_at, rows_of, level};
+ghost use Rattle.rows.specs.Answers.{columns_in};
 ghost use Rattle.refusal.specs.Lent.{was};
 
+use crate::columns::Lists;
 use crate::{Kind, Row, Worth};
 use refusal::Reason;
 
-// The row at i, of lists of one length.
-pub fn row_at(off: &[u32], len: &[u32], scored: &[bool], score: &[f64], id: &[u32], i: usize) -> Row
-    requires level { Level off.now len.now scored.now score.now id.now }
-    requires i_in_bounds { i < length off.now }
-    ensures { row_is result ≡ row_at (columns_was off len scored score id) i }
+// What the row at i gives its token: its score where it has one for its worth, else its id.
+fn worth_at(lists: &Lists, i: usize) -> Worth
+    requires level { level (columns_in lists.now) ≡ true }
+    requires i_in_bounds { i < length lists.now.off.now }
+    ensures { worth_is result ≡ (row_at (columns_in lists.now) i).worth }
 {
-    if scored[i] {
-        return Row {
-            off: off[i],
-            len: len[i],
-            worth: Worth::Score(score[i]),
-        };
+    if lists.scored[i] {
+        return Worth::Score(lists.score[i]);
     }
+    Worth::Id(lists.id[i])
+}
+
+// The row at i, of lists of one length.
+pub fn row_at(lists: &Lists, i: usize) -> Row
+    requires level { level (columns_in lists.now) ≡ true }
+    requires i_in_bounds { i < length lists.now.off.now }
+    ensures { row_is result ≡ row_at (columns_in lists.now) i }
+{
     Row {
-        off: off[i],
-        len: len[i],
-        worth: Worth::Id(id[i]),
+        off: lists.off[i],
+        len: lists.len[i],
+        worth: worth_at(lists, i),
     }
 }
 
 // The first bad row of lists of one length, few enough that a row's number fits a u32.
-pub fn first_bad(
-    kind: Kind,
-    tab: &[u8],
-    off: &[u32],
-    len: &[u32],
-    scored: &[bool],
-    score: &[f64],
-    id: &[u32],
-) -> Result<(), Reason>
-    requires level { Level off.now len.now scored.now score.now id.now }
-    requires off_len_bound { length off.now ≤ max_rows }
-    ensures { result_err result ≡ first_bad kind (was tab) 0 (rows_of (columns_was off len scored score id)) }
+pub fn first_bad(kind: Kind, tab: &[u8], lists: &Lists) -> Result<(), Reason>
+    requires level { level (columns_in lists.now) ≡ true }
+    requires off_len_bound { length lists.now.off.now ≤ max_rows }
+    ensures { result_err result ≡ first_bad kind (was tab) 0 (rows_of (columns_in lists.now)) }
 {
-    let mut i: usize = 0;
-    while i < off.len() {
-        let row = row_at(off, len, scored, score, id, i);
+    for i in 0..lists.off.len() {
+        let row = row_at(lists, i);
         if let Err(f) = crate::row_fault(kind, tab, row) {
             return Err(Reason::Row(f, i as u32));
         }
-        i += 1;
     }
     Ok(())
 }

@@ -15,7 +15,7 @@ ghost use Rattle.rows.specs.declared.Kind.TheVariants.{Unigram, WordPiece};
 ghost use Rattle.refusal.specs.Lent.{was};
 
 // Which of the two a vocabulary is for.
-#[derive(Clone, Copy)]
+#[derive(Clone, Copy, PartialEq, Eq)]
 pub enum Kind {
     Unigram,
     WordPiece,
@@ -66,19 +66,16 @@ fn id_fault(worth: Worth) -> Result<(), Fault>
 pub fn row_fault(kind: Kind, tab: &[u8], row: Row) -> Result<(), Fault>
     ensures { result_err result ≡ row_fault kind (was tab) (row_is row) }
 {
-    let off = row.off;
-    let len = row.len;
-    if text::is_outside(tab, off, len) {
+    if text::is_outside(tab, row.off, row.len) {
         return Err(Fault::Span);
     }
-    if MAX_TOKEN < len {
+    if MAX_TOKEN < row.len {
         return Err(Fault::Token);
     }
-    let token = text::checked::span(tab, off, len);
+    let token = text::checked::span(tab, row.off, row.len);
     text::utf8::judge(token)?;
-    let worth = row.worth;
     match kind {
-        Kind::Unigram => score_fault(worth),
-        Kind::WordPiece => id_fault(worth),
+        Kind::Unigram => score_fault(row.worth),
+        Kind::WordPiece => id_fault(row.worth),
     }
 }

@@ -8,10 +8,8 @@ fn lowest(x: f64, score: &[f64]) -> f64
     ensures { units result ≡ lowest (units x) (scores_was score) }
 {
     let mut low = x;
-    let mut i: usize = 0;
-    while i < score.len() {
-        low = doubles::lower(low, score[i]);
-        i += 1;
+    for y in score {
+        low = doubles::lower(low, *y);
     }
     low
 }

@@ -3,11 +3,12 @@
 
 use refusal::Reason;
 use rows::Kind;
+use rows::columns::Lists;
 
 pub mod checked;
 pub mod scores;
 
-ghost use Rattle.rows.specs.Answers.{columns_was};
+ghost use Rattle.rows.specs.Answers.{columns_in};
 ghost use Rattle.build.specs.Memory.{scored_memory_is, scored_memory_was};
 ghost use Rattle.scored.specs.Build as promise;
 ghost use Rattle.refusal.specs.Lent.{was};
@@ -24,11 +25,7 @@ pub struct Summary {
 // zero. After a build the work places and the places past the trie are zero.
 pub fn build(
     tab: &[u8],
-    off: &[u32],
-    len: &[u32],
-    scored: &[bool],
-    score: &[f64],
-    id: &[u32],
+    lists: &Lists,
     edge_at: &mut [u32],
     edge_n: &mut [u16],
     node_id: &mut [u32],
@@ -37,12 +34,23 @@ pub fn build(
     to: &mut [u32],
     work: &mut [u32],
 ) -> Result<Summary, Reason>
-    ensures { promise.Built (was tab) (columns_was off len scored score id)
+    ensures { promise.Built (was tab) (columns_in lists.now)
         (scored_memory_was edge_at edge_n node_id node_score byte to work) result
         (scored_memory_is edge_at edge_n node_id node_score byte to work) }
 {
-    rows::columns::judge(Kind::Unigram, tab, off, len, scored, score, id)?;
+    rows::columns::judge(Kind::Unigram, tab, lists)?;
     checked::build_rows(
-        tab, off, len, score, id, edge_at, edge_n, node_id, node_score, byte, to, work,
+        tab,
+        lists.off,
+        lists.len,
+        lists.score,
+        lists.id,
+        edge_at,
+        edge_n,
+        node_id,
+        node_score,
+        byte,
+        to,
+        work,
     )
 }

@@ -3,11 +3,12 @@
 
 use refusal::{Fault, Reason};
 use rows::Kind;
+use rows::columns::Lists;
 
 pub mod checked;
 
 ghost use Rattle.trie.specs.Trie.{parts};
-ghost use Rattle.rows.specs.Answers.{columns_was};
+ghost use Rattle.rows.specs.Answers.{columns_in};
 ghost use Rattle.build.specs.Memory.{memory_is, memory_was};
 ghost use Rattle.wordpiece.specs.Build as promise;
 ghost use Rattle.wordpiece.specs.Encode.{Encoded};
@@ -18,11 +19,7 @@ ghost use Rattle.refusal.specs.Lent.{was};
 // zero. After a build the work places and the places past the trie are zero.
 pub fn from_rows(
     tab: &[u8],
-    off: &[u32],
-    len: &[u32],
-    scored: &[bool],
-    score: &[f64],
-    id: &[u32],
+    lists: &Lists,
     edge_at: &mut [u32],
     edge_n: &mut [u16],
     node_id: &mut [u32],
@@ -30,17 +27,17 @@ pub fn from_rows(
     to: &mut [u32],
     work: &mut [u32],
 ) -> Result<u32, Reason>
-    ensures { promise.Built (was tab) (columns_was off len scored score id)
+    ensures { promise.Built (was tab) (columns_in lists.now)
         (memory_was edge_at edge_n node_id byte to work) result (memory_is edge_at edge_n node_id byte to work) }
 {
-    rows::columns::judge(Kind::WordPiece, tab, off, len, scored, score, id)?;
+    rows::columns::judge(Kind::WordPiece, tab, lists)?;
     let room = build::checked::room(edge_at, edge_n, node_id, byte, to, work);
     let built = build::checked::build(
         Kind::WordPiece,
         tab,
-        off,
-        len,
-        id,
+        lists.off,
+        lists.len,
+        lists.id,
         edge_at,
         edge_n,
         node_id,

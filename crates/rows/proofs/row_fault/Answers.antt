@@ -25,9 +25,9 @@ unfolding row_is
 returns-then-is_outside c = let a = c.args in
     sym (fault-span a.kind a.tab.now (row_is a.row) (ltb-true _ _ (sym c.is_outside.ensures ∙ c.if-is_outside.true)))
 
-pub returns-then-len-gt-MAX_TOKEN : goal.returns-then-len-gt-MAX_TOKEN
+pub returns-then-row-gt-MAX_TOKEN : goal.returns-then-row-gt-MAX_TOKEN
 unfolding row_is
-returns-then-len-gt-MAX_TOKEN c =
+returns-then-row-gt-MAX_TOKEN c =
     let inside : let a = c.args in a.row.off + a.row.len ≤ length a.tab.now = ltb-false _ _ (sym c.is_outside.ensures ∙ c.if-is_outside.false) in
     let a = c.args in
     sym (fault-token a.kind a.tab.now (row_is a.row) (inside) (omega arith))

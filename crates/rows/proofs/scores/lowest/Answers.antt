@@ -12,15 +12,14 @@ use Rattle.rows.specs.Scores.{lowest}
 use Rattle.rows.proofs.LowestScores.{low_turn, low-stop}
 use Rattle.rows.proofs.scores.lowest.Goals as goal
 
-pub loop-i-preserved : goal.loop-i-preserved
-loop-i-preserved c = let i = c.loop-i.i in
-    let below : i < length c.args.score.now = omega arith in (
-      omega arith,
-      c.loop-i.invariant.1
-          ∙ low_turn c.args.score.now (units c.loop-i.low) i below
-          ∙ ap (λ (x : Double). lowest x (map units (drop (suc i) c.args.score.now))) (sym c.lower-low.ensures)
-          ∙ ap (λ (k : ℕ). lowest (units c.lower-low.result) (map units (drop k c.args.score.now))) (sym (add-one i)),
-    )
+pub loop-y-preserved : goal.loop-y-preserved
+loop-y-preserved c =
+    let i = c.loop-y.y-index in
+    let below : i < length c.args.score.now = omega arith in
+    c.loop-y.invariant
+    ∙ low_turn c.args.score.now (units c.loop-y.low) i below
+    ∙ ap (λ (x : Double). lowest x (map units (drop (suc i) c.args.score.now))) (sym c.lower-low.ensures)
+    ∙ ap (λ (k : ℕ). lowest (units c.lower-low.result) (map units (drop k c.args.score.now))) (sym (add-one i))
 
 pub returns : goal.returns
-returns c = sym (c.loop-i.invariant.1 ∙ low-stop c.args.score.now (units c.loop-i.low) c.loop-i.i c.loop-i-test.false)
+returns c = sym (c.loop-y.invariant ∙ low-stop c.args.score.now (units c.loop-y.low) _ (omega arith))

@@ -6,8 +6,5 @@ use Rattle.doubles.specs.Units.{units}
 use Rattle.rows.specs.Scores.{lowest}
 use Rattle.rows.proofs.scores.lowest.Given as goal
 
-abbrev pub invariant-loop-i : goal.invariant-loop-i
-invariant-loop-i l = (l.i ≤ length l.score) × (lowest (units l.x) (map units l.score) ≡ lowest (units l.low) (map units (drop l.i l.score)))
-
-abbrev pub decreases-loop-i : goal.decreases-loop-i
-decreases-loop-i l = length l.score - l.i
+abbrev pub invariant-loop-y : goal.invariant-loop-y
+invariant-loop-y l = lowest (units l.x) (map units l.score) ≡ lowest (units l.low) (map units (drop l.y-index l.score))
