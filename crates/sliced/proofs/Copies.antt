@@ -55,8 +55,8 @@ module _ (n : ℕ) (off len : List ℕ) (scores : List Float) where
   unfolding short_of
   short-is = ap (λ (k : ℕ). any_below n (length off ∷ length len ∷ k ∷ [])) (sym (length-map scores units))
 
-  pub all_hold : short_of n (row_places off len scores) ≡ false → (n ≤ length off) × (n ≤ length len) × (n ≤ length scores)
-  all_hold e = three-hold n (length off) (length len) (length scores) (short-is ∙ e)
+  pub all_hold : false ≡ short_of n (row_places off len scores) → (n ≤ length off) × (n ≤ length len) × (n ≤ length scores)
+  all_hold e = three-hold n (length off) (length len) (length scores) (short-is ∙ sym e)
 
 -- ---- every place zero
 
@@ -169,8 +169,8 @@ module _ (tab : List ℕ) (rs : List Row) (fine : rows_judged tab rs ≡ None) w
       ∙ sizes.1
 
 -- nor have columns that are those
-pub put-fine : (tab : List ℕ) (rs : List Row) {c : Columns} → rows_judged tab rs ≡ None → c ≡ columns_for rs → columns_fault Unigram tab c ≡ None
-put-fine tab rs e put = ap (columns_fault Unigram tab) put ∙ columns-fine tab rs e
+pub put-fine : (tab : List ℕ) (rs : List Row) {c : Columns} → None ≡ rows_judged tab rs → c ≡ columns_for rs → columns_fault Unigram tab c ≡ None
+put-fine tab rs fine put = ap (columns_fault Unigram tab) put ∙ columns-fine tab rs (sym fine)
 
 -- no fault of rows is 7
 judged-number : (tab : List ℕ) (rs : List Row) (r : Reason) → rows_judged tab rs ≡ Some r → eqb (number_of r) 7 ≡ false
@@ -185,9 +185,16 @@ zeros none_left before false = refl
 
 -- ---- the promise, in each case
 
-module _ (tab : List ℕ) (rs : List Row) (lent : RowPlaces) (m : Memory) where
+module _ (tab : List ℕ) (rows : List code_row.Row) (lent : RowPlaces) (m : Memory) where
+  abbrev rs : List Row
+  rs = map row_is rows
+
   abbrev short : Bool
   short = short_for (length rs) tab rs lent m
+
+  -- the rows and what they stand for are as many
+  short-rows : {t : Bool} → t ≡ short_of (length rows) lent → short ≡ (t || no_scored_room (nodes_of tab rs) m)
+  short-rows e = ap (λ (t : Bool). t || no_scored_room (nodes_of tab rs) m) (ap (λ (n : ℕ). short_of n lent) (length-map rows row_is) ∙ sym e)
 
   zeros-left : rows_judged tab rs ≡ None → zero_rows lent ≡ leaves (build_fault (rows_judged tab rs) short) (zero_rows lent) (zero_rows lent) lent
   zeros-left e =
@@ -210,26 +217,28 @@ module _ (tab : List ℕ) (rs : List Row) (lent : RowPlaces) (m : Memory) where
 
   -- no fault, and too few places for the rows
   pub rows-short :
-      {answer : Result Summary Reason} {lent_after : RowPlaces} {after : Memory} → rows_judged tab rs ≡ None → short_of (length rs) lent ≡ true
+      {answer : Result Summary Reason} {lent_after : RowPlaces} {after : Memory} → None ≡ rows_judged tab rs → true ≡ short_of (length rows) lent
       → answer ≡ Err (reason.Call fault.Room) → lent_after ≡ zero_rows lent → after ≡ cleared m → RowsBuilt tab rs lent m answer lent_after after
   unfolding told
-  rows-short {after = after} e p a l k =
+  rows-short {after = after} fine p a l k =
+      let e = sym fine in
       record {
         built =
             subst (λ (x : Result Summary Reason). Promised Unigram tab rs (rows_judged tab rs) short (report_of tab rs) m (told x) after) (sym a)
-            (built-short Unigram tab rs (report_of tab rs) m e (ap (λ (t : Bool). t || no_scored_room (nodes_of tab rs) m) p) k);
+            (built-short Unigram tab rs (report_of tab rs) m e (short-rows p) k);
         places = l ∙ zeros-left e;
       }
 
   -- no fault, and places that the rows were put in
   pub rows-built :
-      (c : Columns) {answer : Result Summary Reason} {lent_after : RowPlaces} {after : Memory} → rows_judged tab rs ≡ None → short_of (length rs) lent ≡ false
+      (c : Columns) {answer : Result Summary Reason} {lent_after : RowPlaces} {after : Memory} → None ≡ rows_judged tab rs → false ≡ short_of (length rows) lent
       → c ≡ columns_for rs → Built tab c m answer after → lent_after ≡ zero_rows lent → RowsBuilt tab rs lent m answer lent_after after
-  rows-built c {answer = answer} {after = after} e p put b l =
+  rows-built c {answer = answer} {after = after} fine p put b l =
+      let e = sym fine in
       record {
         built =
-            subst (λ (t : Bool). Promised Unigram tab rs (rows_judged tab rs) (t || no_scored_room (nodes_of tab rs) m) (report_of tab rs) m (told answer) after) (sym p)
-            (subst (λ (x : Option Reason). Promised Unigram tab rs x (no_scored_room (nodes_of tab rs) m) (report_of tab rs) m (told answer) after) (put-fine tab rs e put ∙ sym e)
+            subst (λ (t : Bool). Promised Unigram tab rs (rows_judged tab rs) t (report_of tab rs) m (told answer) after) (sym (short-rows p))
+            (subst (λ (x : Option Reason). Promised Unigram tab rs x (no_scored_room (nodes_of tab rs) m) (report_of tab rs) m (told answer) after) (put-fine tab rs fine put ∙ fine)
             (subst (λ (l : List Row). Promised Unigram tab l (columns_fault Unigram tab c) (no_scored_room (nodes_of tab l) m) (report_of tab l) m (told answer) after)
             (ap rows_of put ∙ rows_are tab rs e) b));
         places = l ∙ zeros-left e;

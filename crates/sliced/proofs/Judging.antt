@@ -42,13 +42,13 @@ module _ (tab : List ℕ) (rows : List code_row.Row) where
   bad_from i = first_bad Unigram tab i (drop i rs)
 
   -- the sizes first
-  pub judged-large : too_large (length rows) (length tab) ≡ true → Some (reason.Call fault.Size) ≡ rows_judged tab rs
+  pub judged-large : true ≡ too_large (length rows) (length tab) → Some (reason.Call fault.Size) ≡ rows_judged tab rs
   unfolding rows_judged
-  judged-large e = sym (found _ _ _ (ap (λ (n : ℕ). too_large n (length tab)) (length-map rows row_is) ∙ e))
+  judged-large e = sym (found _ _ _ (ap (λ (n : ℕ). too_large n (length tab)) (length-map rows row_is) ∙ sym e))
 
-  pub judged-fits : too_large (length rows) (length tab) ≡ false → rows_judged tab rs ≡ bad_from 0
+  pub judged-fits : false ≡ too_large (length rows) (length tab) → rows_judged tab rs ≡ bad_from 0
   unfolding rows_judged
-  judged-fits e = not_found _ _ _ (ap (λ (n : ℕ). too_large n (length tab)) (length-map rows row_is) ∙ e)
+  judged-fits e = not_found _ _ _ (ap (λ (n : ℕ). too_large n (length tab)) (length-map rows row_is) ∙ sym e)
 
   module _ (i : ℕ) (d : code_row.Row) (h : i < length rows) where
     ahead : drop i rs ≡ row_is (get_or rows i d) ∷ drop (suc i) rs

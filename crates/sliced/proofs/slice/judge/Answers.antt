@@ -7,25 +7,25 @@ use Rattle.sliced.proofs.Judging.{AtRow, judged-large, judged-fits, row-bad, row
 use Rattle.sliced.proofs.slice.judge.Goals as goal
 
 pub returns-then-is_large : goal.returns-then-is_large
-returns-then-is_large c = judged-large c.args.tab.now c.args.rows.now (sym c.is_large.ensures ∙ c.if-is_large.true)
+returns-then-is_large c = judged-large c.args.tab.now c.args.rows.now c.if-is_large.ensures
+
+pub loop-i-init : goal.loop-i-init
+loop-i-init c = judged-fits c.args.tab.now c.args.rows.now c.if-is_large.ensures
 
 pub returns-in_err-map_err : goal.returns-in_err-map_err
 returns-in_err-map_err c =
     let told : AtRow c.row_fault.result c.loop-i.i-counter c.map_err.result = search rules in
     let same : c.from_residual.result ≡ Err c.in_err-map_err.field-0.0 = search rules in
-    let fits = judged-fits c.args.tab.now c.args.rows.now (sym c.is_large.ensures ∙ c.if-is_large.false) in
     ap result_err same
     ∙ sym
-    (fits ∙ c.loop-i.invariant
+    (c.loop-i.invariant
     ∙ row-bad c.args.tab.now c.args.rows.now c.loop-i.i-counter _ c.loop-i-test.true c.row_fault.result c.row_fault.ensures told c.in_err-map_err.was)
 
 pub loop-i-preserved : goal.loop-i-preserved
 loop-i-preserved c =
     let told : AtRow c.row_fault.result c.loop-i.i-counter c.map_err.result = search rules in
-    c.loop-i.invariant ∙ row-fine c.args.tab.now c.args.rows.now c.loop-i.i-counter _ c.loop-i-test.true c.row_fault.result c.row_fault.ensures told c.in_ok-map_err.was
+    c.loop-i.invariant
+    ∙ row-fine c.args.tab.now c.args.rows.now c.loop-i.i-counter _ c.loop-i-test.true c.row_fault.result c.row_fault.ensures told c.in_ok-map_err.was
 
 pub returns : goal.returns
-returns c =
-    sym
-    (judged-fits c.args.tab.now c.args.rows.now (sym c.is_large.ensures ∙ c.if-is_large.false) ∙ c.loop-i.invariant
-    ∙ all-fine c.args.tab.now c.args.rows.now c.loop-i.i-counter c.loop-i-test.false)
+returns c = sym (c.loop-i.invariant ∙ all-fine c.args.tab.now c.args.rows.now c.loop-i.i-counter c.loop-i-test.false)
