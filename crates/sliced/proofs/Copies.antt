@@ -2,14 +2,15 @@
 -- are the rows of these, so that what is built from them is what the rows ask for. Assumes nothing.
 use Rattle.scored.specs.declared.Summary.{Summary}
 use Rattle.std.specs.Prelude.{Option, None, Some, Result, Err, ℕ}
+use Rattle.std.proofs.lemmas.Bool.Decides.{nat_tests}
 use Rattle.std.proofs.lemmas.List.{map_more, take-map, take_more_set}
 use mathlib.Core.Path.{◌≡◌, refl, sym, ap, ◌∙◌, subst}
 use mathlib.Core.Bool.{Bool, true, false, ◌||◌, cond}
 use mathlib.Core.List.{List, [], ◌∷◌, ◌++◌, map}
 use Prim.Native.Nat.{ℕ, ◌+◌, ◌≤◌, ◌<◌}
 use native.Mathlib.Omega.{arith}
-use borrow.Author.Tests.{ltb-false, eq-eqb}
-use lib.Dec.{ltb, eqb}
+use borrow.Author.Tests.{eq-eqb}
+use lib.Dec.{eqb}
 use lib.Ieee.{Float}
 use lib.ListN.{length, get_or, set, take, replicate, length-map, length-replicate, get_or-map, get_or-replicate}
 use lib.Seq.{ext_get_or, length-take-le}
@@ -21,7 +22,7 @@ use Rattle.refusal.specs.declared.Reason.{Reason}
 use Rattle.refusal.specs.declared.Reason.TheVariants as reason
 use Rattle.refusal.specs.Refusal.{number_of, refuse}
 use Rattle.refusal.specs.Places.{zeroed}
-use Rattle.refusal.proofs.Tests.{neither-says, passed}
+use Rattle.refusal.proofs.Tests.{passed}
 use Rattle.rows.specs.declared.Kind.TheVariants.{Unigram}
 use Rattle.rows.specs.declared.Row as code_row
 use Rattle.rows.specs.Rows.{Row, Worth, score, id, row_is, worth_is, worth_fault, first_bad}
@@ -42,21 +43,11 @@ use Rattle.sliced.specs.Copied.{first_places, columns_for}
 
 -- ---- room for the rows
 
-three-hold : (n a b c : ℕ) → any_below n (a ∷ b ∷ c ∷ []) ≡ false → (n ≤ a) × (n ≤ b) × (n ≤ c)
-unfolding any_below
-three-hold n a b c e =
-    let p = neither-says (ltb a n) (ltb b n || (ltb c n || false)) e in
-    let q = neither-says (ltb b n) (ltb c n || false) p.1 in
-    (ltb-false a n p.0, ltb-false b n q.0, ltb-false c n (neither-says (ltb c n) false q.1).0)
-
-module _ (n : ℕ) (off len : List ℕ) (scores : List Float) where
-  -- by the columns' lengths
-  pub short-is : any_below n (length off ∷ length len ∷ length scores ∷ []) ≡ short_of n (row_places off len scores)
-  unfolding short_of
-  short-is = ap (λ (k : ℕ). any_below n (length off ∷ length len ∷ k ∷ [])) (sym (length-map scores units))
-
-  pub all_hold : false ≡ short_of n (row_places off len scores) → (n ≤ length off) × (n ≤ length len) × (n ≤ length scores)
-  all_hold e = three-hold n (length off) (length len) (length scores) (short-is ∙ sym e)
+pub all_hold : (n : ℕ) (off len : List ℕ) (scores : List Float) → false ≡ short_of n (row_places off len scores) → (n ≤ length off) × (n ≤ length len) × (n ≤ length scores)
+unfolding short_of any_below
+all_hold n off len scores e =
+    let s = length-map scores units in
+    (grind (arith, nat_tests), grind (arith, nat_tests), grind (arith, nat_tests))
 
 -- ---- every place zero
 
@@ -153,12 +144,7 @@ module _ (tab : List ℕ) (rs : List Row) (fine : rows_judged tab rs ≡ None) w
 
   flat : level (columns_for rs) ≡ true
   unfolding level columns_for
-  flat =
-      let k = length-map rs (λ (r : Row). r.off) in
-      let l = length-map rs (λ (r : Row). r.len) in
-      let s = length-map rs (λ (r : Row). score_of r.worth) in
-      let f = length-replicate (length rs) true in
-      rw (eq-eqb _ _ (l ∙ sym k), eq-eqb _ _ (f ∙ sym k), eq-eqb _ _ (s ∙ sym k), eq-eqb (length (map (λ (r : Row). r.off) rs)) (length (map (λ (r : Row). r.off) rs)) refl)
+  flat = simp (length-map, length-replicate, eq-eqb (length rs) (length rs) refl)
 
   -- and these have no fault
   columns-fine : columns_fault Unigram tab (columns_for rs) ≡ None

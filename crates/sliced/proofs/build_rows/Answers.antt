@@ -2,7 +2,7 @@
 -- rows are built from the columns, which are zero afterwards. Assumes nothing.
 use Rattle.std.specs.Prelude.{Err}
 use Rattle.std.proofs.Common.{rules}
-use mathlib.Core.Path.{◌≡◌, sym, ◌∙◌}
+use mathlib.Core.Path.{◌≡◌, ◌∙◌}
 use mathlib.Core.List.{map}
 use native.Mathlib.Omega.{arith}
 use lib.ListN.{length}
