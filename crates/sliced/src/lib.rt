@@ -34,14 +34,17 @@ pub fn build_rows(
         (scored_memory_was edge_at edge_n node_id node_score byte to work) result (places_is off len score)
         (scored_memory_is edge_at edge_n node_id node_score byte to work) }
 {
+    slice::judge(tab, rows)?;
     let n = rows.len();
-    let mut found = slice::sized(n, tab.len());
-    let mut t: usize = 0;
-    while t < 2 * n {
-        found = slice::turn(found, n, t, tab, rows[t % n], off, len, score);
-        t += 1;
+    if slice::is_short(n, off, len, score) {
+        return slice::refuse_short(
+            off, len, score, edge_at, edge_n, node_id, node_score, byte, to, work,
+        );
     }
-    slice::build_copied(
-        found, n, tab, off, len, score, edge_at, edge_n, node_id, node_score, byte, to, work,
-    )
+    slice::put(rows, off, len, score);
+    let answer = slice::build_first(
+        n, tab, off, len, score, edge_at, edge_n, node_id, node_score, byte, to, work,
+    );
+    slice::clear_rows(off, len, score);
+    answer
 }
