@@ -4,7 +4,7 @@ ghost use Rattle.cutting.specs.Tracing.{ends_from, Falling};
 ghost use Rattle.refusal.specs.Places.{overlay};
 ghost use Rattle.refusal.specs.Lent.{was};
 
-// How many pieces there are before n.
+// How many pieces there are before n. The walk follows the starts: it counts pieces, and no index.
 fn count(start: &[u32], n: usize) -> usize
     requires { Falling start.now n }
     ensures { result ≡ length (ends_from (was start) n n) }

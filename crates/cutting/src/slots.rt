@@ -15,6 +15,12 @@ pub struct Slot {
     pub score: f64,
 }
 
+const EMPTY: Slot = Slot {
+    start: NO_ID,
+    id: NO_ID,
+    score: 0.0,
+};
+
 // The slot at j.
 pub fn slot_at(start: &[u32], slot_id: &[u32], slot_score: &[f64], j: usize) -> Slot
     requires { Inside start.now slot_id.now slot_score.now j }
@@ -45,11 +51,7 @@ pub fn offer(start: &mut [u32], slot_id: &mut [u32], slot_score: &mut [f64], j: 
         (slots_is start slot_id slot_score) }
 {
     let standing = slot_at(start, slot_id, slot_score, j);
-    if standing.start == NO_ID {
-        put(start, slot_id, slot_score, j, q);
-        return;
-    }
-    if doubles::better(q.score, standing.score) {
+    if standing.start == NO_ID || doubles::better(q.score, standing.score) {
         put(start, slot_id, slot_score, j, q);
     }
 }
@@ -59,19 +61,7 @@ pub fn clear(start: &mut [u32], slot_id: &mut [u32], slot_score: &mut [f64], n: 
     requires { Inside start.old slot_id.old slot_score.old n }
     ensures { Cleared (slots_was start slot_id slot_score) n (slots_is start slot_id slot_score) }
 {
-    let mut j: usize = 0;
-    while j <= n {
-        put(
-            start,
-            slot_id,
-            slot_score,
-            j,
-            Slot {
-                start: NO_ID,
-                id: NO_ID,
-                score: 0.0,
-            },
-        );
-        j += 1;
+    for j in 0..n + 1 {
+        put(start, slot_id, slot_score, j, EMPTY);
     }
 }

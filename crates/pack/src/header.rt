@@ -74,13 +74,7 @@ fn is_laid_out(bytes: &[u8], h: Header) -> bool
 fn is_bare(h: Header) -> bool
     ensures { result ≡ (eqb h.max_chars 0 && eqb h.prefix_off 0 && eqb h.prefix_len 0) }
 {
-    if h.max_chars != 0 {
-        return false;
-    }
-    if h.prefix_off != 0 {
-        return false;
-    }
-    h.prefix_len == 0
+    h.max_chars == 0 && h.prefix_off == 0 && h.prefix_len == 0
 }
 
 // Whether four zero bytes follow the id of each row.
@@ -88,12 +82,10 @@ fn is_padded(bytes: &[u8], rows: usize) -> bool
     requires { row_start rows ≤ length bytes.now }
     ensures { result ≡ every rows (λ i. eqb (word (was bytes) (36 + 16 * i + 12)) 0) }
 {
-    let mut i: usize = 0;
-    while i < rows {
+    for i in 0..rows {
         if word(bytes, HEADER + ROW * i + 12) != 0 {
             return false;
         }
-        i += 1;
     }
     true
 }

@@ -14,10 +14,8 @@ use rows::Kind;
 fn is_large(h: Header) -> bool
     ensures { result ≡ large_header (h) }
 {
-    if rows::columns::is_large(h.rows as usize, h.strings_len as usize) {
-        return true;
-    }
-    MAX_PREFIX < h.prefix_len as usize
+    rows::columns::is_large(h.rows as usize, h.strings_len as usize)
+        || MAX_PREFIX < h.prefix_len as usize
 }
 
 // The sizes, the rows, and then the prefix's span and text.

@@ -34,8 +34,7 @@ pub fn score_at(bytes: &[u8], at: usize) -> f64
     let pattern = doubles::from_bits(low + 4_294_967_296 * high);
     match pattern {
         Pattern::Finite(x) => x,
-        Pattern::Infinite(_) => infinity(),
-        Pattern::NotANumber => infinity(),
+        Pattern::Infinite(_) | Pattern::NotANumber => infinity(),
     }
 }
 
@@ -67,13 +66,11 @@ pub fn first_bad(kind: Kind, bytes: &[u8], strings: &[u8], rows: usize) -> Resul
     requires { (row_start rows ≤ length bytes.now) × (rows ≤ max_rows) }
     ensures { result_err result ≡ first_bad kind (was strings) 0 (rows_from kind (was bytes) 36 rows) }
 {
-    let mut i: usize = 0;
-    while i < rows {
+    for i in 0..rows {
         let row = row_at(kind, bytes, HEADER + ROW * i);
         if let Err(f) = rows::row_fault(kind, strings, row) {
             return Err(Reason::Row(f, i as u32));
         }
-        i += 1;
     }
     Ok(())
 }

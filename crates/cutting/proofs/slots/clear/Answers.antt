@@ -8,9 +8,8 @@ use Rattle.cutting.proofs.slots.clear.Goals as goal
 
 pub loop-j-preserved : goal.loop-j-preserved
 loop-j-preserved c = (
-  omega arith,
-  c.put.auto.start ∙ c.loop-j.invariant.1,
-  c.put.auto.slot_id ∙ c.loop-j.invariant.2,
-  c.put.auto.slot_score ∙ c.loop-j.invariant.3,
-  filled_more c.loop-j.invariant.4 (put_as c.put.ensures (empty-slot _ refl refl zero-units)),
+  c.put.auto.start ∙ c.loop-j.invariant.0,
+  c.put.auto.slot_id ∙ c.loop-j.invariant.1,
+  c.put.auto.slot_score ∙ c.loop-j.invariant.2,
+  filled_more c.loop-j.invariant.3 (put_as c.put.ensures (empty-slot _ refl refl zero-units)),
 )

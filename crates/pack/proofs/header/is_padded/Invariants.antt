@@ -12,7 +12,4 @@ abbrev pub padded : List ℕ → ℕ → Bool
 padded bytes i = eqb (word bytes (36 + 16 * i + 12)) 0
 
 abbrev pub invariant-loop-i : goal.invariant-loop-i
-invariant-loop-i l = (l.i ≤ l.rows) × (every l.i (padded l.bytes) ≡ true)
-
-abbrev pub decreases-loop-i : goal.decreases-loop-i
-decreases-loop-i l = l.rows - l.i
+invariant-loop-i l = every l.i (padded l.bytes) ≡ true

@@ -11,20 +11,18 @@ use Rattle.pack.proofs.row.first_bad.Goals as goal
 
 pub returns-in-Err : goal.returns-in-Err
 returns-in-Err c =
-    let judged : (result_err c.row_fault.result ≡ row_fault c.args.kind c.args.strings.now (row_at c.args.kind c.args.bytes.now (row_start c.loop-i.i))) = c.row_fault.ensures ∙ c.row_at-row.ensures.faults c.args.strings.now in
+    let a = c.args in
+    let judged = c.row_fault.ensures ∙ c.row_at-row.ensures.faults a.strings.now in
     sym
-    (c.loop-i.invariant.1
-    ∙ bad-found c.args.kind c.args.bytes.now c.args.rows c.args.strings.now c.loop-i.i _ c.loop-i-test.true
-    (sym (judged) ∙ ap result_err c.in-Err.is))
+    (c.loop-i.invariant
+    ∙ bad-found a.kind a.bytes.now a.rows a.strings.now c.loop-i.i _ (omega arith) (sym judged ∙ ap result_err c.in-Err.is))
 
 pub loop-i-preserved : goal.loop-i-preserved
 loop-i-preserved c =
-    let judged : (result_err c.row_fault.result ≡ row_fault c.args.kind c.args.strings.now (row_at c.args.kind c.args.bytes.now (row_start c.loop-i.i))) = c.row_fault.ensures ∙ c.row_at-row.ensures.faults c.args.strings.now in (
-      omega (arith, c.loop-i-test.true),
-      c.loop-i.invariant.1
-          ∙ bad-turn c.args.kind c.args.bytes.now c.args.rows c.args.strings.now c.loop-i.i c.loop-i-test.true
-          (sym (judged) ∙ ap result_err c.in_default.is),
-    )
+    let a = c.args in
+    let judged = c.row_fault.ensures ∙ c.row_at-row.ensures.faults a.strings.now in
+    c.loop-i.invariant
+    ∙ bad-turn a.kind a.bytes.now a.rows a.strings.now c.loop-i.i (omega arith) (sym judged ∙ ap result_err c.in_default.is)
 
 pub returns : goal.returns
-returns c = sym (c.loop-i.invariant.1 ∙ bad-stop c.args.kind c.args.bytes.now c.args.rows c.args.strings.now c.loop-i.i c.loop-i-test.false)
+returns c = sym (c.loop-i.invariant ∙ bad-stop c.args.kind c.args.bytes.now c.args.rows c.args.strings.now _ (omega arith))

@@ -5,7 +5,4 @@ use Rattle.pack.proofs.Resting.{all, bad_from}
 use Rattle.pack.proofs.row.first_bad.Given as goal
 
 abbrev pub invariant-loop-i : goal.invariant-loop-i
-invariant-loop-i l = (l.i ≤ l.rows) × (first_bad l.kind l.strings 0 (all l.kind l.bytes l.rows) ≡ bad_from l.kind l.bytes l.rows l.strings l.i)
-
-abbrev pub decreases-loop-i : goal.decreases-loop-i
-decreases-loop-i l = l.rows - l.i
+invariant-loop-i l = first_bad l.kind l.strings 0 (all l.kind l.bytes l.rows) ≡ bad_from l.kind l.bytes l.rows l.strings l.i

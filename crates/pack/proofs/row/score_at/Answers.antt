@@ -1,4 +1,5 @@
 -- `pack::row::score_at` meets its contract: whatever the pattern stands for, the score is read for it. Assumes nothing.
+use mathlib.Core.Logic.{⊎_elim}
 use Rattle.doubles.specs.Pattern.{Reads}
 use Rattle.pack.specs.Reading.{double_at}
 use Rattle.pack.proofs.Readings.{score-infinite, score-none}
@@ -6,10 +7,6 @@ use Rattle.pack.proofs.row.score_at.Goals as goal
 
 pub returns-in-Infinite : goal.returns-in-Infinite
 returns-in-Infinite c =
-    let reads : (Reads c.from_bits-pattern.result (double_at c.args.bytes.now c.args.at)) = rw (← c.word-low.ensures, ← c.word-high.ensures) c.from_bits-pattern.ensures in
-    score-infinite _ (reads) c.in-Infinite.is c.infinity.ensures
-
-pub returns-in-NotANumber : goal.returns-in-NotANumber
-returns-in-NotANumber c =
-    let reads : (Reads c.from_bits-pattern.result (double_at c.args.bytes.now c.args.at)) = rw (← c.word-low.ensures, ← c.word-high.ensures) c.from_bits-pattern.ensures in
-    score-none (reads) c.in-NotANumber.is c.infinity-in-NotANumber.ensures
+    let reads : Reads c.from_bits-pattern.result (double_at c.args.bytes.now c.args.at) =
+    rw (← c.word-low.ensures, ← c.word-high.ensures) c.from_bits-pattern.ensures in
+    ⊎_elim (λ w. score-infinite _ reads w.1 c.infinity.ensures) (λ e. score-none reads e c.infinity.ensures) c.in-Infinite.is

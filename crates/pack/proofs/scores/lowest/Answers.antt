@@ -1,7 +1,7 @@
 -- `pack::scores::lowest` meets its contract. The loop's invariant: the lowest of all is that of `low` and the scores from row i
 -- on. The measure is what is left of the rows. Assumes nothing.
 use mathlib.Core.Path.{sym, ap, ◌∙◌}
-use Prim.Native.Nat.{◌+◌}
+use Prim.Native.Nat.{◌<◌, ◌+◌}
 use native.Mathlib.Omega.{arith}
 use Rattle.doubles.specs.Double.{Double, lower_of}
 use Rattle.doubles.specs.Units.{units}
@@ -13,14 +13,16 @@ use Rattle.pack.proofs.Scoring.{low_turn, low-stop}
 use Rattle.pack.proofs.scores.lowest.Goals as goal
 
 pub loop-i-preserved : goal.loop-i-preserved
-loop-i-preserved c = let read = c.score_at.ensures.very (c.requires.0.finite c.loop-i.i c.loop-i-test.true) in (
-  omega arith,
-  omega (arith, c.loop-i-test.true),
-  c.loop-i.invariant.2
-      ∙ low_turn c.args.bytes.now c.args.rows (units c.loop-i.low) c.loop-i.i c.loop-i-test.true
-      ∙ ap (λ (d : Double). lowest d (scores_of (rest Unigram c.args.bytes.now c.args.rows (c.loop-i.i + 1))))
-      (sym (c.lower-low.ensures ∙ ap (lower_of (units c.loop-i.low)) read)),
-)
+loop-i-preserved c =
+    let a = c.args in
+    let here : c.loop-i.i < a.rows = omega arith in
+    let read = c.score_at.ensures.very (c.requires.0.finite c.loop-i.i here) in (
+      omega arith,
+      c.loop-i.invariant.1
+          ∙ low_turn a.bytes.now a.rows (units c.loop-i.low) c.loop-i.i here
+          ∙ ap (λ (d : Double). lowest d (scores_of (rest Unigram a.bytes.now a.rows (c.loop-i.i + 1))))
+          (sym (c.lower-low.ensures ∙ ap (lower_of (units c.loop-i.low)) read)),
+    )
 
 pub returns : goal.returns
-returns c = sym (c.loop-i.invariant.2 ∙ low-stop c.args.bytes.now c.args.rows (units c.loop-i.low) c.loop-i.i c.loop-i-test.false)
+returns c = sym (c.loop-i.invariant.1 ∙ low-stop c.args.bytes.now c.args.rows (units c.loop-i.low) _ (omega arith))

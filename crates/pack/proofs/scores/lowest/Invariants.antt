@@ -10,8 +10,4 @@ use Rattle.pack.proofs.Resting.{rest}
 use Rattle.pack.proofs.scores.lowest.Given as goal
 
 abbrev pub invariant-loop-i : goal.invariant-loop-i
-invariant-loop-i l = (1 ≤ l.i) × (l.i ≤ l.rows)
-    × (lowest (double_at l.bytes 44) (scores_of (rows_from Unigram l.bytes 52 (l.rows - 1))) ≡ lowest (units l.low) (scores_of (rest Unigram l.bytes l.rows l.i)))
-
-abbrev pub decreases-loop-i : goal.decreases-loop-i
-decreases-loop-i l = l.rows - l.i
+invariant-loop-i l = (1 ≤ l.i) × (lowest (double_at l.bytes 44) (scores_of (rows_from Unigram l.bytes 52 (l.rows - 1))) ≡ lowest (units l.low) (scores_of (rest Unigram l.bytes l.rows l.i)))
