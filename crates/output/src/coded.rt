@@ -11,7 +11,7 @@ ghost use Rattle.output.specs.Put.{Put};
 ghost use Rattle.refusal.specs.Lent.{was};
 
 use crate::lines::line_end;
-use crate::put::{put_first, put_refusal};
+use crate::put::{put_ids, put_refusal};
 use coder::Coder;
 
 // One line: its ids, or its refusal. Either takes at most 11 bytes for each byte of the line, and 11. `sound` is what was found
@@ -46,7 +46,7 @@ pub(crate) fn put_line(
         slot_score, path, ids,
     );
     match coded {
-        Ok(n) => put_first(out, at, ids, n),
+        Ok(n) => put_ids(out, at, &ids[..n]),
         Err(f) => put_refusal(out, at, b"", f),
     }
 }

@@ -8,12 +8,10 @@ pub(crate) fn line_end(input: &[u8], from: usize) -> usize
     requires { from ≤ length input.now }
     ensures { result ≡ from + until_lf (drop from (was input)) }
 {
-    let mut i = from;
-    while i < input.len() {
+    for i in from..input.len() {
         if input[i] == 0x0A {
             return i;
         }
-        i += 1;
     }
-    i
+    input.len()
 }

@@ -35,10 +35,8 @@ pub(crate) fn put_text(out: &mut [u8], at: usize, text: &[u8]) -> usize
     ensures { Put out.old at (was text) result out.new }
 {
     let mut end = at;
-    let mut i: usize = 0;
-    while i < text.len() {
-        end = put_byte(out, end, text[i]);
-        i += 1;
+    for b in text {
+        end = put_byte(out, end, *b);
     }
     end
 }
@@ -58,10 +56,8 @@ pub(crate) fn put_numbers(out: &mut [u8], at: usize, numbers: &[u32]) -> usize
     ensures { Put out.old at (spaced (was numbers)) result out.new × (result ≤ at + 11 * length (was numbers)) }
 {
     let mut end = at;
-    let mut i: usize = 0;
-    while i < numbers.len() {
-        end = put_spaced(out, end, numbers[i]);
-        i += 1;
+    for n in numbers {
+        end = put_spaced(out, end, *n);
     }
     end
 }
@@ -75,14 +71,6 @@ pub(crate) fn put_ids(out: &mut [u8], at: usize, ids: &[u32]) -> usize
     let counted = put_number(out, at, ids.len() as u32);
     let end = put_numbers(out, counted, ids);
     put_byte(out, end, 0x0A)
-}
-
-// The line of the first n of some id places.
-pub(crate) fn put_first(out: &mut [u8], at: usize, places: &[u32], n: usize) -> usize
-    requires { (at + 11 * n + 11 ≤ length out.old) × (n ≤ length places.now) × (n < 2 ^ 32) }
-    ensures { Put out.old at (printed_ids (take n (was places))) result out.new × (result ≤ at + 11 * n + 11) }
-{
-    put_ids(out, at, &places[..n])
 }
 
 // The line of a refusal, after what was refused. A refusal's number has at most two digits.

@@ -8,12 +8,12 @@ use Rattle.output.proofs.lines.line_end.Goals as goal
 pub returns-then-input-i-eq10 : goal.returns-then-input-i-eq10
 returns-then-input-i-eq10 c = omega (
   arith,
-  c.loop-i.invariant.1,
-  until-here c.args.input.now c.loop-i.i c.loop-i-test.true c.if-input-i-eq10.true,
+  c.loop-i.invariant,
+  until-here c.args.input.now c.loop-i.i (omega arith) c.if-input-i-eq10.true,
 )
 
 pub loop-i-preserved : goal.loop-i-preserved
-loop-i-preserved c = (omega (arith, c.loop-i-test.true), c.loop-i.invariant.1 ∙ until-next c.args.input.now c.loop-i.i c.loop-i-test.true c.if-input-i-eq10.false)
+loop-i-preserved c = c.loop-i.invariant ∙ until-next c.args.input.now c.loop-i.i (omega arith) c.if-input-i-eq10.false
 
 pub returns : goal.returns
-returns c = omega (arith, c.loop-i.invariant.1, until_end c.args.input.now c.loop-i.i c.loop-i-test.false)
+returns c = omega (arith, c.loop-i.invariant, until_end c.args.input.now c.loop-i.i (omega arith))

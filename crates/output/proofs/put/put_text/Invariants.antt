@@ -8,8 +8,5 @@ use Rattle.output.proofs.put.put_text.Given as goal
 abbrev pub all : List ℕ → List ℕ
 all s = s
 
-abbrev pub invariant-loop-i : goal.invariant-loop-i
-invariant-loop-i l = Along all l.text l.initial.out l.at l.i l.end l.out
-
-abbrev pub decreases-loop-i : goal.decreases-loop-i
-decreases-loop-i l = length l.text - l.i
+abbrev pub invariant-loop-b : goal.invariant-loop-b
+invariant-loop-b l = Along all l.text l.initial.out l.at l.b-index l.end l.out
