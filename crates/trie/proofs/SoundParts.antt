@@ -1,6 +1,6 @@
 -- The facts that the test `sound` stands for, `Sound`: the two say the same. Each conjunct of the test is a field: a number's
 -- test is the fact on numbers, a test of every node or edge the fact of each. Assumes nothing.
-use mathlib.Core.Path.{◌≡◌, refl}
+use mathlib.Core.Path.{◌≡◌, refl, sym, ap, ◌∙◌}
 use mathlib.Core.Bool.{Bool, true, false, ◌&&◌}
 use mathlib.Core.List.{List, [], ◌∷◌, map}
 use Prim.Native.Nat.{ℕ, zero, suc, ◌+◌, ◌-◌, ◌≤◌, ◌<◌}
@@ -8,9 +8,13 @@ use native.Mathlib.Omega.{arith}
 use borrow.Author.Tests.{ltb-true, leb-true, eqb-true, lt-ltb, le-ltb, le-leb, lt-leb, eq-eqb, ne_eqb}
 use lib.Dec.{ltb, leb, eqb}
 use lib.Ieee.{Float}
-use lib.ListN.{length, get_or, drop, drop_of_length-le}
-use lib.Seq.{drop-cons}
-use native.Mathlib.Numerals.{add-one}
+use lib.ListN.{length, get_or, drop, length-map, length-take, length-drop}
+use Rattle.std.proofs.lemmas.List.{get_or-take, get_or-drop}
+use Rattle.std.specs.Bool.{MatchBool}
+use Rattle.refusal.proofs.Lists.{map-inside, true-false}
+use Rattle.std.proofs.lemmas.Grind.{elements}
+use Rattle.std.specs.Prelude.{slice_range}
+use Rattle.std.specs.List.{IsAllAdjacentAnswer}
 use Rattle.doubles.specs.Units.{units}
 use Rattle.doubles.specs.Double.{Double, plus_zero, is_finite}
 use Rattle.trie.specs.Trie.{Trie}
@@ -59,25 +63,29 @@ module _ (bytes : List ℕ) (at n : ℕ) where
   pub edges-rise : at + n ≤ length bytes → n ≤ 256 → sound_edges bytes at n ≡ rises bytes at n
   edges-rise h l = rw (le-leb (at + n) (length bytes) h, le-leb n 256 l)
 
-  -- the turns of a loop that has i of the bytes behind it, and looks at the byte i and the one before it
-  module _ (i : ℕ) (Some : 1 ≤ i) where
-    pub rises-more : rises bytes at i ≡ true → get_or bytes (at + i - 1) 0 < get_or bytes (at + i) 0 → rises bytes at (i + 1) ≡ true
-    unfolding rise
-    rises-more h l =
-        let here : at + i - 1 ≡ at + (i - 1) = omega arith in
-        let next : i ≡ suc (i - 1) = omega arith in
-        let last : i + 1 - 1 ≡ i - 1 + 1 = omega arith in
-        rw last
-        (every_more rise (i - 1) h
-        (lt-ltb (get_or bytes (at + (i - 1)) 0) (get_or bytes (at + suc (i - 1)) 0) (rw (← next, ← here) l)))
+  -- what a test of each byte and the next tells
+  module _ (inside : at + n ≤ length bytes) where
+    here : List ℕ
+    here = slice_range bytes at (at + n)
 
-    pub rises-fails : i < n → get_or bytes (at + i) 0 ≤ get_or bytes (at + i - 1) 0 → rises bytes at n ≡ false
-    unfolding rise
-    rises-fails inside l =
-        let here : at + i - 1 ≡ at + (i - 1) = omega arith in
-        let next : i ≡ suc (i - 1) = omega arith in
-        every-fails rise (n - 1) (i - 1) (omega arith)
-        (le-ltb (get_or bytes (at + (i - 1)) 0) (get_or bytes (at + suc (i - 1)) 0) (rw (← next, ← here) l))
+    here_long : length here ≡ n
+    unfolding here
+    here_long = simp (length-take, length-drop) (omega arith)
+
+    here_rise : (i : ℕ) → i + 1 < n → rise i ≡ ltb (get_or here i 0) (get_or here (i + 1) 0)
+    unfolding rise here
+    here_rise i l =
+        let m : i < at + n - at = omega arith in
+        let m' : i + 1 < at + n - at = omega arith in
+        let next : at + (i + 1) ≡ at + suc i = omega arith in
+        simp (get_or-take (at + n - at) (drop at bytes) i 0 m, get_or-take (at + n - at) (drop at bytes) (i + 1) 0 m', get_or-drop, next)
+
+    pub rises-told : (r : Bool) → IsAllAdjacentAnswer (λ x y b. b ≡ ltb x y) (slice_range bytes at (at + n)) r → r ≡ rises bytes at n
+    unfolding rise here
+    rises-told true h = sym (all-every rise (n - 1) (λ i l. here_rise i (omega arith) ∙ sym (h i 0 (omega (arith, here_long)))))
+    rises-told false (k, l, h) =
+        let m : k + 1 < n = omega (arith, here_long) in
+        sym (every-fails rise (n - 1) k (omega arith) (here_rise k m ∙ sym (h 0)))
 
 -- ---- all parts
 
@@ -219,18 +227,6 @@ pub record SoundScored (t : Trie) (scores : List Double) (unknown : Double) : Ty
   pub finite : (k : ℕ) → k < length scores → is_finite (get_or scores k plus_zero) ≡ true
   pub finite-unknown : is_finite unknown ≡ true
 
--- the turns of a loop that is at k
-module _ (xs : List Float) (k : ℕ) where
-  pub finite-turn :
-      (d : Float) → k < length xs
-      → all_finite (map units (drop k xs)) ≡ is_finite (units (get_or xs k d)) && all_finite (map units (drop (k + 1) xs))
-  unfolding all_finite
-  finite-turn d l = rw (add-one, drop-cons xs k d)
-
-  pub finite-past : length xs ≤ k → all_finite (map units (drop k xs)) ≡ true
-  unfolding all_finite
-  finite-past l = rw (drop_of_length-le xs l)
-
 pub finite-all : (xs : List Double) → all_finite xs ≡ true → (k : ℕ) → k < length xs → is_finite (get_or xs k plus_zero) ≡ true
 unfolding all_finite
 finite-all [] h k l = absurd (omega arith)
@@ -241,6 +237,23 @@ pub all-finite : (xs : List Double) → ((k : ℕ) → k < length xs → is_fini
 unfolding all_finite
 all-finite [] all = refl
 all-finite (x ∷ xs) all = both (all 0 (omega arith)) (all-finite xs (λ k l. all (suc k) (omega arith)))
+
+-- what a test of each tells
+module _ (xs : List Float) (d : Float) where
+  score_at : (k : ℕ) → k < length xs → is_finite (get_or (map units xs) k plus_zero) ≡ is_finite (units (get_or xs k d))
+  score_at k l = ap is_finite (map-inside units xs k d plus_zero l)
+
+  pub finite-told :
+      (r : Bool) → MatchBool r ((k : ℕ) → k < length xs → is_finite (units (get_or xs k d)) ≡ true) ((k : ℕ) × (k < length xs) × (is_finite (units (get_or xs k d)) ≡ false))
+      → r ≡ all_finite (map units xs)
+  finite-told true all = sym (all-finite (map units xs) (λ k l. let m : k < length xs = rw length-map at l in score_at k m ∙ all k m))
+  finite-told false (k, l, h) = go (all_finite (map units xs)) refl
+    where
+      go : (b : Bool) → all_finite (map units xs) ≡ b → false ≡ b
+      go false e = refl
+      go true e =
+          let m : k < length (map units xs) = rw length-map l in
+          absurd (true-false (finite-all (map units xs) e k m) (score_at k l ∙ h))
 
 level : (a c : Bool) {b d : Bool} → b ≡ true → d ≡ true → a && b && c && d ≡ a && c
 level true true p q = rw (p, q)

@@ -13,10 +13,11 @@ use lib.ListN.{length, get_or, drop, drop_of_length-le}
 use lib.Seq.{drop-cons}
 use Rattle.refusal.proofs.Lists.{none-some}
 use Rattle.refusal.specs.Sizes.{no_id}
-use Rattle.trie.specs.Trie.{Trie, step, walk, id_at, id_from, id_of}
-use Rattle.trie.specs.Sound.{sound}
+use Rattle.trie.specs.Trie.{Trie, parts_of, step, walk, id_at, id_from, id_of}
+use Rattle.trie.specs.Sound.{rises, sound}
+use Rattle.trie.specs.Walks.{Stands}
 use Rattle.trie.proofs.Seeking.{seek_found}
-use Rattle.trie.proofs.SoundParts.{Sound, sound-of}
+use Rattle.trie.proofs.SoundParts.{Sound, sound-of, of_rising}
 
 -- ---- one step more
 
@@ -132,6 +133,27 @@ id-of t s = refl
 
 -- ---- steps and walks look at no ids
 
+module _ (t : Trie) (ids : List ℕ) where
+  abbrev with_ids : Trie
+  with_ids = parts_of t.edge_at t.edge_n ids t.byte t.to
+
+  pub step-any : (k b : ℕ) → step with_ids k b ≡ step t k b
+  unfolding step
+  step-any k b = refl
+
+  pub walk-any : (k : ℕ) (s : List ℕ) → walk with_ids k s ≡ walk t k s
+  walk-any k [] = walk-nil with_ids k ∙ sym (walk-nil t k)
+  walk-any k (b ∷ s) = walk-cons with_ids k b s ∙ rw (step-any k b) (go (step t k b) (λ j. walk-any j s)) ∙ sym (walk-cons t k b s)
+    where
+      go : (o : Option ℕ) → ((j : ℕ) → walk with_ids j s ≡ walk t j s) → option_and_then (λ j. walk with_ids j s) o ≡ option_and_then (λ j. walk t j s) o
+      go None all = refl
+      go (Some j) all = all j
+
+-- nor does the id of a node look at the edges
+pub id-any : (t u : Trie) (k : ℕ) → t.id ≡ u.id → id_at t k ≡ id_at u k
+unfolding id_at
+id-any t u k e = rw e
+
 -- ---- in sound parts
 
 module _ (t : Trie) (tested : sound t ≡ true) where
@@ -152,3 +174,34 @@ module _ (t : Trie) (tested : sound t ≡ true) where
           → elim o [ None ↦ None | Some i ↦ walk t i s ] ≡ Some j → j < length t.edge_at
       go None p q h = none-some h
       go (Some i) p q h = q i (p i refl) h
+
+  pub root_stands : Stands t 0
+  root_stands = record { ids = t.id; parts = tested; inside = (sound-of t tested).some-node }
+
+  pub id_there : (s : List ℕ) {j : ℕ} → walk t 0 s ≡ Some j → j < length t.id
+  id_there s e =
+      let facts = sound-of t tested in
+      omega (arith, facts.level-id, walk_inside 0 s facts.some-node e)
+
+-- what a step asks of the edges of its node
+pub record Edges (t : Trie) (k : ℕ) : Type 0 where
+  pub counted : k < length t.edge_n
+  pub inside : get_or t.edge_at k 0 + get_or t.edge_n k 0 ≤ length t.byte
+  pub inside-to : get_or t.edge_at k 0 + get_or t.edge_n k 0 ≤ length t.to
+  pub rising : rises t.byte (get_or t.edge_at k 0) (get_or t.edge_n k 0) ≡ true
+
+module _ (t : Trie) (k : ℕ) (s : Stands t k) where
+  pub edges_stand : Edges t k
+  edges_stand =
+      let facts = sound-of _ s.parts in
+      let inside = facts.inside k s.inside in
+      record {
+        counted = omega (arith, s.inside, facts.level-n);
+        inside = inside;
+        inside-to = omega (arith, inside, facts.level-to);
+        rising = of_rising t.byte _ _ (λ i. facts.rising k i s.inside);
+      }
+
+  -- and leads to
+  pub step-stands : (b : ℕ) {j : ℕ} → step t k b ≡ Some j → Stands t j
+  step-stands b e = record { ids = s.ids; parts = s.parts; inside = step-inside (with_ids t s.ids) s.parts k b s.inside (step-any t s.ids k b ∙ e) }
