@@ -5,21 +5,20 @@ use mathlib.Core.Bool.{Bool, true, false, ◌&&◌}
 use mathlib.Core.List.{List, [], ◌∷◌, map}
 use Prim.Native.Nat.{ℕ, zero, suc, ◌+◌, ◌-◌, ◌≤◌, ◌<◌}
 use native.Mathlib.Omega.{arith}
-use borrow.Author.Tests.{ltb-true, leb-true, eqb-true, lt-ltb, le-ltb, le-leb, lt-leb, eq-eqb, ne_eqb}
+use borrow.Author.Tests.{ltb-true, leb-true, eqb-true, lt-ltb, le-leb, lt-leb, eq-eqb, ne_eqb}
 use lib.Dec.{ltb, leb, eqb}
 use lib.Ieee.{Float}
 use lib.ListN.{length, get_or, drop, length-map, length-take, length-drop}
 use Rattle.std.proofs.lemmas.List.{get_or-take, get_or-drop}
 use Rattle.std.specs.Bool.{MatchBool}
 use Rattle.refusal.proofs.Lists.{map-inside, true-false}
-use Rattle.std.proofs.lemmas.Grind.{elements}
 use Rattle.std.specs.Prelude.{slice_range}
 use Rattle.std.specs.List.{IsAllAdjacentAnswer}
 use Rattle.doubles.specs.Units.{units}
 use Rattle.doubles.specs.Double.{Double, plus_zero, is_finite}
 use Rattle.trie.specs.Trie.{Trie}
 use Rattle.trie.specs.Sound.{every, rises, sound_edges, sound_node, sound, all_finite, sound_scored}
-use Rattle.trie.proofs.Every.{both, first, second, five, fails, every-all, all-every, every_more, every-fails}
+use Rattle.trie.proofs.Every.{both, first, second, five, fails, every-all, all-every, every-fails}
 
 -- ---- the edges of one node
 

@@ -110,7 +110,13 @@ impl Walk {
         ensures { next_of result ≡ step (parts t.now) self.node b }
     {
         let node = self.node as usize;
-        seek(t.byte, t.to, t.edge_at[node] as usize, t.edge_n[node] as usize, b)
+        seek(
+            t.byte,
+            t.to,
+            t.edge_at[node] as usize,
+            t.edge_n[node] as usize,
+            b,
+        )
     }
 
     // The same, with a table of where each byte leads from the root, in which no edge is looked for.

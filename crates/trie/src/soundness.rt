@@ -36,7 +36,10 @@ fn nodes_sound(t: &Parts) -> bool
     requires { length t.now.edge_n.now ≡ length t.now.edge_at.now }
     ensures { result ≡ every (length t.now.edge_at.now) (sound_node (parts t.now)) }
 {
-    t.edge_at.iter().zip(t.edge_n).all(|(&at, &n)| edges_sound(t.byte, at, n))
+    t.edge_at
+        .iter()
+        .zip(t.edge_n)
+        .all(|(&at, &n)| edges_sound(t.byte, at, n))
 }
 
 // Every target is below the number of nodes.

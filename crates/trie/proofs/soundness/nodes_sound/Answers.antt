@@ -1,5 +1,4 @@
-use Rattle.std.proofs.Common.{rules, ltb, length, get_or, true, false, ◌≡◌}
-use Rattle.std.proofs.lemmas.Iterator.{cases_from_all, YieldsList-from_slice}
+use Rattle.std.proofs.Common.{rules, length}
 use borrow.Author.Tests.{tests}
 use Rattle.trie.specs.Trie.{parts}
 use Rattle.trie.specs.Sound.{sound_node}

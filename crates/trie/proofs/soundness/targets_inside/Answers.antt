@@ -1,6 +1,5 @@
 -- `trie::soundness::targets_inside` meets its contract. Assumes nothing.
-use Rattle.std.proofs.Common.{rules, ltb, length, get_or, true, false, ◌≡◌}
-use Rattle.std.proofs.lemmas.Iterator.{cases_from_all, YieldsList-from_slice}
+use Rattle.std.proofs.Common.{rules, ltb, length, get_or}
 use borrow.Author.Tests.{tests}
 use Rattle.trie.proofs.Every.{searched}
 use Rattle.trie.proofs.soundness.targets_inside.Goals as goal
