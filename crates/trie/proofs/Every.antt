@@ -35,15 +35,6 @@ pub fails : (a b : Bool) → b ≡ false → a && b ≡ false
 fails true b h = h
 fails false b h = refl
 
--- the first test decides, or the second is left
-pub stopped : (a b : Bool) {x : Bool} → x ≡ a && b → not a ≡ true → x ≡ false
-stopped true b e h = cc
-stopped false b e h = e
-
-pub passed : (a b : Bool) {x : Bool} → x ≡ a && b → not a ≡ false → x ≡ b
-passed true b e h = e
-passed false b e h = cc
-
 -- ---- all of them
 
 module _ (test : ℕ → Bool) where

@@ -62,9 +62,6 @@ module _ {sound : Bool} {t : Trie} {s : List ℕ} where
   pub refused-unsound : length s ≤ max_text → sound ≡ false → LookedUp sound t s (Err fault.Trie)
   refused-unsound size e = refused-for (ap (λ (b : Bool). lookup_fault b s) e ∙ fault-trie s size)
 
-  pub looked-sound : {a : Result (Option ℕ) Fault} → sound ≡ true → LookedUp true t s a → LookedUp sound t s a
-  looked-sound e p = record { answered = p.answered ∙ ap (λ (b : Bool). lookup_answer (lookup_fault b s) (id_of t s)) (sym e) }
-
 -- ---- exactly when
 
 -- the faults and ids behind an answer

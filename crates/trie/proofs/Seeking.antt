@@ -27,7 +27,6 @@ pub record Holds (bytes tos : List ℕ) (b at n j : ℕ) : Type 0 where
   pub byte : get_or bytes edge 0 ≡ b
   pub target : get_or tos edge 0 ≡ j
 
--- nothing is not something
 -- ---- the scan
 
 module _ (bytes tos : List ℕ) (b : ℕ) where

@@ -9,6 +9,7 @@ use borrow.Author.Tests.{ltb-true, leb-true, eqb-true, lt-ltb, le-leb, lt-leb, e
 use lib.Dec.{ltb, leb, eqb}
 use lib.Ieee.{Float}
 use lib.ListN.{length, get_or, drop, length-map, length-take, length-drop}
+use Rattle.std.proofs.lemmas.Bool.Decides.{nat_tests}
 use Rattle.std.proofs.lemmas.List.{get_or-take, get_or-drop}
 use Rattle.std.specs.Bool.{MatchBool}
 use Rattle.refusal.proofs.Lists.{map-inside, true-false}
@@ -51,16 +52,6 @@ module _ (bytes : List ℕ) (at n : ℕ) where
 
   pub of-edges : NodeEdges bytes at n → sound_edges bytes at n ≡ true
   of-edges e = both (both (le-leb (at + n) (length bytes) e.inside) (le-leb n 256 e.at_most)) (of_rising e.rising)
-
-  -- the tests in their order
-  pub edges-outside : length bytes < at + n → sound_edges bytes at n ≡ false
-  edges-outside l = rw (lt-leb (at + n) (length bytes) l)
-
-  pub edges-many : at + n ≤ length bytes → 256 < n → sound_edges bytes at n ≡ false
-  edges-many h l = rw (le-leb (at + n) (length bytes) h, lt-leb n 256 l)
-
-  pub edges-rise : at + n ≤ length bytes → n ≤ 256 → sound_edges bytes at n ≡ rises bytes at n
-  edges-rise h l = rw (le-leb (at + n) (length bytes) h, le-leb n 256 l)
 
   -- what a test of each byte and the next tells
   module _ (inside : at + n ≤ length bytes) where
@@ -146,76 +137,38 @@ module _ (t : Trie) where
   pub of-sound : Sound t → sound t ≡ true
   unfolding sound sound_node inside-nodes
   of-sound s =
-      both
-      (both
-      (both
-      (both
-      (both
-      (both (le-leb 1 (length t.edge_at) s.some-node) (le-leb (length t.edge_at) 4_294_967_295 s.few))
-      (eq-eqb (length t.edge_n) (length t.edge_at) s.level-n))
-      (eq-eqb (length t.id) (length t.edge_at) s.level-id))
-      (eq-eqb (length t.to) (length t.byte) s.level-to))
-      (all-every (sound_node t) (length t.edge_at)
+      let nodes =
+      all-every (sound_node t) (length t.edge_at)
       (λ k m.
       of-edges t.byte (get_or t.edge_at k 0) (get_or t.edge_n k 0)
-      (record { inside = s.inside k m; at_most = s.at_most k m; rising = λ i. s.rising k i m }))))
-      (all-every inside-nodes (length t.byte) (λ e m. lt-ltb (get_or t.to e 0) (length t.edge_at) (s.target e m)))
+      (record { inside = s.inside k m; at_most = s.at_most k m; rising = λ i. s.rising k i m }))
+      in
+      let targets = all-every inside-nodes (length t.byte) (λ e m. lt-ltb (get_or t.to e 0) (length t.edge_at) (s.target e m)) in
+      grind (arith, nat_tests, nodes, targets, s)
 
-  -- the tests of the lengths in their order, and what they leave
+  -- the tests of the lengths in their order
   pub sound_empty : length t.edge_at ≡ 0 → sound t ≡ false
   unfolding sound
-  sound_empty h = rw (lt-leb 1 (length t.edge_at) (omega arith))
+  sound_empty h = grind (arith, nat_tests)
 
   module _ (some-node : 1 ≤ length t.edge_at) where
     pub sound-many : 4_294_967_295 < length t.edge_at → sound t ≡ false
     unfolding sound
-    sound-many h = rw (le-leb 1 (length t.edge_at) some-node, lt-leb (length t.edge_at) 4_294_967_295 h)
+    sound-many h = grind (arith, nat_tests)
 
     module _ (few : length t.edge_at ≤ 4_294_967_295) where
       pub sound-uneven-n : (length t.edge_n ≡ length t.edge_at → ⊥) → sound t ≡ false
       unfolding sound
-      sound-uneven-n h =
-          rw (
-            le-leb 1 (length t.edge_at) some-node,
-            le-leb (length t.edge_at) 4_294_967_295 few,
-            ne_eqb (length t.edge_n) (length t.edge_at) h,
-          )
+      sound-uneven-n h = grind (arith, nat_tests)
 
       module _ (level-n : length t.edge_n ≡ length t.edge_at) where
         pub sound-uneven-id : (length t.id ≡ length t.edge_at → ⊥) → sound t ≡ false
         unfolding sound
-        sound-uneven-id h =
-            rw (
-              le-leb 1 (length t.edge_at) some-node,
-              le-leb (length t.edge_at) 4_294_967_295 few,
-              eq-eqb (length t.edge_n) (length t.edge_at) level-n,
-              ne_eqb (length t.id) (length t.edge_at) h,
-            )
+        sound-uneven-id h = grind (arith, nat_tests)
 
-        module _ (level-id : length t.id ≡ length t.edge_at) where
-          pub sound-uneven-to : (length t.to ≡ length t.byte → ⊥) → sound t ≡ false
-          unfolding sound
-          sound-uneven-to h =
-              rw (
-                le-leb 1 (length t.edge_at) some-node,
-                le-leb (length t.edge_at) 4_294_967_295 few,
-                eq-eqb (length t.edge_n) (length t.edge_at) level-n,
-                eq-eqb (length t.id) (length t.edge_at) level-id,
-                ne_eqb (length t.to) (length t.byte) h,
-              )
-
-          pub sound-level :
-              length t.to ≡ length t.byte
-              → sound t ≡ every (length t.edge_at) (sound_node t) && every (length t.byte) (λ e. ltb (get_or t.to e 0) (length t.edge_at))
-          unfolding sound
-          sound-level h =
-              rw (
-                le-leb 1 (length t.edge_at) some-node,
-                le-leb (length t.edge_at) 4_294_967_295 few,
-                eq-eqb (length t.edge_n) (length t.edge_at) level-n,
-                eq-eqb (length t.id) (length t.edge_at) level-id,
-                eq-eqb (length t.to) (length t.byte) h,
-              )
+        pub sound-uneven-to : length t.id ≡ length t.edge_at → (length t.to ≡ length t.byte → ⊥) → sound t ≡ false
+        unfolding sound
+        sound-uneven-to level-id h = grind (arith, nat_tests)
 
 -- ---- scores
 
@@ -254,11 +207,6 @@ module _ (xs : List Float) (d : Float) where
           let m : k < length (map units xs) = rw length-map l in
           absurd (true-false (finite-all (map units xs) e k m) (score_at k l ∙ h))
 
-level : (a c : Bool) {b d : Bool} → b ≡ true → d ≡ true → a && b && c && d ≡ a && c
-level true true p q = rw (p, q)
-level true false p q = rw p
-level false c p q = refl
-
 module _ (t : Trie) (scores : List Double) (unknown : Double) where
   pub scored-of : sound_scored t scores unknown ≡ true → SoundScored t scores unknown
   unfolding sound_scored
@@ -280,18 +228,6 @@ module _ (t : Trie) (scores : List Double) (unknown : Double) where
       (both (both s.parts (eq-eqb (length scores) (length t.edge_at) s.level-score)) (all-finite scores s.finite))
       s.finite-unknown
 
-  -- the tests, from the cheap ones on
-  pub scored-unknown : is_finite unknown ≡ false → sound_scored t scores unknown ≡ false
+  pub scored-uneven : is_finite unknown ≡ true → (length scores ≡ length t.edge_at → ⊥) → sound_scored t scores unknown ≡ false
   unfolding sound_scored
-  scored-unknown h = fails (sound t && eqb (length scores) (length t.edge_at) && all_finite scores) (is_finite unknown) h
-
-  module _ (finite-unknown : is_finite unknown ≡ true) where
-    pub scored-uneven : (length scores ≡ length t.edge_at → ⊥) → sound_scored t scores unknown ≡ false
-    unfolding sound_scored
-    scored-uneven h =
-        let uneven = fails (sound t) (eqb (length scores) (length t.edge_at)) (ne_eqb (length scores) (length t.edge_at) h) in
-        rw uneven
-
-    pub scored-level : length scores ≡ length t.edge_at → sound_scored t scores unknown ≡ sound t && all_finite scores
-    unfolding sound_scored
-    scored-level h = level (sound t) (all_finite scores) (eq-eqb (length scores) (length t.edge_at) h) finite-unknown
+  scored-uneven finite h = grind (arith, nat_tests)
