@@ -23,14 +23,6 @@ pub second : (a b : Bool) → a && b ≡ true → b ≡ true
 second true b h = h
 second false b h = cc
 
-pub five :
-    (a b c d e : Bool) → a && b && c && d && e ≡ true → (a ≡ true) × (b ≡ true) × (c ≡ true) × (d ≡ true) × (e ≡ true)
-five a b c d e h =
-    let h4 = first (a && b && c && d) e h in
-    let h3 = first (a && b && c) d h4 in
-    let h2 = first (a && b) c h3 in
-    (first a b h2, second a b h2, second (a && b) c h3, second (a && b && c) d h4, second (a && b && c && d) e h)
-
 pub fails : (a b : Bool) → b ≡ false → a && b ≡ false
 fails true b h = h
 fails false b h = refl

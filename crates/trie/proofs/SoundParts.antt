@@ -43,15 +43,11 @@ module _ (bytes : List ℕ) (at n : ℕ) where
 
   pub edges-of : sound_edges bytes at n ≡ true → NodeEdges bytes at n
   edges-of h =
-      let two = first (leb (at + n) (length bytes) && leb n 256) (rises bytes at n) h in
-      record {
-        inside = leb-true (at + n) (length bytes) (first (leb (at + n) (length bytes)) (leb n 256) two);
-        at_most = leb-true n 256 (second (leb (at + n) (length bytes)) (leb n 256) two);
-        rising = rising-of (second (leb (at + n) (length bytes) && leb n 256) (rises bytes at n) h);
-      }
+      let rise : rises bytes at n ≡ true = grind (arith, nat_tests) in
+      record { inside = grind (arith, nat_tests); at_most = grind (arith, nat_tests); rising = rising-of rise }
 
   pub of-edges : NodeEdges bytes at n → sound_edges bytes at n ≡ true
-  of-edges e = both (both (le-leb (at + n) (length bytes) e.inside) (le-leb n 256 e.at_most)) (of_rising e.rising)
+  of-edges e = let rise = of_rising e.rising in grind (arith, nat_tests, rise, e)
 
   -- what a test of each byte and the next tells
   module _ (inside : at + n ≤ length bytes) where
@@ -95,44 +91,25 @@ module _ (t : Trie) where
   inside-nodes : ℕ → Bool
   inside-nodes e = ltb (get_or t.to e 0) (length t.edge_at)
 
-  -- the tests of the lengths, in their order
-  lengths : Bool
-  lengths =
-      leb 1 (length t.edge_at)
-      && leb (length t.edge_at) 4_294_967_295
-      && eqb (length t.edge_n) (length t.edge_at)
-      && eqb (length t.id) (length t.edge_at)
-      && eqb (length t.to) (length t.byte)
-
-  facts : lengths ≡ true → every (length t.edge_at) (sound_node t) ≡ true → every (length t.byte) inside-nodes ≡ true → Sound t
-  unfolding lengths sound_node inside-nodes
-  facts l ns ts =
+  pub sound-of : sound t ≡ true → Sound t
+  unfolding sound sound_node inside-nodes
+  sound-of h =
+      let nodes : every (length t.edge_at) (sound_node t) ≡ true = grind (arith, nat_tests) in
+      let targets : every (length t.byte) inside-nodes ≡ true = grind (arith, nat_tests) in
       let edges : (k : ℕ) → k < length t.edge_at → NodeEdges t.byte (get_or t.edge_at k 0) (get_or t.edge_n k 0) =
-      λ k m. edges-of t.byte (get_or t.edge_at k 0) (get_or t.edge_n k 0) (every-all (sound_node t) (length t.edge_at) ns k m)
-      in
-      let each =
-      five (leb 1 (length t.edge_at)) (leb (length t.edge_at) 4_294_967_295) (eqb (length t.edge_n) (length t.edge_at))
-      (eqb (length t.id) (length t.edge_at)) (eqb (length t.to) (length t.byte)) l
+      λ k m. edges-of t.byte (get_or t.edge_at k 0) (get_or t.edge_n k 0) (every-all (sound_node t) (length t.edge_at) nodes k m)
       in
       record {
-        some-node = leb-true _ _ each.0;
-        few = leb-true _ _ each.1;
-        level-n = eqb-true _ _ each.2;
-        level-id = eqb-true _ _ each.3;
-        level-to = eqb-true _ _ each.4;
+        some-node = grind (arith, nat_tests);
+        few = grind (arith, nat_tests);
+        level-n = grind (arith, nat_tests);
+        level-id = grind (arith, nat_tests);
+        level-to = grind (arith, nat_tests);
         inside = λ k m. (edges k m).inside;
         at_most = λ k m. (edges k m).at_most;
         rising = λ k i m. (edges k m).rising i;
-        target = λ e m. ltb-true _ _ (every-all inside-nodes (length t.byte) ts e m);
+        target = λ e m. ltb-true _ _ (every-all inside-nodes (length t.byte) targets e m);
       }
-
-  pub sound-of : sound t ≡ true → Sound t
-  unfolding sound lengths inside-nodes
-  sound-of h =
-      let ns = every (length t.edge_at) (sound_node t) in
-      let ts = every (length t.byte) inside-nodes in
-      let two = first (lengths && ns) ts h in
-      facts (first lengths ns two) (second lengths ns two) (second (lengths && ns) ts h)
 
   pub of-sound : Sound t → sound t ≡ true
   unfolding sound sound_node inside-nodes
@@ -211,22 +188,17 @@ module _ (t : Trie) (scores : List Double) (unknown : Double) where
   pub scored-of : sound_scored t scores unknown ≡ true → SoundScored t scores unknown
   unfolding sound_scored
   scored-of h =
-      let level = eqb (length scores) (length t.edge_at) in
-      let three = first (sound t && level && all_finite scores) (is_finite unknown) h in
-      let two = first (sound t && level) (all_finite scores) three in
+      let finite : all_finite scores ≡ true = grind (arith, nat_tests) in
       record {
-        parts = first (sound t) level two;
-        level-score = eqb-true _ _ (second (sound t) level two);
-        finite = finite-all scores (second (sound t && level) (all_finite scores) three);
-        finite-unknown = second (sound t && level && all_finite scores) (is_finite unknown) h;
+        parts = grind (arith, nat_tests);
+        level-score = grind (arith, nat_tests);
+        finite = finite-all scores finite;
+        finite-unknown = grind (arith, nat_tests);
       }
 
   pub of-scored : SoundScored t scores unknown → sound_scored t scores unknown ≡ true
   unfolding sound_scored
-  of-scored s =
-      both
-      (both (both s.parts (eq-eqb (length scores) (length t.edge_at) s.level-score)) (all-finite scores s.finite))
-      s.finite-unknown
+  of-scored s = let finite = all-finite scores s.finite in grind (arith, nat_tests, finite, s)
 
   pub scored-uneven : is_finite unknown ≡ true → (length scores ≡ length t.edge_at → ⊥) → sound_scored t scores unknown ≡ false
   unfolding sound_scored
