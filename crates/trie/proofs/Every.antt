@@ -2,7 +2,7 @@
 -- all. Assumes nothing.
 use Rattle.std.specs.Bool.{MatchBool}
 use mathlib.Core.Path.{◌≡◌, refl, sym}
-use mathlib.Core.Bool.{Bool, true, false, not, ◌&&◌}
+use mathlib.Core.Bool.{Bool, true, false, ◌&&◌}
 use mathlib.Core.Logic.{⊎_elim}
 use Prim.Native.Nat.{ℕ, zero, suc, ◌+◌, ◌<◌}
 use native.Mathlib.Nat.{le_of_suc-le-suc, eq-or-lt_of_le}

@@ -1,12 +1,12 @@
 -- The facts that the test `sound` stands for, `Sound`: the two say the same. Each conjunct of the test is a field: a number's
 -- test is the fact on numbers, a test of every node or edge the fact of each. Assumes nothing.
 use mathlib.Core.Path.{◌≡◌, refl, sym, ap, ◌∙◌}
-use mathlib.Core.Bool.{Bool, true, false, ◌&&◌}
+use mathlib.Core.Bool.{Bool, true, false}
 use mathlib.Core.List.{List, [], ◌∷◌, map}
 use Prim.Native.Nat.{ℕ, zero, suc, ◌+◌, ◌-◌, ◌≤◌, ◌<◌}
 use native.Mathlib.Omega.{arith}
-use borrow.Author.Tests.{ltb-true, leb-true, eqb-true, lt-ltb, le-leb, lt-leb, eq-eqb, ne_eqb}
-use lib.Dec.{ltb, leb, eqb}
+use borrow.Author.Tests.{ltb-true, lt-ltb}
+use lib.Dec.{ltb}
 use lib.Ieee.{Float}
 use lib.ListN.{length, get_or, drop, length-map, length-take, length-drop}
 use Rattle.std.proofs.lemmas.Bool.Decides.{nat_tests}
@@ -19,7 +19,7 @@ use Rattle.doubles.specs.Units.{units}
 use Rattle.doubles.specs.Double.{Double, plus_zero, is_finite}
 use Rattle.trie.specs.Trie.{Trie}
 use Rattle.trie.specs.Sound.{every, rises, sound_edges, sound_node, sound, all_finite, sound_scored}
-use Rattle.trie.proofs.Every.{both, first, second, five, fails, every-all, all-every, every-fails}
+use Rattle.trie.proofs.Every.{both, first, second, every-all, all-every, every-fails}
 
 -- ---- the edges of one node
 

@@ -15,7 +15,7 @@ use Rattle.refusal.proofs.Lists.{none-some}
 use Rattle.refusal.specs.Sizes.{no_id}
 use Rattle.trie.specs.Trie.{Trie, parts_of, step, walk, id_at, id_from, id_of}
 use Rattle.trie.specs.Sound.{rises, sound}
-use Rattle.trie.specs.Walks.{Stands}
+use Rattle.trie.specs.Walks.{Stands, marked}
 use Rattle.trie.proofs.Seeking.{seek_found}
 use Rattle.trie.proofs.SoundParts.{Sound, sound-of, of_rising}
 
@@ -102,6 +102,10 @@ module _ (t : Trie) (k : ℕ) where
   id-some l e =
       rw (ne_eqb (get_or t.id k no_id) no_id (λ same. e (get_or-inside t.id k 0 no_id l ∙ same)))
       (ap Some (get_or-inside t.id k no_id 0 l))
+
+  pub id-marked : k < length t.id → marked (get_or t.id k 0) ≡ id_at t k
+  unfolding id_at
+  id-marked l = ap marked (get_or-inside t.id k 0 no_id l)
 
   pub from-walk : (s : List ℕ) → id_from t k s ≡ option_and_then (id_at t) (walk t k s)
   unfolding id_from

@@ -70,16 +70,11 @@ fn seek(byte: &[u8], to: &[u32], at: usize, n: usize, b: u8) -> Option<Walk>
     seek_few(byte, to, low, left, b)
 }
 
-// Where the byte b leads from the root by the table.
-fn first_step(first: &[u32], b: u8) -> Option<Walk>
-    requires { length first.now ≡ 256 }
-    ensures { next_of result ≡ marked (get_or (was first) b no_id) }
+// A node or an id, or none where the mark stands.
+fn marked(x: u32) -> Option<u32>
+    ensures { result ≡ marked x }
 {
-    let x = first[b as usize];
-    if x == NO_ID {
-        return None;
-    }
-    Some(Walk { node: x })
+    if x == NO_ID { None } else { Some(x) }
 }
 
 // Makes the table of where each byte leads from the root, from marks alone. It goes from the last edge to the first: were there
@@ -126,7 +121,8 @@ impl Walk {
         ensures { next_of result ≡ step (parts t.now) self.node b }
     {
         if self.node == 0 {
-            return first_step(first, b);
+            let node = marked(first[b as usize])?;
+            return Some(Walk { node });
         }
         self.step(t, b)
     }
@@ -149,11 +145,7 @@ pub fn id_at(t: &Parts, at: Walk) -> Option<u32>
     requires { at.node < length t.now.id.now }
     ensures { result ≡ id_at (parts t.now) at.node }
 {
-    let i = t.id[at.node as usize];
-    if i == NO_ID {
-        return None;
-    }
-    Some(i)
+    marked(t.id[at.node as usize])
 }
 
 // The id of the string s, if it has one.
