@@ -54,7 +54,9 @@ module _ (test : ℕ → Bool) where
       (eq-or-lt_of_le (le_of_suc-le-suc l))
 
   -- what a search for the first number that fails tells
-  pub searched : (n : ℕ) (r : Bool) → MatchBool r ((k : ℕ) → k < n → test k ≡ true) ((k : ℕ) × (k < n) × (test k ≡ false)) → r ≡ every n test
+  pub searched :
+      (n : ℕ) (r : Bool) → MatchBool r ((k : ℕ) → k < n → test k ≡ true) ((k : ℕ) × (k < n) × (test k ≡ false))
+      → r ≡ every n test
   searched n true all = sym (all-every n all)
   searched n false (k, l, h) = sym (every-fails n k l h)
 

@@ -24,11 +24,13 @@ module _ (bytes tos : List ℕ) where
   -- marks alone lead nowhere
   pub led-nowhere : (first : List ℕ) (at n : ℕ) → first ≡ replicate 256 no_id → n ≡ 0 → Led first at n
   led-nowhere first at n e z b l =
-      ap (λ (xs : List ℕ). marked (get_or xs b no_id)) e ∙ ap marked (get_or-replicate 256 b no_id no_id l) ∙ sym (seek-over bytes tos b at n z)
+      ap (λ (xs : List ℕ). marked (get_or xs b no_id)) e ∙ ap marked (get_or-replicate 256 b no_id no_id l)
+      ∙ sym (seek-over bytes tos b at n z)
 
   -- one edge more in front
   pub led-more :
-      (first : List ℕ) (at n : ℕ) → length first ≡ 256 → get_or bytes at 0 < 256 → get_or tos at 0 < no_id → Led first (suc at) n
+      (first : List ℕ) (at n : ℕ) → length first ≡ 256 → get_or bytes at 0 < 256 → get_or tos at 0 < no_id
+      → Led first (suc at) n
       → Led (set first (get_or bytes at 0) (get_or tos at 0)) at (suc n)
   led-more first at n places byte node led b l = go (eqb (get_or bytes at 0) b) refl
     where
@@ -38,7 +40,9 @@ module _ (bytes tos : List ℕ) where
       t : ℕ
       t = get_or tos at 0
 
-      go : (same : Bool) → eqb (get_or bytes at 0) b ≡ same → marked (get_or (set first x t) b no_id) ≡ seek bytes tos b at (suc n)
+      go :
+          (same : Bool) → eqb (get_or bytes at 0) b ≡ same
+          → marked (get_or (set first x t) b no_id) ≡ seek bytes tos b at (suc n)
       go true e =
           let here : x ≡ b = eqb-true (get_or bytes at 0) b e in
           ap (λ (k : ℕ). marked (get_or (set first x t) k no_id)) (sym here)
@@ -67,7 +71,8 @@ led-turn t first i s some_left below places byte led =
 
 -- the table when no edge is before it
 pub led-all :
-    (t : Trie) (first : List ℕ) (i : ℕ) → length first ≡ 256 → i ≤ 0 → Led t.byte t.to first (get_or t.edge_at 0 0 + i) (get_or t.edge_n 0 0 - i)
+    (t : Trie) (first : List ℕ) (i : ℕ) → length first ≡ 256 → i ≤ 0
+    → Led t.byte t.to first (get_or t.edge_at 0 0 + i) (get_or t.edge_n 0 0 - i)
     → Leads t first
 unfolding step
 led-all t first i places none led =

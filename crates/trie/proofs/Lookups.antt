@@ -37,10 +37,12 @@ module _ (s : List ℕ) where
   pub sound-lookup : {sound : Bool} → sound ≡ true → {f : Fault} → lookup_fault sound s ≡ Some f → Not 8 f
   unfolding lookup_fault
   sound-lookup e =
-      refused-so (Not 8) _ fault.Size _ refl (λ q. text-not 8 refl s (sym (not_found _ fault.Trie (text_fault s) (ap not e)) ∙ q))
+      refused-so (Not 8) _ fault.Size _ refl
+      (λ q. text-not 8 refl s (sym (not_found _ fault.Trie (text_fault s) (ap not e)) ∙ q))
 
 -- what is known where there is none
-pub lookup-fine : (sound : Bool) (s : List ℕ) → lookup_fault sound s ≡ None → (length s ≤ max_text) × (sound ≡ true) × (well_formed s ≡ true)
+pub lookup-fine :
+    (sound : Bool) (s : List ℕ) → lookup_fault sound s ≡ None → (length s ≤ max_text) × (sound ≡ true) × (well_formed s ≡ true)
 unfolding lookup_fault
 lookup-fine sound s e =
     let a = passed _ fault.Size _ e in

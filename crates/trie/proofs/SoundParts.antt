@@ -39,7 +39,8 @@ module _ (bytes : List ℕ) (at n : ℕ) where
 
   pub of_rising : ((i : ℕ) → suc i < n → get_or bytes (at + i) 0 < get_or bytes (at + suc i) 0) → rises bytes at n ≡ true
   unfolding rise
-  of_rising r = all-every rise (n - 1) (λ i l. lt-ltb (get_or bytes (at + i) 0) (get_or bytes (at + suc i) 0) (r i (omega arith)))
+  of_rising r =
+      all-every rise (n - 1) (λ i l. lt-ltb (get_or bytes (at + i) 0) (get_or bytes (at + suc i) 0) (r i (omega arith)))
 
   pub edges-of : sound_edges bytes at n ≡ true → NodeEdges bytes at n
   edges-of h =
@@ -64,9 +65,12 @@ module _ (bytes : List ℕ) (at n : ℕ) where
         let m : i < at + n - at = omega arith in
         let m' : i + 1 < at + n - at = omega arith in
         let next : at + (i + 1) ≡ at + suc i = omega arith in
-        simp (get_or-take (at + n - at) (drop at bytes) i 0 m, get_or-take (at + n - at) (drop at bytes) (i + 1) 0 m', get_or-drop, next)
+        let read = get_or-take (at + n - at) (drop at bytes) i 0 m in
+        let read' = get_or-take (at + n - at) (drop at bytes) (i + 1) 0 m' in
+        simp (read, read', get_or-drop, next)
 
-    pub rises-told : (r : Bool) → IsAllAdjacentAnswer (λ x y b. b ≡ ltb x y) (slice_range bytes at (at + n)) r → r ≡ rises bytes at n
+    pub rises-told :
+        (r : Bool) → IsAllAdjacentAnswer (λ x y b. b ≡ ltb x y) (slice_range bytes at (at + n)) r → r ≡ rises bytes at n
     unfolding rise here
     rises-told true h = sym (all-every rise (n - 1) (λ i l. here_rise i (omega arith) ∙ sym (h i 0 (omega (arith, here_long)))))
     rises-told false (k, l, h) =
@@ -84,7 +88,9 @@ pub record Sound (t : Trie) : Type 0 where
   pub level-to : length t.to ≡ length t.byte
   pub inside : (k : ℕ) → k < length t.edge_at → get_or t.edge_at k 0 + get_or t.edge_n k 0 ≤ length t.byte
   pub at_most : (k : ℕ) → k < length t.edge_at → get_or t.edge_n k 0 ≤ 256
-  pub rising : (k i : ℕ) → k < length t.edge_at → suc i < get_or t.edge_n k 0 → get_or t.byte (get_or t.edge_at k 0 + i) 0 < get_or t.byte (get_or t.edge_at k 0 + suc i) 0
+  pub rising :
+      (k i : ℕ) → k < length t.edge_at → suc i < get_or t.edge_n k 0
+      → get_or t.byte (get_or t.edge_at k 0 + i) 0 < get_or t.byte (get_or t.edge_at k 0 + suc i) 0
   pub target : (e : ℕ) → e < length t.byte → get_or t.to e 0 < length t.edge_at
 
 module _ (t : Trie) where
@@ -97,7 +103,7 @@ module _ (t : Trie) where
       let nodes : every (length t.edge_at) (sound_node t) ≡ true = grind (arith, nat_tests) in
       let targets : every (length t.byte) inside-nodes ≡ true = grind (arith, nat_tests) in
       let edges : (k : ℕ) → k < length t.edge_at → NodeEdges t.byte (get_or t.edge_at k 0) (get_or t.edge_n k 0) =
-      λ k m. edges-of t.byte (get_or t.edge_at k 0) (get_or t.edge_n k 0) (every-all (sound_node t) (length t.edge_at) nodes k m)
+      λ k m. edges-of t.byte _ _ (every-all (sound_node t) (length t.edge_at) nodes k m)
       in
       record {
         some-node = grind (arith, nat_tests);
@@ -120,7 +126,7 @@ module _ (t : Trie) where
       of-edges t.byte (get_or t.edge_at k 0) (get_or t.edge_n k 0)
       (record { inside = s.inside k m; at_most = s.at_most k m; rising = λ i. s.rising k i m }))
       in
-      let targets = all-every inside-nodes (length t.byte) (λ e m. lt-ltb (get_or t.to e 0) (length t.edge_at) (s.target e m)) in
+      let targets = all-every inside-nodes (length t.byte) (λ e m. lt-ltb _ _ (s.target e m)) in
       grind (arith, nat_tests, nodes, targets, s)
 
   -- the tests of the lengths in their order
@@ -162,7 +168,8 @@ finite-all [] h k l = absurd (omega arith)
 finite-all (x ∷ xs) h zero l = first (is_finite x) (all_finite xs) h
 finite-all (x ∷ xs) h (suc k) l = finite-all xs (second (is_finite x) (all_finite xs) h) k (omega arith)
 
-pub all-finite : (xs : List Double) → ((k : ℕ) → k < length xs → is_finite (get_or xs k plus_zero) ≡ true) → all_finite xs ≡ true
+pub all-finite :
+    (xs : List Double) → ((k : ℕ) → k < length xs → is_finite (get_or xs k plus_zero) ≡ true) → all_finite xs ≡ true
 unfolding all_finite
 all-finite [] all = refl
 all-finite (x ∷ xs) all = both (all 0 (omega arith)) (all-finite xs (λ k l. all (suc k) (omega arith)))
@@ -173,9 +180,12 @@ module _ (xs : List Float) (d : Float) where
   score_at k l = ap is_finite (map-inside units xs k d plus_zero l)
 
   pub finite-told :
-      (r : Bool) → MatchBool r ((k : ℕ) → k < length xs → is_finite (units (get_or xs k d)) ≡ true) ((k : ℕ) × (k < length xs) × (is_finite (units (get_or xs k d)) ≡ false))
+      (r : Bool)
+      → MatchBool r ((k : ℕ) → k < length xs → is_finite (units (get_or xs k d)) ≡ true)
+      ((k : ℕ) × (k < length xs) × (is_finite (units (get_or xs k d)) ≡ false))
       → r ≡ all_finite (map units xs)
-  finite-told true all = sym (all-finite (map units xs) (λ k l. let m : k < length xs = rw length-map at l in score_at k m ∙ all k m))
+  finite-told true all =
+      sym (all-finite (map units xs) (λ k l. let m : k < length xs = rw length-map at l in score_at k m ∙ all k m))
   finite-told false (k, l, h) = go (all_finite (map units xs)) refl
     where
       go : (b : Bool) → all_finite (map units xs) ≡ b → false ≡ b

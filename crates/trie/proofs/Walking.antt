@@ -49,7 +49,8 @@ module _ (t : Trie) where
     where
       go :
           (o : Option ℕ) → ((j : ℕ) → walk t j (s ++ u) ≡ option_and_then (λ i. walk t i u) (walk t j s))
-          → elim o [ None ↦ None | Some j ↦ walk t j (s ++ u) ] ≡ option_and_then (λ i. walk t i u) (elim o [ None ↦ None | Some j ↦ walk t j s ])
+          → elim o [ None ↦ None | Some j ↦ walk t j (s ++ u) ]
+          ≡ option_and_then (λ i. walk t i u) (elim o [ None ↦ None | Some j ↦ walk t j s ])
       go None all = refl
       go (Some j) all = all j
 
@@ -78,7 +79,8 @@ module _ (t : Trie) where
     pub turn-stop : (k : ℕ) → i < length s → step t k (get_or s i 0) ≡ None → walk t k (drop i s) ≡ None
     turn-stop k l e = rw (drop-cons s i 0 l) (walk-stop k (get_or s i 0) (drop (suc i) s) e)
 
-    pub turn-to : (k : ℕ) {j : ℕ} → i < length s → step t k (get_or s i 0) ≡ Some j → walk t k (drop i s) ≡ walk t j (drop (i + 1) s)
+    pub turn-to :
+        (k : ℕ) {j : ℕ} → i < length s → step t k (get_or s i 0) ≡ Some j → walk t k (drop i s) ≡ walk t j (drop (i + 1) s)
     turn-to k l e = rw (add-one, drop-cons s i 0 l) (walk-to k (get_or s i 0) (drop (suc i) s) e)
 
     pub turn_end : (k : ℕ) → length s ≤ i → walk t k (drop i s) ≡ Some k
@@ -126,7 +128,9 @@ pub from-append : (t : Trie) (k : ℕ) (s u : List ℕ) → id_from t k (s ++ u)
 from-append t k s u =
     from-walk t k (s ++ u) ∙ ap (λ (o : Option ℕ). option_and_then (id_at t) o) (walk-append t k s u) ∙ go (walk t k s)
   where
-    go : (o : Option ℕ) → option_and_then (id_at t) (option_and_then (λ j. walk t j u) o) ≡ option_and_then (λ j. id_from t j u) o
+    go :
+        (o : Option ℕ)
+        → option_and_then (id_at t) (option_and_then (λ j. walk t j u) o) ≡ option_and_then (λ j. id_from t j u) o
     go None = refl
     go (Some j) = sym (from-walk t j u)
 
@@ -147,9 +151,14 @@ module _ (t : Trie) (ids : List ℕ) where
 
   pub walk-any : (k : ℕ) (s : List ℕ) → walk with_ids k s ≡ walk t k s
   walk-any k [] = walk-nil with_ids k ∙ sym (walk-nil t k)
-  walk-any k (b ∷ s) = walk-cons with_ids k b s ∙ rw (step-any k b) (go (step t k b) (λ j. walk-any j s)) ∙ sym (walk-cons t k b s)
+  walk-any k (b ∷ s) =
+      walk-cons with_ids k b s
+      ∙ rw (step-any k b) (go (step t k b) (λ j. walk-any j s))
+      ∙ sym (walk-cons t k b s)
     where
-      go : (o : Option ℕ) → ((j : ℕ) → walk with_ids j s ≡ walk t j s) → option_and_then (λ j. walk with_ids j s) o ≡ option_and_then (λ j. walk t j s) o
+      go :
+          (o : Option ℕ) → ((j : ℕ) → walk with_ids j s ≡ walk t j s)
+          → option_and_then (λ j. walk with_ids j s) o ≡ option_and_then (λ j. walk t j s) o
       go None all = refl
       go (Some j) all = all j
 
@@ -174,7 +183,8 @@ module _ (t : Trie) (tested : sound t ≡ true) where
   walk_inside k (b ∷ s) {j} l e = go (step t k b) (λ i p. step-inside k b l p) (λ i p. walk_inside i s p) e
     where
       go :
-          (o : Option ℕ) → ((i : ℕ) → o ≡ Some i → i < length t.edge_at) → ((i : ℕ) → i < length t.edge_at → walk t i s ≡ Some j → j < length t.edge_at)
+          (o : Option ℕ) → ((i : ℕ) → o ≡ Some i → i < length t.edge_at)
+          → ((i : ℕ) → i < length t.edge_at → walk t i s ≡ Some j → j < length t.edge_at)
           → elim o [ None ↦ None | Some i ↦ walk t i s ] ≡ Some j → j < length t.edge_at
       go None p q h = none-some h
       go (Some i) p q h = q i (p i refl) h
@@ -208,4 +218,6 @@ module _ (t : Trie) (k : ℕ) (s : Stands t k) where
 
   -- and leads to
   pub step-stands : (b : ℕ) {j : ℕ} → step t k b ≡ Some j → Stands t j
-  step-stands b e = record { ids = s.ids; parts = s.parts; inside = step-inside (with_ids t s.ids) s.parts k b s.inside (step-any t s.ids k b ∙ e) }
+  step-stands b e =
+      let stepped = step-any t s.ids k b ∙ e in
+      record { ids = s.ids; parts = s.parts; inside = step-inside (with_ids t s.ids) s.parts k b s.inside stepped }

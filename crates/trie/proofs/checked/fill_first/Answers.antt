@@ -23,7 +23,8 @@ bounds-t-at-in-loop-i c = omega (arith, (edges_stand _ _ c.requires.0).inside)
 pub loop-i-preserved : goal.loop-i-preserved
 loop-i-preserved c =
     let places : length c.loop-i.first ≡ 256 = c.loop-i.auto.first ∙ ap length c.requires.1 ∙ length-replicate 256 no_id in
-    led-turn (parts c.args.t.now) c.loop-i.first c.loop-i.i c.requires.0 (omega arith) (omega arith) places (omega arith) c.loop-i.invariant
+    led-turn (parts c.args.t.now) c.loop-i.first c.loop-i.i c.requires.0 (omega arith) (omega arith) places (omega arith)
+    c.loop-i.invariant
 
 pub returns : goal.returns
 returns c =

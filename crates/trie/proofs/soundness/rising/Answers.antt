@@ -8,4 +8,5 @@ use Rattle.trie.proofs.soundness.rising.Goals as goal
 pub returns : goal.returns
 returns c =
     let a = c.args in
-    rises-told a.byte.now a.at a.n c.requires _ (c.is_sorted_by.ensures.cases ltb (answers_always _ _ _ (λ f x r q k. search (rules, tests))))
+    rises-told a.byte.now a.at a.n c.requires _
+    (c.is_sorted_by.ensures.cases ltb (answers_always _ _ _ (λ f x r q k. search (rules, tests))))

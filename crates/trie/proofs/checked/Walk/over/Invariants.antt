@@ -4,4 +4,6 @@ use Rattle.trie.specs.Walks.{Stands}
 use Rattle.trie.proofs.checked.Walk.over.Given as goal
 
 abbrev pub invariant-loop-b : goal.invariant-loop-b
-invariant-loop-b l = Stands (parts l.t) l.here.node × (walk (parts l.t) l.initial.here.node l.s ≡ walk (parts l.t) l.here.node (drop l.b-index l.s))
+invariant-loop-b l =
+    Stands (parts l.t) l.here.node
+    × (walk (parts l.t) l.initial.here.node l.s ≡ walk (parts l.t) l.here.node (drop l.b-index l.s))
