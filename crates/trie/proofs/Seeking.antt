@@ -209,8 +209,8 @@ module _ (bytes tos : List ℕ) (b : ℕ) where
             go false false true u v w = absurd (omega (arith, rises p, leb-false one b u, leb-true three b w))
             go true false true u v w = absurd (omega (arith, rises p, leb-false two b v, leb-true three b w))
 
--- what tells the edges apart where they are few
-pub ruleset few_edges = (seek-first, seek-past, seek-over)
+-- the turns of a search that looks at one edge after the other
+pub ruleset one_by_one = (seek-first, seek-past, seek-over)
 
 -- how far a turn goes on
 pub at_most : (t : Bool) (part : ℕ) → cond t part 0 ≤ part

@@ -24,35 +24,23 @@ fn passed(part: usize, x: u8, b: u8) -> usize
     part * ((256 + b as usize - x as usize) / 256)
 }
 
-// The target of the byte b among the n edges from `at` on, which are three at most.
-#[tactic(auto, using(crate::proofs::Seeking::few_edges))]
+// The target of the byte b among the n edges from `at` on, looked at one after the other.
+#[tactic(auto, using(crate::proofs::Seeking::one_by_one))]
 fn seek_few(byte: &[u8], to: &[u32], at: usize, n: usize, b: u8) -> Option<Walk>
-    requires { (n ≤ 3) × (at + n ≤ length byte.now) × (at + n ≤ length to.now) }
+    requires { (at + n ≤ length byte.now) × (at + n ≤ length to.now) }
     ensures { next_of result ≡ seek (was byte) (was to) b at n }
 {
-    if n == 0 {
-        return None;
-    }
-    if byte[at] == b {
-        return Some(Walk { node: to[at] });
-    }
-    if n == 1 {
-        return None;
-    }
-    if byte[at + 1] == b {
-        return Some(Walk { node: to[at + 1] });
-    }
-    if n == 2 {
-        return None;
-    }
-    if byte[at + 2] == b {
-        return Some(Walk { node: to[at + 2] });
+    for k in at..at + n {
+        if byte[k] == b {
+            return Some(Walk { node: to[k] });
+        }
     }
     None
 }
 
 // The target of the byte b among the n edges from `at` on. Their bytes rise, so each turn leaves out three quarters of those
-// that are left: 4 turns for 256 edges. Its three reads don't wait for each other.
+// that are left: 4 turns for 256 edges. Its three reads don't wait for each other. A `while`, since it narrows what is left and
+// doesn't count.
 fn seek(byte: &[u8], to: &[u32], at: usize, n: usize, b: u8) -> Option<Walk>
     requires { (at + n ≤ length byte.now) × (at + n ≤ length to.now) × (rises byte.now at n ≡ true) }
     ensures { next_of result ≡ seek (was byte) (was to) b at n }
