@@ -42,17 +42,20 @@ module _ (bytes tos : List ℕ) (b : ℕ) where
   unfolding seek
   seek-empty at = refl
 
-  -- the first of some edges has the byte, or is passed over
-  pub seek-first : (at n : ℕ) → 1 ≤ n → get_or bytes at 0 ≡ b → seek bytes tos b at n ≡ Some (get_or tos at 0)
-  seek-first at n some_edges same =
-      let e : n ≡ suc (n - 1) = omega arith in
-      ap (seek bytes tos b at) e ∙ seek-here at (n - 1) same
+  -- the first of the edges up to `end` has the byte, or is passed over
+  pub seek-first : (k end : ℕ) → k < end → get_or bytes k 0 ≡ b → seek bytes tos b k (end - k) ≡ Some (get_or tos k 0)
+  seek-first k end below same =
+      let e : end - k ≡ suc (end - k - 1) = omega arith in
+      ap (seek bytes tos b k) e ∙ seek-here k (end - k - 1) same
 
-  pub seek-past : (at n : ℕ) → 1 ≤ n → (get_or bytes at 0 ≡ b → ⊥) → seek bytes tos b at n ≡ seek bytes tos b (at + 1) (n - 1)
-  seek-past at n some_edges other =
-      let e : n ≡ suc (n - 1) = omega arith in
-      let next : suc at ≡ at + 1 = omega arith in
-      ap (seek bytes tos b at) e ∙ seek-later at (n - 1) other ∙ ap (λ (k : ℕ). seek bytes tos b k (n - 1)) next
+  pub seek-past :
+      (k end : ℕ) → k < end → (get_or bytes k 0 ≡ b → ⊥) → seek bytes tos b k (end - k) ≡ seek bytes tos b (k + 1) (end - (k + 1))
+  seek-past k end below other =
+      let e : end - k ≡ suc (end - (k + 1)) = omega arith in
+      let next : suc k ≡ k + 1 = omega arith in
+      ap (seek bytes tos b k) e
+      ∙ seek-later k (end - (k + 1)) other
+      ∙ ap (λ (i : ℕ). seek bytes tos b i (end - (k + 1))) next
 
   pub seek-over : (at n : ℕ) → n ≡ 0 → seek bytes tos b at n ≡ None
   seek-over at n e = ap (seek bytes tos b at) e ∙ seek-empty at
