@@ -49,7 +49,8 @@ module _ (bytes tos : List ℕ) (b : ℕ) where
       ap (seek bytes tos b k) e ∙ seek-here k (end - k - 1) same
 
   pub seek-past :
-      (k end : ℕ) → k < end → (get_or bytes k 0 ≡ b → ⊥) → seek bytes tos b k (end - k) ≡ seek bytes tos b (k + 1) (end - (k + 1))
+      (k end : ℕ) → k < end → (get_or bytes k 0 ≡ b → ⊥)
+      → seek bytes tos b k (end - k) ≡ seek bytes tos b (k + 1) (end - (k + 1))
   seek-past k end below other =
       let e : end - k ≡ suc (end - (k + 1)) = omega arith in
       let next : suc k ≡ k + 1 = omega arith in
