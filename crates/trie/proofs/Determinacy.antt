@@ -8,5 +8,7 @@ use mathlib.Core.List.{List}
 use Rattle.trie.specs.Trie.{Trie}
 use Rattle.trie.specs.Lookup.{LookedUp}
 
-pub looked-up-once : {sound_parts : Bool} {t : Trie} {s : List ℕ} {a b : Result (Option ℕ) Fault} → LookedUp sound_parts t s a → LookedUp sound_parts t s b → a ≡ b
+pub looked-up-once :
+    {sound_parts : Bool} {t : Trie} {s : List ℕ} {a b : Result (Option ℕ) Fault} → LookedUp sound_parts t s a
+    → LookedUp sound_parts t s b → a ≡ b
 looked-up-once p q = p.answered ∙ sym q.answered

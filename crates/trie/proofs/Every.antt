@@ -1,7 +1,8 @@
 -- A test of every number below a count. A loop that has passed i of them knows `every i test`; one number that fails decides
 -- all. Assumes nothing.
-use mathlib.Core.Path.{◌≡◌, refl}
-use mathlib.Core.Bool.{Bool, true, false, not, ◌&&◌}
+use Rattle.std.specs.Bool.{MatchBool}
+use mathlib.Core.Path.{◌≡◌, refl, sym}
+use mathlib.Core.Bool.{Bool, true, false, ◌&&◌}
 use mathlib.Core.Logic.{⊎_elim}
 use Prim.Native.Nat.{ℕ, zero, suc, ◌+◌, ◌<◌}
 use native.Mathlib.Nat.{le_of_suc-le-suc, eq-or-lt_of_le}
@@ -22,26 +23,9 @@ pub second : (a b : Bool) → a && b ≡ true → b ≡ true
 second true b h = h
 second false b h = cc
 
-pub five :
-    (a b c d e : Bool) → a && b && c && d && e ≡ true → (a ≡ true) × (b ≡ true) × (c ≡ true) × (d ≡ true) × (e ≡ true)
-five a b c d e h =
-    let h4 = first (a && b && c && d) e h in
-    let h3 = first (a && b && c) d h4 in
-    let h2 = first (a && b) c h3 in
-    (first a b h2, second a b h2, second (a && b) c h3, second (a && b && c) d h4, second (a && b && c && d) e h)
-
 pub fails : (a b : Bool) → b ≡ false → a && b ≡ false
 fails true b h = h
 fails false b h = refl
-
--- the first test decides, or the second is left
-pub stopped : (a b : Bool) {x : Bool} → x ≡ a && b → not a ≡ true → x ≡ false
-stopped true b e h = cc
-stopped false b e h = e
-
-pub passed : (a b : Bool) {x : Bool} → x ≡ a && b → not a ≡ false → x ≡ b
-passed true b e h = e
-passed false b e h = cc
 
 -- ---- all of them
 
@@ -68,6 +52,13 @@ module _ (test : ℕ → Bool) where
       (λ e. fails (every n test) (test n) (rw e at h))
       (λ m. rw (every-fails n k m h))
       (eq-or-lt_of_le (le_of_suc-le-suc l))
+
+  -- what a search for the first number that fails tells
+  pub searched :
+      (n : ℕ) (r : Bool) → MatchBool r ((k : ℕ) → k < n → test k ≡ true) ((k : ℕ) × (k < n) × (test k ≡ false))
+      → r ≡ every n test
+  searched n true all = sym (all-every n all)
+  searched n false (k, l, h) = sym (every-fails n k l h)
 
   -- the turn of a loop
   pub every-none : every 0 test ≡ true

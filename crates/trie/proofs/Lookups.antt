@@ -37,10 +37,12 @@ module _ (s : List ℕ) where
   pub sound-lookup : {sound : Bool} → sound ≡ true → {f : Fault} → lookup_fault sound s ≡ Some f → Not 8 f
   unfolding lookup_fault
   sound-lookup e =
-      refused-so (Not 8) _ fault.Size _ refl (λ q. text-not 8 refl s (sym (not_found _ fault.Trie (text_fault s) (ap not e)) ∙ q))
+      refused-so (Not 8) _ fault.Size _ refl
+      (λ q. text-not 8 refl s (sym (not_found _ fault.Trie (text_fault s) (ap not e)) ∙ q))
 
 -- what is known where there is none
-pub lookup-fine : (sound : Bool) (s : List ℕ) → lookup_fault sound s ≡ None → (length s ≤ max_text) × (sound ≡ true) × (well_formed s ≡ true)
+pub lookup-fine :
+    (sound : Bool) (s : List ℕ) → lookup_fault sound s ≡ None → (length s ≤ max_text) × (sound ≡ true) × (well_formed s ≡ true)
 unfolding lookup_fault
 lookup-fine sound s e =
     let a = passed _ fault.Size _ e in
@@ -61,9 +63,6 @@ module _ {sound : Bool} {t : Trie} {s : List ℕ} where
   -- with what the test of soundness answered
   pub refused-unsound : length s ≤ max_text → sound ≡ false → LookedUp sound t s (Err fault.Trie)
   refused-unsound size e = refused-for (ap (λ (b : Bool). lookup_fault b s) e ∙ fault-trie s size)
-
-  pub looked-sound : {a : Result (Option ℕ) Fault} → sound ≡ true → LookedUp true t s a → LookedUp sound t s a
-  looked-sound e p = record { answered = p.answered ∙ ap (λ (b : Bool). lookup_answer (lookup_fault b s) (id_of t s)) (sym e) }
 
 -- ---- exactly when
 

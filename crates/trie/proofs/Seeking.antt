@@ -27,7 +27,6 @@ pub record Holds (bytes tos : List ℕ) (b at n j : ℕ) : Type 0 where
   pub byte : get_or bytes edge 0 ≡ b
   pub target : get_or tos edge 0 ≡ j
 
--- nothing is not something
 -- ---- the scan
 
 module _ (bytes tos : List ℕ) (b : ℕ) where
@@ -43,15 +42,21 @@ module _ (bytes tos : List ℕ) (b : ℕ) where
   unfolding seek
   seek-empty at = refl
 
-  -- the first of some edges has the byte, or is passed over
-  pub seek-first : (at n : ℕ) → 1 ≤ n → get_or bytes at 0 ≡ b → seek bytes tos b at n ≡ Some (get_or tos at 0)
-  seek-first at n some_edges same = let e : n ≡ suc (n - 1) = omega arith in ap (seek bytes tos b at) e ∙ seek-here at (n - 1) same
+  -- the first of the edges up to `end` has the byte, or is passed over
+  pub seek-first : (k end : ℕ) → k < end → get_or bytes k 0 ≡ b → seek bytes tos b k (end - k) ≡ Some (get_or tos k 0)
+  seek-first k end below same =
+      let e : end - k ≡ suc (end - k - 1) = omega arith in
+      ap (seek bytes tos b k) e ∙ seek-here k (end - k - 1) same
 
-  pub seek-past : (at n : ℕ) → 1 ≤ n → (get_or bytes at 0 ≡ b → ⊥) → seek bytes tos b at n ≡ seek bytes tos b (at + 1) (n - 1)
-  seek-past at n some_edges other =
-      let e : n ≡ suc (n - 1) = omega arith in
-      let next : suc at ≡ at + 1 = omega arith in
-      ap (seek bytes tos b at) e ∙ seek-later at (n - 1) other ∙ ap (λ (k : ℕ). seek bytes tos b k (n - 1)) next
+  pub seek-past :
+      (k end : ℕ) → k < end → (get_or bytes k 0 ≡ b → ⊥)
+      → seek bytes tos b k (end - k) ≡ seek bytes tos b (k + 1) (end - (k + 1))
+  seek-past k end below other =
+      let e : end - k ≡ suc (end - (k + 1)) = omega arith in
+      let next : suc k ≡ k + 1 = omega arith in
+      ap (seek bytes tos b k) e
+      ∙ seek-later k (end - (k + 1)) other
+      ∙ ap (λ (i : ℕ). seek bytes tos b i (end - (k + 1))) next
 
   pub seek-over : (at n : ℕ) → n ≡ 0 → seek bytes tos b at n ≡ None
   seek-over at n e = ap (seek bytes tos b at) e ∙ seek-empty at
@@ -59,7 +64,8 @@ module _ (bytes tos : List ℕ) (b : ℕ) where
   pub seek-none : (n at : ℕ) → Clear bytes b at (at + n) → seek bytes tos b at n ≡ None
   seek-none zero at clear = seek-empty at
   seek-none (suc n) at clear =
-      seek-later at n (clear at (omega arith) (omega arith)) ∙ seek-none n (suc at) (λ k p q. clear k (omega arith) (omega arith))
+      seek-later at n (clear at (omega arith) (omega arith))
+      ∙ seek-none n (suc at) (λ k p q. clear k (omega arith) (omega arith))
 
   pub seek-skip : (m at n : ℕ) → Clear bytes b at (at + m) → seek bytes tos b at (m + n) ≡ seek bytes tos b (at + m) n
   seek-skip zero at n clear =
@@ -70,7 +76,8 @@ module _ (bytes tos : List ℕ) (b : ℕ) where
       let e : at + suc m ≡ suc at + m = omega arith in
       let f : suc m + n ≡ suc (m + n) = omega arith in
       rw (e, f)
-      (seek-later at (m + n) (clear at (omega arith) (omega arith)) ∙ seek-skip m (suc at) n (λ k p q. clear k (omega arith) (omega arith)))
+      (seek-later at (m + n) (clear at (omega arith) (omega arith))
+      ∙ seek-skip m (suc at) n (λ k p q. clear k (omega arith) (omega arith)))
 
   pub seek-cut : (m at n : ℕ) → Clear bytes b (at + m) (at + m + n) → seek bytes tos b at (m + n) ≡ seek bytes tos b at m
   unfolding seek
@@ -113,7 +120,9 @@ module _ (bytes tos : List ℕ) (b : ℕ) where
     far-above (suc d) k p q =
         let e : k + suc (suc d) ≡ suc (k + suc d) = omega arith in
         let near : get_or bytes k 0 < get_or bytes (k + suc d) 0 = far-above d k p (omega arith) in
-        let last : get_or bytes (k + suc d) 0 < get_or bytes (suc (k + suc d)) 0 = next-above (k + suc d) (omega arith) (omega arith) in
+        let last : get_or bytes (k + suc d) 0 < get_or bytes (suc (k + suc d)) 0 =
+        next-above (k + suc d) (omega arith) (omega arith)
+        in
         rw e (omega arith)
 
     pub later-above : (k j : ℕ) → at ≤ k → k < j → j < at + n → get_or bytes k 0 < get_or bytes j 0
@@ -124,17 +133,22 @@ module _ (bytes tos : List ℕ) (b : ℕ) where
     -- of the `left` edges from `low` on
     module _ (low left : ℕ) (from : at ≤ low) (to : low + left ≤ at + n) where
       -- those in front of one whose byte is at most b can be left out
-      skip-to : (m : ℕ) → m < left → get_or bytes (low + m) 0 ≤ b → seek bytes tos b low left ≡ seek bytes tos b (low + m) (left - m)
+      skip-to :
+          (m : ℕ) → m < left → get_or bytes (low + m) 0 ≤ b → seek bytes tos b low left ≡ seek bytes tos b (low + m) (left - m)
       skip-to m s l =
           let whole : left ≡ m + (left - m) = omega arith in
           ap (seek bytes tos b low) whole
-          ∙ seek-skip m low (left - m) (λ k p q same. omega (arith, later-above k (low + m) (omega arith) (omega arith) (omega arith)))
+          ∙ seek-skip m low (left - m)
+          (λ k p q same. omega (arith, later-above k (low + m) (omega arith) (omega arith) (omega arith)))
 
       -- and those from any place on that is not in front of one whose byte is above b
-      cut-to : (m rest : ℕ) → m ≤ rest → rest ≤ left → m < left → b < get_or bytes (low + m) 0 → seek bytes tos b low left ≡ seek bytes tos b low rest
+      cut-to :
+          (m rest : ℕ) → m ≤ rest → rest ≤ left → m < left → b < get_or bytes (low + m) 0
+          → seek bytes tos b low left ≡ seek bytes tos b low rest
       cut-to m rest p s r l =
           let whole : left ≡ rest + (left - rest) = omega arith in
-          ap (seek bytes tos b low) whole ∙ seek-cut rest low (left - rest) (λ k u v same. above k (omega arith) (omega arith) same)
+          ap (seek bytes tos b low) whole
+          ∙ seek-cut rest low (left - rest) (λ k u v same. above k (omega arith) (omega arith) same)
         where
           above : (k : ℕ) → low + m ≤ k → k < low + left → get_or bytes k 0 ≡ b → ⊥
           above k u v same =
@@ -145,51 +159,62 @@ module _ (bytes tos : List ℕ) (b : ℕ) where
 
     -- The turn of a search that has the `left` edges from `low` on before it, and looks at three of them, `part` apart: it goes
     -- on by `part` for each whose byte is at most b, and leaves out three parts in all.
-    module _ (low part left : ℕ) (from : at ≤ low) (Some : 3 * part < left) (parted : 4 * part ≤ left) (to : low + left ≤ at + n) where
-      abbrev one : ℕ
-      one = get_or bytes (low + part) 0
+    module _
+        (low part left : ℕ) (from : at ≤ low) (Some : 3 * part < left) (parted : 4 * part ≤ left)
+        (to : low + left ≤ at + n)
+      where
+        abbrev one : ℕ
+        one = get_or bytes (low + part) 0
 
-      abbrev two : ℕ
-      two = get_or bytes (low + 2 * part) 0
+        abbrev two : ℕ
+        two = get_or bytes (low + 2 * part) 0
 
-      abbrev three : ℕ
-      three = get_or bytes (low + 3 * part) 0
+        abbrev three : ℕ
+        three = get_or bytes (low + 3 * part) 0
 
-      moved : (i j k m : ℕ) → i ≡ j → k ≡ m → seek bytes tos b i k ≡ seek bytes tos b j m
-      moved i j k m e f = ap (seek bytes tos b i) f ∙ ap (λ (x : ℕ). seek bytes tos b x m) e
+        moved : (i j k m : ℕ) → i ≡ j → k ≡ m → seek bytes tos b i k ≡ seek bytes tos b j m
+        moved i j k m e f = ap (seek bytes tos b i) f ∙ ap (λ (x : ℕ). seek bytes tos b x m) e
 
-      rises : (1 ≤ part) → (one < two) × (two < three)
-      rises p = (
-        later-above (low + part) (low + 2 * part) (omega arith) (omega arith) (omega arith),
-        later-above (low + 2 * part) (low + 3 * part) (omega arith) (omega arith) (omega arith),
-      )
+        rises : (1 ≤ part) → (one < two) × (two < three)
+        rises p = (
+          later-above (low + part) (low + 2 * part) (omega arith) (omega arith) (omega arith),
+          later-above (low + 2 * part) (low + 3 * part) (omega arith) (omega arith) (omega arith),
+        )
 
-      pub quarters :
-          1 ≤ part
-          → seek bytes tos b low left ≡ seek bytes tos b (low + (cond (leb one b) part 0 + cond (leb two b) part 0 + cond (leb three b) part 0)) (left - 3 * part)
-      quarters p = go (leb one b) (leb two b) (leb three b) refl refl refl
-        where
-          go :
-              (x y z : Bool) → leb one b ≡ x → leb two b ≡ y → leb three b ≡ z
-              → seek bytes tos b low left ≡ seek bytes tos b (low + (cond x part 0 + cond y part 0 + cond z part 0)) (left - 3 * part)
-          go true true true u v w =
-              skip-to low left from to (3 * part) (omega arith) (leb-true three b w) ∙ moved _ _ _ _ (omega arith) refl
-          go true true false u v w =
-              skip-to low left from to (2 * part) (omega arith) (leb-true two b v)
-              ∙ cut-to (low + 2 * part) (left - 2 * part) (omega arith) (omega arith) part (left - 3 * part) (omega arith) (omega arith) (omega arith)
-              (let e : low + 2 * part + part ≡ low + 3 * part = omega arith in rw e (leb-false three b w))
-              ∙ moved _ _ _ _ (omega arith) refl
-          go true false false u v w =
-              skip-to low left from to part (omega arith) (leb-true one b u)
-              ∙ cut-to (low + part) (left - part) (omega arith) (omega arith) part (left - 3 * part) (omega arith) (omega arith) (omega arith)
-              (let e : low + part + part ≡ low + 2 * part = omega arith in rw e (leb-false two b v))
-              ∙ moved _ _ _ _ (omega arith) refl
-          go false false false u v w =
-              cut-to low left from to part (left - 3 * part) (omega arith) (omega arith) (omega arith) (leb-false one b u)
-              ∙ moved _ _ _ _ (omega arith) refl
-          go false true z u v w = absurd (omega (arith, rises p, leb-false one b u, leb-true two b v))
-          go false false true u v w = absurd (omega (arith, rises p, leb-false one b u, leb-true three b w))
-          go true false true u v w = absurd (omega (arith, rises p, leb-false two b v, leb-true three b w))
+        pub quarters :
+            1 ≤ part
+            → seek bytes tos b low left
+            ≡ seek bytes tos b (low + (cond (leb one b) part 0 + cond (leb two b) part 0 + cond (leb three b) part 0))
+            (left - 3 * part)
+        quarters p = go (leb one b) (leb two b) (leb three b) refl refl refl
+          where
+            go :
+                (x y z : Bool) → leb one b ≡ x → leb two b ≡ y → leb three b ≡ z
+                → seek bytes tos b low left
+                ≡ seek bytes tos b (low + (cond x part 0 + cond y part 0 + cond z part 0)) (left - 3 * part)
+            go true true true u v w =
+                skip-to low left from to (3 * part) (omega arith) (leb-true three b w) ∙ moved _ _ _ _ (omega arith) refl
+            go true true false u v w =
+                skip-to low left from to (2 * part) (omega arith) (leb-true two b v)
+                ∙ cut-to (low + 2 * part) (left - 2 * part) (omega arith) (omega arith) part (left - 3 * part) (omega arith)
+                (omega arith) (omega arith)
+                (let e : low + 2 * part + part ≡ low + 3 * part = omega arith in rw e (leb-false three b w))
+                ∙ moved _ _ _ _ (omega arith) refl
+            go true false false u v w =
+                skip-to low left from to part (omega arith) (leb-true one b u)
+                ∙ cut-to (low + part) (left - part) (omega arith) (omega arith) part (left - 3 * part) (omega arith)
+                (omega arith) (omega arith)
+                (let e : low + part + part ≡ low + 2 * part = omega arith in rw e (leb-false two b v))
+                ∙ moved _ _ _ _ (omega arith) refl
+            go false false false u v w =
+                cut-to low left from to part (left - 3 * part) (omega arith) (omega arith) (omega arith) (leb-false one b u)
+                ∙ moved _ _ _ _ (omega arith) refl
+            go false true z u v w = absurd (omega (arith, rises p, leb-false one b u, leb-true two b v))
+            go false false true u v w = absurd (omega (arith, rises p, leb-false one b u, leb-true three b w))
+            go true false true u v w = absurd (omega (arith, rises p, leb-false two b v, leb-true three b w))
+
+-- the turns of a search that looks at one edge after the other
+pub ruleset one_by_one = (seek-first, seek-past, seek-over)
 
 -- how far a turn goes on
 pub at_most : (t : Bool) (part : ℕ) → cond t part 0 ≤ part

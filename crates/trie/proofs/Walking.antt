@@ -13,10 +13,11 @@ use lib.ListN.{length, get_or, drop, drop_of_length-le}
 use lib.Seq.{drop-cons}
 use Rattle.refusal.proofs.Lists.{none-some}
 use Rattle.refusal.specs.Sizes.{no_id}
-use Rattle.trie.specs.Trie.{Trie, step, walk, id_at, id_from, id_of}
-use Rattle.trie.specs.Sound.{sound}
+use Rattle.trie.specs.Trie.{Trie, parts_of, step, walk, id_at, id_from, id_of}
+use Rattle.trie.specs.Sound.{rises, sound}
+use Rattle.trie.specs.Walks.{Stands, marked}
 use Rattle.trie.proofs.Seeking.{seek_found}
-use Rattle.trie.proofs.SoundParts.{Sound, sound-of}
+use Rattle.trie.proofs.SoundParts.{Sound, sound-of, of_rising}
 
 -- ---- one step more
 
@@ -48,7 +49,8 @@ module _ (t : Trie) where
     where
       go :
           (o : Option ℕ) → ((j : ℕ) → walk t j (s ++ u) ≡ option_and_then (λ i. walk t i u) (walk t j s))
-          → elim o [ None ↦ None | Some j ↦ walk t j (s ++ u) ] ≡ option_and_then (λ i. walk t i u) (elim o [ None ↦ None | Some j ↦ walk t j s ])
+          → elim o [ None ↦ None | Some j ↦ walk t j (s ++ u) ]
+          ≡ option_and_then (λ i. walk t i u) (elim o [ None ↦ None | Some j ↦ walk t j s ])
       go None all = refl
       go (Some j) all = all j
 
@@ -77,7 +79,8 @@ module _ (t : Trie) where
     pub turn-stop : (k : ℕ) → i < length s → step t k (get_or s i 0) ≡ None → walk t k (drop i s) ≡ None
     turn-stop k l e = rw (drop-cons s i 0 l) (walk-stop k (get_or s i 0) (drop (suc i) s) e)
 
-    pub turn-to : (k : ℕ) {j : ℕ} → i < length s → step t k (get_or s i 0) ≡ Some j → walk t k (drop i s) ≡ walk t j (drop (i + 1) s)
+    pub turn-to :
+        (k : ℕ) {j : ℕ} → i < length s → step t k (get_or s i 0) ≡ Some j → walk t k (drop i s) ≡ walk t j (drop (i + 1) s)
     turn-to k l e = rw (add-one, drop-cons s i 0 l) (walk-to k (get_or s i 0) (drop (suc i) s) e)
 
     pub turn_end : (k : ℕ) → length s ≤ i → walk t k (drop i s) ≡ Some k
@@ -102,6 +105,10 @@ module _ (t : Trie) (k : ℕ) where
       rw (ne_eqb (get_or t.id k no_id) no_id (λ same. e (get_or-inside t.id k 0 no_id l ∙ same)))
       (ap Some (get_or-inside t.id k no_id 0 l))
 
+  pub id-marked : k < length t.id → marked (get_or t.id k 0) ≡ id_at t k
+  unfolding id_at
+  id-marked l = ap marked (get_or-inside t.id k 0 no_id l)
+
   pub from-walk : (s : List ℕ) → id_from t k s ≡ option_and_then (id_at t) (walk t k s)
   unfolding id_from
   from-walk s = go (walk t k s)
@@ -121,7 +128,9 @@ pub from-append : (t : Trie) (k : ℕ) (s u : List ℕ) → id_from t k (s ++ u)
 from-append t k s u =
     from-walk t k (s ++ u) ∙ ap (λ (o : Option ℕ). option_and_then (id_at t) o) (walk-append t k s u) ∙ go (walk t k s)
   where
-    go : (o : Option ℕ) → option_and_then (id_at t) (option_and_then (λ j. walk t j u) o) ≡ option_and_then (λ j. id_from t j u) o
+    go :
+        (o : Option ℕ)
+        → option_and_then (id_at t) (option_and_then (λ j. walk t j u) o) ≡ option_and_then (λ j. id_from t j u) o
     go None = refl
     go (Some j) = sym (from-walk t j u)
 
@@ -131,6 +140,32 @@ unfolding id_of
 id-of t s = refl
 
 -- ---- steps and walks look at no ids
+
+module _ (t : Trie) (ids : List ℕ) where
+  abbrev with_ids : Trie
+  with_ids = parts_of t.edge_at t.edge_n ids t.byte t.to
+
+  pub step-any : (k b : ℕ) → step with_ids k b ≡ step t k b
+  unfolding step
+  step-any k b = refl
+
+  pub walk-any : (k : ℕ) (s : List ℕ) → walk with_ids k s ≡ walk t k s
+  walk-any k [] = walk-nil with_ids k ∙ sym (walk-nil t k)
+  walk-any k (b ∷ s) =
+      walk-cons with_ids k b s
+      ∙ rw (step-any k b) (go (step t k b) (λ j. walk-any j s))
+      ∙ sym (walk-cons t k b s)
+    where
+      go :
+          (o : Option ℕ) → ((j : ℕ) → walk with_ids j s ≡ walk t j s)
+          → option_and_then (λ j. walk with_ids j s) o ≡ option_and_then (λ j. walk t j s) o
+      go None all = refl
+      go (Some j) all = all j
+
+-- nor does the id of a node look at the edges
+pub id-any : (t u : Trie) (k : ℕ) → t.id ≡ u.id → id_at t k ≡ id_at u k
+unfolding id_at
+id-any t u k e = rw e
 
 -- ---- in sound parts
 
@@ -148,7 +183,41 @@ module _ (t : Trie) (tested : sound t ≡ true) where
   walk_inside k (b ∷ s) {j} l e = go (step t k b) (λ i p. step-inside k b l p) (λ i p. walk_inside i s p) e
     where
       go :
-          (o : Option ℕ) → ((i : ℕ) → o ≡ Some i → i < length t.edge_at) → ((i : ℕ) → i < length t.edge_at → walk t i s ≡ Some j → j < length t.edge_at)
+          (o : Option ℕ) → ((i : ℕ) → o ≡ Some i → i < length t.edge_at)
+          → ((i : ℕ) → i < length t.edge_at → walk t i s ≡ Some j → j < length t.edge_at)
           → elim o [ None ↦ None | Some i ↦ walk t i s ] ≡ Some j → j < length t.edge_at
       go None p q h = none-some h
       go (Some i) p q h = q i (p i refl) h
+
+  pub root_stands : Stands t 0
+  root_stands = record { ids = t.id; parts = tested; inside = (sound-of t tested).some-node }
+
+  pub id_there : (s : List ℕ) {j : ℕ} → walk t 0 s ≡ Some j → j < length t.id
+  id_there s e =
+      let facts = sound-of t tested in
+      omega (arith, facts.level-id, walk_inside 0 s facts.some-node e)
+
+-- what a step asks of the edges of its node
+pub record Edges (t : Trie) (k : ℕ) : Type 0 where
+  pub counted : k < length t.edge_n
+  pub inside : get_or t.edge_at k 0 + get_or t.edge_n k 0 ≤ length t.byte
+  pub inside-to : get_or t.edge_at k 0 + get_or t.edge_n k 0 ≤ length t.to
+  pub rising : rises t.byte (get_or t.edge_at k 0) (get_or t.edge_n k 0) ≡ true
+
+module _ (t : Trie) (k : ℕ) (s : Stands t k) where
+  pub edges_stand : Edges t k
+  edges_stand =
+      let facts = sound-of _ s.parts in
+      let inside = facts.inside k s.inside in
+      record {
+        counted = omega (arith, s.inside, facts.level-n);
+        inside = inside;
+        inside-to = omega (arith, inside, facts.level-to);
+        rising = of_rising t.byte _ _ (λ i. facts.rising k i s.inside);
+      }
+
+  -- and leads to
+  pub step-stands : (b : ℕ) {j : ℕ} → step t k b ≡ Some j → Stands t j
+  step-stands b e =
+      let stepped = step-any t s.ids k b ∙ e in
+      record { ids = s.ids; parts = s.parts; inside = step-inside (with_ids t s.ids) s.parts k b s.inside stepped }

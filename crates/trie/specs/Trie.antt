@@ -1,9 +1,8 @@
 -- "Tries (000, 001)": the parts in their columns, and walks in any parts, sound or not. A string is a list of bytes.
 -- Definitions only; assumes nothing.
 use Rattle.std.specs.Prelude.{ℕ, zero, suc, cond, List, [], ◌∷◌, eqb, get_or, Option, None, Some}
-use Rattle.std.specs.Borrow.{Bor}
 use Rattle.refusal.specs.Sizes.{no_id}
-use Rattle.refusal.specs.Lent.{Lent, was}
+use Rattle.trie.specs.declared.Parts.{Parts}
 
 -- "Each node has its first edge number, edge count, id": a place of the first three columns for each node, of the last two for
 -- each edge. The score column of a Unigram trie stands beside these.
@@ -18,12 +17,9 @@ pub record Trie : Type 0 where
 abbrev pub parts_of : List ℕ → List ℕ → List ℕ → List ℕ → List ℕ → Trie
 parts_of edge_at edge_n id byte to = record { edge_at = edge_at; edge_n = edge_n; id = id; byte = byte; to = to }
 
--- the same as a contract names the columns: as the call found them, and in a `requires`
-abbrev pub parts : Lent ℕ → Lent ℕ → Lent ℕ → Lent ℕ → Lent ℕ → Trie
-parts edge_at edge_n id byte to = parts_of (was edge_at) (was edge_n) (was id) (was byte) (was to)
-
-abbrev pub parts_now : Bor (List ℕ) → Bor (List ℕ) → Bor (List ℕ) → Bor (List ℕ) → Bor (List ℕ) → Trie
-parts_now edge_at edge_n id byte to = parts_of edge_at.now edge_n.now id.now byte.now to.now
+-- the same as a contract names them
+abbrev pub parts : Parts → Trie
+parts t = parts_of t.edge_at.now t.edge_n.now t.id.now t.byte.now t.to.now
 
 -- the target of the byte b among the n edges from `at` on
 unfoldable pub seek : List ℕ → List ℕ → ℕ → ℕ → ℕ → Option ℕ

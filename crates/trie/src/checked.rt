@@ -1,12 +1,13 @@
 // Steps and walks in sound parts, for layers above that have tested soundness once: each function asks for sound parts and
 // refuses nothing.
-ghost use Rattle.std.specs.Prelude.{◌≡◌, true, cond, List, ℕ, ◌+◌, ◌≤◌, ◌<◌, leb, length, get_or, replicate};
+ghost use Rattle.std.specs.Prelude.{◌≡◌, true, cond, ◌+◌, ◌≤◌, ◌<◌, leb, length, get_or, replicate};
 ghost use Rattle.refusal.specs.Sizes.{no_id};
-ghost use Rattle.trie.specs.Trie.{Trie, parts_of, seek, step, walk, id_at, id_of, parts, parts_now};
+ghost use Rattle.trie.specs.Trie.{parts, seek, step, walk, id_at, id_of};
 ghost use Rattle.trie.specs.Sound.{rises, sound};
 ghost use Rattle.trie.specs.Walks.{Stands, next_of, marked, Leads};
 ghost use Rattle.refusal.specs.Lent.{was};
 
+use crate::Parts;
 use refusal::NO_ID;
 
 // A position in the trie: the node that the bytes so far lead to.
@@ -23,34 +24,23 @@ fn passed(part: usize, x: u8, b: u8) -> usize
     part * ((256 + b as usize - x as usize) / 256)
 }
 
-// The target of the byte b among the n edges from `at` on, which are three at most.
+// The target of the byte b among the n edges from `at` on, looked at one after the other.
+#[tactic(auto, using(crate::proofs::Seeking::one_by_one))]
 fn seek_few(byte: &[u8], to: &[u32], at: usize, n: usize, b: u8) -> Option<Walk>
-    requires { (n ≤ 3) × (at + n ≤ length byte.now) × (at + n ≤ length to.now) }
+    requires { (at + n ≤ length byte.now) × (at + n ≤ length to.now) }
     ensures { next_of result ≡ seek (was byte) (was to) b at n }
 {
-    if n == 0 {
-        return None;
-    }
-    if byte[at] == b {
-        return Some(Walk { node: to[at] });
-    }
-    if n == 1 {
-        return None;
-    }
-    if byte[at + 1] == b {
-        return Some(Walk { node: to[at + 1] });
-    }
-    if n == 2 {
-        return None;
-    }
-    if byte[at + 2] == b {
-        return Some(Walk { node: to[at + 2] });
+    for k in at..at + n {
+        if byte[k] == b {
+            return Some(Walk { node: to[k] });
+        }
     }
     None
 }
 
 // The target of the byte b among the n edges from `at` on. Their bytes rise, so each turn leaves out three quarters of those
-// that are left: 4 turns for 256 edges. Its three reads don't wait for each other.
+// that are left: 4 turns for 256 edges. Its three reads don't wait for each other. A `while`, since it narrows what is left and
+// doesn't count.
 fn seek(byte: &[u8], to: &[u32], at: usize, n: usize, b: u8) -> Option<Walk>
     requires { (at + n ≤ length byte.now) × (at + n ≤ length to.now) × (rises byte.now at n ≡ true) }
     ensures { next_of result ≡ seek (was byte) (was to) b at n }
@@ -68,31 +58,23 @@ fn seek(byte: &[u8], to: &[u32], at: usize, n: usize, b: u8) -> Option<Walk>
     seek_few(byte, to, low, left, b)
 }
 
-// Where the byte b leads from the root by the table.
-fn first_step(first: &[u32], b: u8) -> Option<Walk>
-    requires { length first.now ≡ 256 }
-    ensures { next_of result ≡ marked (get_or (was first) b no_id) }
+// A node or an id, or none where the mark stands.
+fn marked(x: u32) -> Option<u32>
+    ensures { result ≡ marked x }
 {
-    let x = first[b as usize];
-    if x == NO_ID {
-        return None;
-    }
-    Some(Walk { node: x })
+    if x == NO_ID { None } else { Some(x) }
 }
 
 // Makes the table of where each byte leads from the root, from marks alone. It goes from the last edge to the first: were there
 // two with one byte, a search would find the first, and so would the table.
-pub fn fill_first(edge_at: &[u32], edge_n: &[u16], byte: &[u8], to: &[u32], first: &mut [u32])
-    requires { Stands edge_at.now edge_n.now byte.now to.now 0 × (first.old ≡ replicate 256 no_id) }
-    ensures { Leads (was byte) (was to) (get_or (was edge_at) 0 0) (get_or (was edge_n) 0 0) first.new }
+pub fn fill_first(t: &Parts, first: &mut [u32])
+    requires { Stands (parts t.now) 0 × (first.old ≡ replicate 256 no_id) }
+    ensures { Leads (parts t.now) first.new }
 {
-    let at = edge_at[0] as usize;
-    let mut left = edge_n[0] as usize;
-    while 0 < left {
-        left -= 1;
-        let k = at + left;
-        let b = byte[k] as usize;
-        first[b] = to[k];
+    let at = t.edge_at[0] as usize;
+    let n = t.edge_n[0] as usize;
+    for i in (0..n).rev() {
+        first[t.byte[at + i] as usize] = t.to[at + i];
     }
 }
 
@@ -105,94 +87,59 @@ impl Walk {
     }
 
     // Where the byte b leads from here, in parts with any ids.
-    pub fn step(
-        self,
-        edge_at: &[u32],
-        edge_n: &[u16],
-        byte: &[u8],
-        to: &[u32],
-        b: u8,
-    ) -> Option<Walk>
-        requires { Stands edge_at.now edge_n.now byte.now to.now self.node }
-        ensures { (ids : List ℕ) → next_of result ≡ step (parts_of (was edge_at) (was edge_n) ids (was byte) (was to))
-            self.node b }
+    #[tactic(auto, unfolding(crate::specs::Trie::step))]
+    pub fn step(self, t: &Parts, b: u8) -> Option<Walk>
+        requires { Stands (parts t.now) self.node }
+        ensures { next_of result ≡ step (parts t.now) self.node b }
     {
         let node = self.node as usize;
-        let at = edge_at[node] as usize;
-        let n = edge_n[node] as usize;
-        seek(byte, to, at, n, b)
+        seek(
+            t.byte,
+            t.to,
+            t.edge_at[node] as usize,
+            t.edge_n[node] as usize,
+            b,
+        )
     }
 
     // The same, with a table of where each byte leads from the root, in which no edge is looked for.
-    pub fn step_by(
-        self,
-        edge_at: &[u32],
-        edge_n: &[u16],
-        byte: &[u8],
-        to: &[u32],
-        first: &[u32],
-        b: u8,
-    ) -> Option<Walk>
-        requires stands { Stands edge_at.now edge_n.now byte.now to.now self.node }
-        requires leads { Leads byte.now to.now (get_or edge_at.now 0 0) (get_or edge_n.now 0 0) first.now }
-        ensures { (ids : List ℕ) → next_of result ≡ step (parts_of (was edge_at) (was edge_n) ids (was byte) (was to))
-            self.node b }
+    pub fn step_by(self, t: &Parts, first: &[u32], b: u8) -> Option<Walk>
+        requires stands { Stands (parts t.now) self.node }
+        requires leads { Leads (parts t.now) first.now }
+        ensures { next_of result ≡ step (parts t.now) self.node b }
     {
         if self.node == 0 {
-            return first_step(first, b);
+            let node = marked(first[b as usize])?;
+            return Some(Walk { node });
         }
-        self.step(edge_at, edge_n, byte, to, b)
+        self.step(t, b)
     }
 
     // Where the bytes of s lead from here.
-    pub fn over(
-        self,
-        edge_at: &[u32],
-        edge_n: &[u16],
-        byte: &[u8],
-        to: &[u32],
-        s: &[u8],
-    ) -> Option<Walk>
-        requires { Stands edge_at.now edge_n.now byte.now to.now self.node }
-        ensures { (ids : List ℕ) → next_of result ≡ walk (parts_of (was edge_at) (was edge_n) ids (was byte) (was to))
-            self.node (was s) }
+    pub fn over(self, t: &Parts, s: &[u8]) -> Option<Walk>
+        requires { Stands (parts t.now) self.node }
+        ensures { next_of result ≡ walk (parts t.now) self.node (was s) }
     {
-        let mut node = self.node;
-        let mut i: usize = 0;
-        while i < s.len() {
-            let here = Walk { node };
-            node = here.step(edge_at, edge_n, byte, to, s[i])?.node;
-            i += 1;
+        let mut here = self;
+        for b in s {
+            here = here.step(t, *b)?;
         }
-        Some(Walk { node })
+        Some(here)
     }
 }
 
 // The id of the node of a position, in parts with any edges.
-pub fn id_at(id: &[u32], at: Walk) -> Option<u32>
-    requires { at.node < length id.now }
-    ensures { (t : Trie) → t.id ≡ was id → result ≡ id_at t at.node }
+pub fn id_at(t: &Parts, at: Walk) -> Option<u32>
+    requires { at.node < length t.now.id.now }
+    ensures { result ≡ id_at (parts t.now) at.node }
 {
-    let node = at.node as usize;
-    let i = id[node];
-    if i == NO_ID {
-        return None;
-    }
-    Some(i)
+    marked(t.id[at.node as usize])
 }
 
 // The id of the string s, if it has one.
-pub fn exact(
-    edge_at: &[u32],
-    edge_n: &[u16],
-    id: &[u32],
-    byte: &[u8],
-    to: &[u32],
-    s: &[u8],
-) -> Option<u32>
-    requires { sound (parts_now edge_at edge_n id byte to) ≡ true }
-    ensures { result ≡ id_of (parts edge_at edge_n id byte to) (was s) }
+pub fn exact(t: &Parts, s: &[u8]) -> Option<u32>
+    requires { sound (parts t.now) ≡ true }
+    ensures { result ≡ id_of (parts t.now) (was s) }
 {
-    let end = Walk::root().over(edge_at, edge_n, byte, to, s)?;
-    id_at(id, end)
+    id_at(t, Walk::root().over(t, s)?)
 }

@@ -1,35 +1,30 @@
 -- `trie::checked::exact` meets its contract: the string's id is that of the node its walk from the root ends in. Assumes
 -- nothing.
-use Rattle.std.specs.Prelude.{Some}
-use mathlib.Core.Path.{◌≡◌, refl, sym, ap, ◌∙◌}
-use Prim.Native.Nat.{ℕ}
-use native.Mathlib.Omega.{arith}
-use Rattle.trie.specs.Trie.{parts_of, walk}
+use Rattle.std.proofs.Common.{◌≡◌, sym, ap, ◌∙◌}
+use Rattle.trie.specs.Trie.{parts, walk}
 use Rattle.trie.specs.Walks.{next_of}
-use Rattle.trie.proofs.SoundParts.{sound-of}
-use Rattle.trie.proofs.Walking.{id-of, from-none, from_some, walk_inside}
+use Rattle.trie.proofs.Walking.{id-of, from-none, from_some, root_stands, id_there}
 use Rattle.trie.proofs.checked.exact.Goals as goal
 
 pub over-requires : goal.over-requires
-over-requires c = record { ids = c.args.id.now; parts = c.requires; inside = omega (arith, c.root.ensures, (sound-of (let a = c.args in parts_of a.edge_at.now a.edge_n.now a.id.now a.byte.now a.to.now) c.requires).some-node) }
+over-requires c = rw c.root.ensures (root_stands _ c.requires)
+
+pub returns-in_err-over : goal.returns-in_err-over
+returns-in_err-over c =
+    let t = parts c.args.t.now in
+    let s = c.args.s.now in
+    let walked : walk t 0 s ≡ next_of c.over.result = sym (rw c.root.ensures at c.over.ensures) in
+    rw c.from_residual.ensures (sym (id-of t s ∙ from-none t 0 s (walked ∙ ap next_of c.in_err-over.was)))
 
 pub id_at-requires : goal.id_at-requires
 id_at-requires c =
-    let walked : walk (let a = c.args in parts_of a.edge_at.now a.edge_n.now a.id.now a.byte.now a.to.now) 0 c.args.s.now ≡ next_of c.over.result = sym (c.over.ensures c.args.id.now ∙ ap (λ (k : ℕ). walk (let a = c.args in parts_of a.edge_at.now a.edge_n.now a.id.now a.byte.now a.to.now) k c.args.s.now) c.root.ensures) in
-    let ended : walk (let a = c.args in parts_of a.edge_at.now a.edge_n.now a.id.now a.byte.now a.to.now) 0 c.args.s.now ≡ Some c.in_ok-end.end.node = walked ∙ ap next_of c.in_ok-end.was in
-    let facts = sound-of (let a = c.args in parts_of a.edge_at.now a.edge_n.now a.id.now a.byte.now a.to.now) c.requires in
-    omega (arith, walk_inside (let a = c.args in parts_of a.edge_at.now a.edge_n.now a.id.now a.byte.now a.to.now) c.requires 0 c.args.s.now facts.some-node (ended), facts.level-id)
+    let t = parts c.args.t.now in
+    let walked : walk t 0 c.args.s.now ≡ next_of c.over.result = sym (rw c.root.ensures at c.over.ensures) in
+    id_there t c.requires c.args.s.now (walked ∙ ap next_of c.in_ok-over.was)
 
 pub returns : goal.returns
 returns c =
-    let walked : walk (let a = c.args in parts_of a.edge_at.now a.edge_n.now a.id.now a.byte.now a.to.now) 0 c.args.s.now ≡ next_of c.over.result = sym (c.over.ensures c.args.id.now ∙ ap (λ (k : ℕ). walk (let a = c.args in parts_of a.edge_at.now a.edge_n.now a.id.now a.byte.now a.to.now) k c.args.s.now) c.root.ensures) in
-    let ended : walk (let a = c.args in parts_of a.edge_at.now a.edge_n.now a.id.now a.byte.now a.to.now) 0 c.args.s.now ≡ Some c.in_ok-end.end.node = walked ∙ ap next_of c.in_ok-end.was in
-    c.id_at.ensures (let a = c.args in parts_of a.edge_at.now a.edge_n.now a.id.now a.byte.now a.to.now) refl
-    ∙ sym (id-of (let a = c.args in parts_of a.edge_at.now a.edge_n.now a.id.now a.byte.now a.to.now) c.args.s.now ∙ from_some (let a = c.args in parts_of a.edge_at.now a.edge_n.now a.id.now a.byte.now a.to.now) 0 c.args.s.now (ended))
-
-pub returns-in_err-end : goal.returns-in_err-end
-returns-in_err-end c = rw c.from_residual.ensures (
-    let walked : walk (let a = c.args in parts_of a.edge_at.now a.edge_n.now a.id.now a.byte.now a.to.now) 0 c.args.s.now ≡ next_of c.over.result = sym (c.over.ensures c.args.id.now ∙ ap (λ (k : ℕ). walk (let a = c.args in parts_of a.edge_at.now a.edge_n.now a.id.now a.byte.now a.to.now) k c.args.s.now) c.root.ensures) in
-    sym
-    (id-of (let a = c.args in parts_of a.edge_at.now a.edge_n.now a.id.now a.byte.now a.to.now) c.args.s.now
-    ∙ from-none (let a = c.args in parts_of a.edge_at.now a.edge_n.now a.id.now a.byte.now a.to.now) 0 c.args.s.now (walked ∙ ap next_of c.in_err-end.was)))
+    let t = parts c.args.t.now in
+    let s = c.args.s.now in
+    let walked : walk t 0 s ≡ next_of c.over.result = sym (rw c.root.ensures at c.over.ensures) in
+    c.id_at.ensures ∙ sym (id-of t s ∙ from_some t 0 s (walked ∙ ap next_of c.in_ok-over.was))

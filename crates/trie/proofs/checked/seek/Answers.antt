@@ -18,8 +18,8 @@ loop-left-preserved c = let a = c.args in
       omega arith,
       omega (arith, c.passed-one.ensures, c.passed-two.ensures, c.passed-three.ensures),
       c.loop-left.invariant.2
-          ∙ quarters a.byte.now a.to.now a.b a.at a.n (rising-of a.byte.now a.at a.n c.requires.2) c.loop-left.low part c.loop-left.left (omega arith) (omega arith)
-          (omega arith) (omega arith) (omega arith)
+          ∙ quarters a.byte.now a.to.now a.b a.at a.n (rising-of a.byte.now a.at a.n c.requires.2) c.loop-left.low part
+          c.loop-left.left (omega arith) (omega arith) (omega arith) (omega arith) (omega arith)
           ∙ ap
           (λ (k : ℕ). seek a.byte.now a.to.now a.b (c.loop-left.low + k) (c.loop-left.left - 3 * part))
           (sym (sum₃ c.passed-one.ensures.0 c.passed-two.ensures.0 c.passed-three.ensures.0)),
