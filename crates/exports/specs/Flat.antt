@@ -1,4 +1,8 @@
 -- Answers as numbers, for callers in other languages. Definitions only; assumes nothing.
+use Rattle.unigram.specs.Work.{model_of}
+use Rattle.unigram.specs.Pieces.{Model}
+use Rattle.trie.specs.Trie.{Trie, parts_of}
+use Rattle.std.specs.Borrow.{Bor}
 use Rattle.refusal.specs.Lent.{Lent, was}
 use Rattle.rows.specs.Answers.{columns}
 use Rattle.rows.specs.Columns.{Columns}
@@ -19,6 +23,23 @@ use Rattle.output.specs.Output.{max_output, output}
 -- the lent lists of one row set as columns
 abbrev pub columns_was : Lent ℕ → Lent ℕ → Lent Bool → Lent Float → Lent ℕ → Columns
 columns_was off len scored score id = columns (was off) (was len) (was scored) (was score) (was id)
+
+-- the parts of a trie, as the call found the columns and in a `requires`
+abbrev pub parts_was : Lent ℕ → Lent ℕ → Lent ℕ → Lent ℕ → Lent ℕ → Trie
+parts_was edge_at edge_n id byte to = parts_of (was edge_at) (was edge_n) (was id) (was byte) (was to)
+
+abbrev pub parts_now : Bor (List ℕ) → Bor (List ℕ) → Bor (List ℕ) → Bor (List ℕ) → Bor (List ℕ) → Trie
+parts_now edge_at edge_n id byte to = parts_of edge_at.now edge_n.now id.now byte.now to.now
+
+-- a model, likewise
+abbrev pub model_was : Lent ℕ → Lent ℕ → Lent ℕ → Lent Float → Lent ℕ → Lent ℕ → ℕ → Float → Model
+model_was edge_at edge_n id score byte to unknown unknown_score =
+    model_of (was edge_at) (was edge_n) (was id) (was score) (was byte) (was to) unknown unknown_score
+
+abbrev pub model_now :
+    Bor (List ℕ) → Bor (List ℕ) → Bor (List ℕ) → Bor (List Float) → Bor (List ℕ) → Bor (List ℕ) → ℕ → Float → Model
+model_now edge_at edge_n id score byte to unknown unknown_score =
+    model_of edge_at.now edge_n.now id.now score.now byte.now to.now unknown unknown_score
 
 -- What a call promises of what it says, `said`, where its answer is that as a number.
 pub record As {A : Type 0} (number : A → ℕ) (Promise : A → Type 0) (answer : ℕ) : Type 0 where

@@ -3,6 +3,9 @@
 #![tactic(auto)]
 
 use refusal::{Fault, MAX_TEXT};
+use trie::Parts;
+use unigram::Model;
+use wordpiece::VocabTrie;
 
 pub mod builds;
 pub mod packs;
@@ -12,17 +15,16 @@ ghost use Rattle.doubles.specs.Units.{units, scores_was};
 ghost use Rattle.refusal.specs.Refusal.{number, unless_fault};
 ghost use Rattle.text.specs.Text.{length_of, valid_up_to, boundary, characters};
 ghost use Rattle.text.specs.Span.{span_fault, span_of};
-ghost use Rattle.trie.specs.Trie.{id_of, parts, parts_now};
+ghost use Rattle.trie.specs.Trie.{id_of};
 ghost use Rattle.trie.specs.Sound.{sound, sound_scored};
 ghost use Rattle.trie.specs.Lookup.{lookup_fault, lookup_answer};
-ghost use Rattle.unigram.specs.Work.{model, model_now};
 ghost use Rattle.unigram.specs.Checked.{scratch_is, scratch_now, scratch_was};
 ghost use Rattle.unigram.specs.Segment.{lengths_of, segment_fault, sound_model, Segmented};
 ghost use Rattle.wordpiece.specs.Pieces.{ids_of};
 ghost use Rattle.wordpiece.specs.Checked.{Encodable};
 ghost use Rattle.refusal.specs.Places.{overlay};
 ghost use Rattle.wordpiece.specs.Encode.{Encoded};
-ghost use Rattle.exports.specs.Flat.{status, count_fault, count_number, lookup_number, code_number, As};
+ghost use Rattle.exports.specs.Flat.{parts_was, parts_now, model_was, model_now, status, count_fault, count_number, lookup_number, code_number, As};
 ghost use Rattle.refusal.specs.Lent.{was};
 
 // The length of the longest prefix made of whole well-formed characters.
@@ -98,9 +100,16 @@ pub extern "C" fn sk_sound(
     byte: &[u8],
     to: &[u32],
 ) -> bool
-    ensures { result ≡ sound (parts edge_at edge_n id byte to) }
+    ensures { result ≡ sound (parts_was edge_at edge_n id byte to) }
 {
-    trie::soundness::sound(edge_at, edge_n, id, byte, to)
+    let trie = Parts {
+        edge_at,
+        edge_n,
+        id,
+        byte,
+        to,
+    };
+    trie::soundness::sound(&trie)
 }
 
 // Whether the parts of a Unigram trie and its unknown score are sound.
@@ -114,9 +123,16 @@ pub extern "C" fn sk_sound_scored(
     to: &[u32],
     unknown_score: f64,
 ) -> bool
-    ensures { result ≡ sound_scored (parts edge_at edge_n id byte to) (scores_was score) (units unknown_score) }
+    ensures { result ≡ sound_scored (parts_was edge_at edge_n id byte to) (scores_was score) (units unknown_score) }
 {
-    trie::soundness::sound_scored(edge_at, edge_n, id, score, byte, to, unknown_score)
+    let trie = Parts {
+        edge_at,
+        edge_n,
+        id,
+        byte,
+        to,
+    };
+    trie::soundness::sound_scored(&trie, score, unknown_score)
 }
 
 // A look-up as one number.
@@ -142,10 +158,17 @@ pub extern "C" fn sk_exact(
     unknown_score: f64,
     s: &[u8],
 ) -> u64
-    ensures { let t = parts edge_at edge_n id byte to in result ≡ lookup_number (lookup_answer (lookup_fault
+    ensures { let t = parts_was edge_at edge_n id byte to in result ≡ lookup_number (lookup_answer (lookup_fault
         (sound_scored t (scores_was score) (units unknown_score)) (was s)) (id_of t (was s))) }
 {
-    lookup_number(trie::exact(edge_at, edge_n, id, score, byte, to, unknown_score, s))
+    let trie = Parts {
+        edge_at,
+        edge_n,
+        id,
+        byte,
+        to,
+    };
+    lookup_number(trie::exact(&trie, score, unknown_score, s))
 }
 
 // The same in a WordPiece trie.
@@ -158,10 +181,17 @@ pub extern "C" fn sk_exact_unscored(
     to: &[u32],
     s: &[u8],
 ) -> u64
-    ensures { let t = parts edge_at edge_n id byte to in result ≡ lookup_number
+    ensures { let t = parts_was edge_at edge_n id byte to in result ≡ lookup_number
         (lookup_answer (lookup_fault (sound t) (was s)) (id_of t (was s))) }
 {
-    lookup_number(trie::exact_unscored(edge_at, edge_n, id, byte, to, s))
+    let trie = Parts {
+        edge_at,
+        edge_n,
+        id,
+        byte,
+        to,
+    };
+    lookup_number(trie::exact_unscored(&trie, s))
 }
 
 // The same in parts of either kind, for a caller that has tested them and looks up many texts: the id, or 2^32 for none.
@@ -175,9 +205,16 @@ pub extern "C" fn sk_exact_checked(
     s: &[u8],
 ) -> u64
     requires { sound (parts_now edge_at edge_n id byte to) ≡ true }
-    ensures { result ≡ lookup_number (Ok (id_of (parts edge_at edge_n id byte to) (was s))) }
+    ensures { result ≡ lookup_number (Ok (id_of (parts_was edge_at edge_n id byte to) (was s))) }
 {
-    lookup_number(Ok(trie::checked::exact(edge_at, edge_n, id, byte, to, s)))
+    let trie = Parts {
+        edge_at,
+        edge_n,
+        id,
+        byte,
+        to,
+    };
+    lookup_number(Ok(trie::checked::exact(&trie, s)))
 }
 
 // An answer of `encode` or `segment` as one number.
@@ -204,12 +241,22 @@ pub extern "C" fn sk_encode(
     word: &[u8],
     ids: &mut [u32],
 ) -> usize
-    ensures { As code_number (λ said. Encoded (parts edge_at edge_n id byte to) unknown max_chars (was prefix) (was word)
+    ensures { As code_number (λ said. Encoded (parts_was edge_at edge_n id byte to) unknown max_chars (was prefix) (was word)
         ids.old said ids.new) result }
 {
-    code_number(wordpiece::encode(
-        edge_at, edge_n, id, byte, to, unknown, max_chars, prefix, word, ids,
-    ))
+    let v = VocabTrie {
+        trie: Parts {
+            edge_at,
+            edge_n,
+            id,
+            byte,
+            to,
+        },
+        unknown,
+        max_chars,
+        prefix,
+    };
+    code_number(wordpiece::encode(&v, word, ids))
 }
 
 // The same for a caller that has tested the parts, the word and the room, and calls it for many words.
@@ -227,12 +274,22 @@ pub extern "C" fn sk_encode_checked(
     ids: &mut [u32],
 ) -> usize
     requires { Encodable (parts_now edge_at edge_n id byte to) word.now ids.old }
-    ensures { let all = ids_of (id_of (parts edge_at edge_n id byte to)) unknown max_chars (was prefix) (was word) in
+    ensures { let all = ids_of (id_of (parts_was edge_at edge_n id byte to)) unknown max_chars (was prefix) (was word) in
         (result ≡ length all) × (ids.new ≡ overlay all ids.old) }
 {
-    wordpiece::checked::encode(
-        edge_at, edge_n, id, byte, to, unknown, max_chars, prefix, word, ids,
-    )
+    let v = VocabTrie {
+        trie: Parts {
+            edge_at,
+            edge_n,
+            id,
+            byte,
+            to,
+        },
+        unknown,
+        max_chars,
+        prefix,
+    };
+    wordpiece::checked::encode(&v, word, ids)
 }
 
 // The ids of a text by its best cutting, its pieces' ends and its records: how many ids, or 2^32 and 1, 8, 4, 9 or 10.
@@ -253,24 +310,23 @@ pub extern "C" fn sk_segment(
     path: &mut [u32],
     ids: &mut [u32],
 ) -> usize
-    ensures { As code_number (λ said. Segmented (model edge_at edge_n id score byte to unknown unknown_score) (was text)
+    ensures { As code_number (λ said. Segmented (model_was edge_at edge_n id score byte to unknown unknown_score) (was text)
         (scratch_was start slot_id slot_score path ids) said (scratch_is start slot_id slot_score path ids)) result }
 {
-    code_number(unigram::segment(
-        edge_at,
-        edge_n,
-        id,
+    let m = Model {
+        trie: Parts {
+            edge_at,
+            edge_n,
+            id,
+            byte,
+            to,
+        },
         score,
-        byte,
-        to,
         unknown,
         unknown_score,
-        text,
-        start,
-        slot_id,
-        slot_score,
-        path,
-        ids,
+    };
+    code_number(unigram::segment(
+        &m, text, start, slot_id, slot_score, path, ids,
     ))
 }
 
@@ -294,23 +350,20 @@ pub extern "C" fn sk_segment_checked(
 ) -> usize
     requires { segment_fault (sound_model (model_now edge_at edge_n id score byte to unknown unknown_score)) text.now
         (lengths_of (scratch_now start slot_id slot_score path ids)) ≡ None }
-    ensures { Segmented (model edge_at edge_n id score byte to unknown unknown_score) (was text)
+    ensures { Segmented (model_was edge_at edge_n id score byte to unknown unknown_score) (was text)
         (scratch_was start slot_id slot_score path ids) (Ok result) (scratch_is start slot_id slot_score path ids) }
 {
-    unigram::checked::segment(
-        edge_at,
-        edge_n,
-        id,
+    let m = Model {
+        trie: Parts {
+            edge_at,
+            edge_n,
+            id,
+            byte,
+            to,
+        },
         score,
-        byte,
-        to,
         unknown,
         unknown_score,
-        text,
-        start,
-        slot_id,
-        slot_score,
-        path,
-        ids,
-    )
+    };
+    unigram::checked::segment(&m, text, start, slot_id, slot_score, path, ids)
 }

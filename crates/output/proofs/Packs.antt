@@ -22,7 +22,7 @@ use Rattle.text.specs.Ascii.{ascii}
 use Rattle.text.specs.Text.{well_formed}
 use Rattle.text.proofs.Spans.{fault-part, part-inside, text-fine}
 use Rattle.text.specs.Span.{span_of, span_fault}
-use Rattle.trie.specs.Trie.{parts_of}
+use Rattle.trie.specs.Trie.{parts_of, Trie}
 use Rattle.trie.proofs.Every.{first, second}
 use Rattle.rows.specs.declared.Kind.{Kind}
 use Rattle.rows.specs.declared.Kind.TheVariants.{Unigram, WordPiece}
@@ -42,7 +42,7 @@ use Rattle.pack.proofs.Determinacy as determined
 use Rattle.pack.proofs.BuiltPacks as packs
 use Rattle.output.specs.Lines.{printed_refusal}
 use Rattle.output.specs.Output.{max_pack, places, lent_memory, score_places, coded_line, vocabulary_in, lines_printed, output_of, output}
-use Rattle.output.specs.Cut.{PrefixGiven, Cuttable, cut_to, LentBuilt}
+use Rattle.output.specs.Cut.{PrefixGiven, Cuttable, first_nodes, LentBuilt}
 use Rattle.pack.specs.declared.Summary.TheVariants as summary_is
 
 -- ---- a pack that is too large
@@ -103,12 +103,12 @@ lent-nodes pack e =
 some-node : (kind : Kind) (pack : List ℕ) → 1 ≤ nodes_of kind pack
 some-node kind pack = nodes-some (strings_of pack) (rows_of kind pack)
 
-module _ (pack edge_at edge_n id : List ℕ) (scores : List Float) (byte to : List ℕ) (good : Bytes pack) where
+module _ (pack : List ℕ) (t : Trie) (scores : List Float) (good : Bytes pack) where
   abbrev after : List ℕ → Memory
-  after work = with_scores (memory edge_at edge_n id byte to work) (map units scores)
+  after work = with_scores (memory t.edge_at t.edge_n t.id t.byte t.to work) (map units scores)
 
   -- the lent columns have room for so many nodes
-  cuttable : {answer : Result Summary Reason} {n : ℕ} → LentBuilt pack answer edge_at edge_n id scores byte to → (1 ≤ n) × (n ≤ 4_096) → Cuttable n edge_at edge_n id scores byte to
+  cuttable : {answer : Result Summary Reason} {n : ℕ} → LentBuilt pack answer t scores → (1 ≤ n) × (n ≤ 4_096) → Cuttable n t
   cuttable j m =
       let p = j.places in
       record {
@@ -116,19 +116,18 @@ module _ (pack edge_at edge_n id : List ℕ) (scores : List Float) (byte to : Li
         starts = omega (arith, m.1, p.starts);
         counts = omega (arith, m.1, p.counts);
         ids = omega (arith, m.1, p.ids);
-        scores = omega (arith, m.1, p.scores);
         bytes = omega (arith, m.1, p.bytes);
         targets = omega (arith, m.1, p.targets);
       }
 
   pub judged-refused :
-      {r : Reason} (input : List ℕ) → LentBuilt pack (Err r) edge_at edge_n id scores byte to
+      {r : Reason} (input : List ℕ) → LentBuilt pack (Err r) t scores
       → printed_refusal (ascii "pack ") (fault_of r) ≡ output_of pack input
   judged-refused {r = r} input j = fault-some pack input ((determined.refused-exactly pack lent_memory (Err r) (after j.work) j.built r).0 refl)
 
   -- ---- Unigram
 
-  module _ (n unknown : ℕ) (lowest : Float) (j : LentBuilt pack (Ok (summary_is.Unigram n unknown lowest)) edge_at edge_n id scores byte to) where
+  module _ (n unknown : ℕ) (lowest : Float) (j : LentBuilt pack (Ok (summary_is.Unigram n unknown lowest)) t scores) where
     abbrev left : Memory
     left = after j.work
 
@@ -144,17 +143,21 @@ module _ (pack edge_at edge_n id : List ℕ) (scores : List Float) (byte to : Li
         let k = ap (λ (x : Kind). nodes_of x pack) is-unigram in
         (omega (arith, c, some-node Unigram pack), omega (arith, c, k, lent-nodes pack accepted))
 
-    pub unigram-cuttable : Cuttable n edge_at edge_n id scores byte to
+    pub unigram-cuttable : Cuttable n t
     unigram-cuttable = cuttable j unigram-nodes
 
-    abbrev cut : Model
-    cut = work.model_of (take n edge_at) (take n edge_n) (take n id) (take n scores) (take (n - 1) byte) (take (n - 1) to) unknown lowest
+    pub unigram-scored : n ≤ length scores
+    unigram-scored = omega (arith, unigram-nodes.1, j.scored)
 
-    cut-is : cut ≡ unigram_model pack
+    -- the model whose trie is this
+    abbrev cut : Trie → Model
+    cut x = record { trie = x; score = map units (take n scores); unknown = record { id = unknown; score = units lowest } }
+
+    cut-is : cut (first_nodes n t) ≡ unigram_model pack
     cut-is =
         ap
         (λ (xs : List Double). record {
-          trie = parts_of (take n edge_at) (take n edge_n) (take n id) (take (n - 1) byte) (take (n - 1) to);
+          trie = first_nodes n t;
           score = xs;
           unknown = record { id = unknown; score = units lowest };
         })
@@ -162,16 +165,18 @@ module _ (pack edge_at edge_n id : List ℕ) (scores : List Float) (byte to : Li
         ∙ packs.unigram-model pack lent_memory left n unknown lowest good j.built
 
     pub judged-unigram :
-        (prefix input : List ℕ) → lines_printed (coded_line (cut_to (coder-is.Unigram unknown lowest) n edge_at edge_n id scores byte to prefix)) input ≡ output_of pack input
-    unfolding vocabulary_in vocabulary_of
-    judged-unigram prefix input =
-        ap (λ (m : Model). lines_printed (coded_line (unigram_of m)) input) cut-is
+        {x : Trie} (input : List ℕ) → x ≡ first_nodes n t
+        → lines_printed (coded_line (unigram_of (cut x))) input ≡ output_of pack input
+    unfolding vocabulary_in
+    judged-unigram input e =
+        ap (λ (y : Trie). lines_printed (coded_line (unigram_of (cut y))) input) e
+        ∙ ap (λ (m : Model). lines_printed (coded_line (unigram_of m)) input) cut-is
         ∙ sym (ap (λ (k : Kind). lines_printed (coded_line (vocabulary_in k pack)) input) is-unigram)
         ∙ fault-none pack input accepted
 
   -- ---- WordPiece
 
-  module _ (n unknown most off len : ℕ) (j : LentBuilt pack (Ok (summary_is.WordPiece n unknown most off len)) edge_at edge_n id scores byte to) where
+  module _ (n unknown most off len : ℕ) (j : LentBuilt pack (Ok (summary_is.WordPiece n unknown most off len)) t scores) where
     abbrev left' : Memory
     left' = after j.work
 
@@ -187,7 +192,7 @@ module _ (pack edge_at edge_n id : List ℕ) (scores : List Float) (byte to : Li
         let k = ap (λ (x : Kind). nodes_of x pack) is-wordpiece in
         (omega (arith, c, some-node WordPiece pack), omega (arith, c, k, lent-nodes pack accepted'))
 
-    pub wordpiece-cuttable : Cuttable n edge_at edge_n id scores byte to
+    pub wordpiece-cuttable : Cuttable n t
     wordpiece-cuttable = cuttable j wordpiece-nodes
 
     -- the strings lie in the file, behind the header
@@ -225,13 +230,14 @@ module _ (pack edge_at edge_n id : List ℕ) (scores : List Float) (byte to : Li
         ∙ packs.wordpiece-prefix pack lent_memory left' n unknown most off len good j.built
 
     pub judged-wordpiece :
-        {prefix : List ℕ} (input : List ℕ) → PrefixGiven pack off len prefix
-        → lines_printed (coded_line (cut_to (coder-is.WordPiece unknown most) n edge_at edge_n id scores byte to prefix)) input ≡ output_of pack input
-    unfolding vocabulary_in vocabulary_of
-    judged-wordpiece {prefix = prefix} input g =
+        {x : Trie} {prefix : List ℕ} (input : List ℕ) → x ≡ first_nodes n t → PrefixGiven pack off len prefix
+        → lines_printed (coded_line (wordpiece_of x unknown most prefix)) input ≡ output_of pack input
+    unfolding vocabulary_in
+    judged-wordpiece {prefix = prefix} input e g =
         let parts = packs.wordpiece-parts pack lent_memory left' n unknown most off len good j.built in
         let u = packs.wordpiece-unknown pack lent_memory left' n unknown most off len good j.built in
         let c = packs.wordpiece-most pack lent_memory left' n unknown most off len good j.built in
-        (λ i. lines_printed (coded_line (wordpiece_of (parts i) (u i) (c i) (prefix-is g i))) input)
+        ap (λ (y : Trie). lines_printed (coded_line (wordpiece_of y unknown most prefix)) input) e
+        ∙ (λ i. lines_printed (coded_line (wordpiece_of (parts i) (u i) (c i) (prefix-is g i))) input)
         ∙ sym (ap (λ (k : Kind). lines_printed (coded_line (vocabulary_in k pack)) input) is-wordpiece)
         ∙ fault-none pack input accepted'

@@ -4,7 +4,7 @@ ghost use mathlib.Core.List.{flat_map};
 ghost use Rattle.unigram.specs.Segment.{lengths_of};
 ghost use Rattle.unigram.specs.Checked.{scratch_now};
 ghost use Rattle.coder.specs.Vocabulary.{sound_in};
-ghost use Rattle.coder.specs.Columns.{vocabulary, vocabulary_now};
+ghost use Rattle.coder.specs.Columns.{vocabulary};
 ghost use Rattle.output.specs.Lines.{lines};
 ghost use Rattle.output.specs.Output.{lent_places, coded_line};
 ghost use Rattle.output.specs.Put.{Put};
@@ -17,15 +17,8 @@ use coder::Coder;
 // One line: its ids, or its refusal. Either takes at most 11 bytes for each byte of the line, and 11. `sound` is what was found
 // of the parts. The scratch may hold anything: what a line before it left there has no effect.
 pub(crate) fn put_line(
-    coder: Coder,
+    coder: &Coder,
     sound: bool,
-    edge_at: &[u32],
-    edge_n: &[u16],
-    id: &[u32],
-    score: &[f64],
-    byte: &[u8],
-    to: &[u32],
-    prefix: &[u8],
     line: &[u8],
     start: &mut [u32],
     slot_id: &mut [u32],
@@ -35,15 +28,14 @@ pub(crate) fn put_line(
     out: &mut [u8],
     at: usize,
 ) -> usize
-    requires sound_value { sound ≡ sound_in (vocabulary_now coder edge_at edge_n id score byte to prefix) }
+    requires sound_value { sound ≡ sound_in (vocabulary coder.now) }
     requires ids_value { lengths_of (scratch_now start slot_id slot_score path ids) ≡ lent_places }
     requires line_in_bounds { at + 11 * length line.now + 11 ≤ length out.old }
-    ensures { Put out.old at (coded_line (vocabulary coder edge_at edge_n id score byte to prefix) (was line)) result
+    ensures { Put out.old at (coded_line (vocabulary coder.now) (was line)) result
         out.new × (result ≤ at + 11 * length (was line) + 11) }
 {
     let coded = coder::checked::code(
-        coder, sound, edge_at, edge_n, id, score, byte, to, prefix, line, start, slot_id,
-        slot_score, path, ids,
+        coder, sound, line, start, slot_id, slot_score, path, ids,
     );
     match coded {
         Ok(n) => put_ids(out, at, &ids[..n]),
@@ -52,23 +44,12 @@ pub(crate) fn put_line(
 }
 
 // All lines of the input. The parts are tested once, and the lines share the scratch.
-pub(crate) fn put_lines(
-    coder: Coder,
-    edge_at: &[u32],
-    edge_n: &[u16],
-    id: &[u32],
-    score: &[f64],
-    byte: &[u8],
-    to: &[u32],
-    prefix: &[u8],
-    input: &[u8],
-    out: &mut [u8],
-) -> usize
+pub(crate) fn put_lines(coder: &Coder, input: &[u8], out: &mut [u8]) -> usize
     requires { 11 * length input.now + 11 ≤ length out.old }
-    ensures { Put out.old 0 (flat_map (coded_line (vocabulary coder edge_at edge_n id score byte to prefix))
+    ensures { Put out.old 0 (flat_map (coded_line (vocabulary coder.now))
         (lines (was input))) result out.new }
 {
-    let sound = coder::sound(coder, edge_at, edge_n, id, score, byte, to);
+    let sound = coder::sound(coder);
     let mut start = [0u32; 4096];
     let mut slot_id = [0u32; 4096];
     let mut slot_score = [0.0; 4096];
@@ -82,13 +63,6 @@ pub(crate) fn put_lines(
         at = put_line(
             coder,
             sound,
-            edge_at,
-            edge_n,
-            id,
-            score,
-            byte,
-            to,
-            prefix,
             line,
             &mut start,
             &mut slot_id,

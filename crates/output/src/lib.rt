@@ -4,16 +4,21 @@
 use coder::Coder;
 use pack::Summary;
 use refusal::{Fault, Reason};
+use trie::Parts;
+use unigram::Model;
+use wordpiece::VocabTrie;
 
 mod coded;
 mod lines;
 mod put;
 
-ghost use Rattle.std.specs.Prelude.{◌≤◌, length, Ok};
+ghost use Rattle.std.specs.Prelude.{◌≡◌, ◌≤◌, length, Ok};
+ghost use Rattle.trie.specs.Trie.{parts};
+ghost use Rattle.coder.specs.Columns.{vocabulary};
 ghost use Rattle.pack.specs.Pack.{header_of};
 ghost use Rattle.output.specs.Output.{coded_line, lines_printed, output_of, output, max_output};
 ghost use Rattle.output.specs.Put.{Put};
-ghost use Rattle.output.specs.Cut.{PrefixGiven, Cuttable, cut_to, LentBuilt};
+ghost use Rattle.output.specs.Cut.{PrefixGiven, Cuttable, first_nodes, LentBuilt};
 ghost use Rattle.refusal.specs.Lent.{was};
 
 // The largest pack and the most input, in bytes.
@@ -34,59 +39,42 @@ fn prefix_of<'a>(pack: &'a [u8], off: u32, len: u32) -> &'a [u8]
     text::text(strings, off, len)
 }
 
-// What is printed for all lines in a vocabulary whose trie stands in the first places of the columns.
-fn print_lines(
-    coder: Coder,
-    nodes: u32,
-    edge_at: &[u32],
-    edge_n: &[u16],
-    id: &[u32],
-    score: &[f64],
-    byte: &[u8],
-    to: &[u32],
-    prefix: &[u8],
-    input: &[u8],
-    out: &mut [u8],
-) -> usize
-    requires { Cuttable nodes edge_at.now edge_n.now id.now score.now byte.now to.now ×
-        (max_output ≤ length out.old) }
-    ensures { Put out.old 0 (lines_printed (coded_line (cut_to coder nodes (was edge_at) (was edge_n) (was id)
-        (was score) (was byte) (was to) (was prefix))) (was input)) result out.new }
+// The trie in the places for its nodes and their edges.
+fn cut<'a>(lent: &Parts<'a>, nodes: u32) -> Parts<'a>
+    requires { Cuttable nodes (parts lent.now) }
+    ensures { parts result ≡ first_nodes nodes (parts lent.now) }
+{
+    let n = nodes as usize;
+    Parts {
+        edge_at: &lent.edge_at[..n],
+        edge_n: &lent.edge_n[..n],
+        id: &lent.id[..n],
+        byte: &lent.byte[..n - 1],
+        to: &lent.to[..n - 1],
+    }
+}
+
+// What is printed for all lines in a vocabulary.
+fn print_lines(coder: &Coder, input: &[u8], out: &mut [u8]) -> usize
+    requires { max_output ≤ length out.old }
+    ensures { Put out.old 0 (lines_printed (coded_line (vocabulary coder.now)) (was input)) result out.new }
 {
     if MAX_INPUT < input.len() {
         return put::put_refusal(out, 0, b"input ", Fault::Size);
     }
-    let n = nodes as usize;
-    let edges = n - 1;
-    coded::put_lines(
-        coder,
-        &edge_at[..n],
-        &edge_n[..n],
-        &id[..n],
-        &score[..n],
-        &byte[..edges],
-        &to[..edges],
-        prefix,
-        input,
-        out,
-    )
+    coded::put_lines(coder, input, out)
 }
 
-// What is printed for all lines in the vocabulary that was built.
+// What is printed for all lines in the vocabulary that was built, whose trie stands in the first places of the columns.
 fn print_summary(
     summary: Summary,
     pack: &[u8],
-    edge_at: &[u32],
-    edge_n: &[u16],
-    id: &[u32],
+    lent: &Parts,
     score: &[f64],
-    byte: &[u8],
-    to: &[u32],
     input: &[u8],
     out: &mut [u8],
 ) -> usize
-    requires { LentBuilt pack.now (Ok summary) edge_at.now edge_n.now id.now score.now byte.now to.now
-        × (max_output ≤ length out.old) }
+    requires { LentBuilt pack.now (Ok summary) (parts lent.now) score.now × (max_output ≤ length out.old) }
     ensures { Put out.old 0 (output_of (was pack) (was input)) result out.new }
 {
     match summary {
@@ -95,13 +83,13 @@ fn print_summary(
             unknown,
             unknown_score,
         } => {
-            let coder = Coder::Unigram {
+            let coder = Coder::Unigram(Model {
+                trie: cut(lent, nodes),
+                score: &score[..nodes as usize],
                 unknown,
                 unknown_score,
-            };
-            print_lines(
-                coder, nodes, edge_at, edge_n, id, score, byte, to, b"", input, out,
-            )
+            });
+            print_lines(&coder, input, out)
         }
         Summary::WordPiece {
             nodes,
@@ -110,11 +98,13 @@ fn print_summary(
             prefix_off,
             prefix_len,
         } => {
-            let prefix = prefix_of(pack, prefix_off, prefix_len);
-            let coder = Coder::WordPiece { unknown, max_chars };
-            print_lines(
-                coder, nodes, edge_at, edge_n, id, score, byte, to, prefix, input, out,
-            )
+            let coder = Coder::WordPiece(VocabTrie {
+                trie: cut(lent, nodes),
+                unknown,
+                max_chars,
+                prefix: prefix_of(pack, prefix_off, prefix_len),
+            });
+            print_lines(&coder, input, out)
         }
     }
 }
@@ -123,23 +113,16 @@ fn print_summary(
 fn print_built(
     answer: Result<Summary, Reason>,
     pack: &[u8],
-    edge_at: &[u32],
-    edge_n: &[u16],
-    id: &[u32],
+    lent: &Parts,
     score: &[f64],
-    byte: &[u8],
-    to: &[u32],
     input: &[u8],
     out: &mut [u8],
 ) -> usize
-    requires { LentBuilt pack.now answer edge_at.now edge_n.now id.now score.now byte.now to.now
-        × (max_output ≤ length out.old) }
+    requires { LentBuilt pack.now answer (parts lent.now) score.now × (max_output ≤ length out.old) }
     ensures { Put out.old 0 (output_of (was pack) (was input)) result out.new }
 {
     match answer {
-        Ok(summary) => print_summary(
-            summary, pack, edge_at, edge_n, id, score, byte, to, input, out,
-        ),
+        Ok(summary) => print_summary(summary, pack, lent, score, input, out),
         Err(r) => put::put_refusal(out, 0, b"pack ", r.fault()),
     }
 }
@@ -170,7 +153,12 @@ pub fn print(pack: &[u8], input: &[u8], out: &mut [u8]) -> usize
         &mut to,
         &mut work,
     );
-    print_built(
-        answer, pack, &edge_at, &edge_n, &id, &score, &byte, &to, input, out,
-    )
+    let lent = Parts {
+        edge_at: &edge_at,
+        edge_n: &edge_n,
+        id: &id,
+        byte: &byte,
+        to: &to,
+    };
+    print_built(answer, pack, &lent, &score, input, out)
 }
