@@ -1,3 +1,4 @@
+-- `trie::soundness::nodes_sound` meets its contract. Assumes nothing.
 use Rattle.std.proofs.Common.{rules, length}
 use borrow.Author.Tests.{tests}
 use Rattle.trie.specs.Trie.{parts}
