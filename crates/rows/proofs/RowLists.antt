@@ -81,39 +81,7 @@ module _ (off len : List ℕ) (scored : List Bool) (score : List Float) (id : Li
         score-level = sym (length-map score units) ∙ level-score c e;
         id-level = level-id c e;
       }
-
   -- where one of the four is unlike the offsets, the columns are not level
-  pub uneven-len : (length len ≡ length off → ⊥) → level (columns off len scored score id) ≡ false
-  unfolding level
-  uneven-len f = rw (ne_eqb (length len) (length off) f)
-
-  module _ (e : length len ≡ length off) where
-    pub uneven-scored : (length scored ≡ length off → ⊥) → level (columns off len scored score id) ≡ false
-    unfolding level
-    uneven-scored f = rw (eq-eqb (length len) (length off) e, ne_eqb (length scored) (length off) f)
-
-    module _ (f : length scored ≡ length off) where
-      pub uneven-score : (length score ≡ length off → ⊥) → level (columns off len scored score id) ≡ false
-      unfolding level
-      uneven-score g =
-          rw (
-            eq-eqb (length len) (length off) e,
-            eq-eqb (length scored) (length off) f,
-            length-map score units,
-            ne_eqb (length score) (length off) g,
-          )
-
-      pub level-by-id : length score ≡ length off → level (columns off len scored score id) ≡ eqb (length id) (length off)
-      unfolding level
-      level-by-id g =
-          rw (
-            eq-eqb (length len) (length off) e,
-            eq-eqb (length scored) (length off) f,
-            length-map score units,
-            eq-eqb (length score) (length off) g,
-          )
-
--- ---- a place inside a list is the same whatever is read past the end
 
 pub get_or-inside : {A : Type 0} (l : List A) (i : ℕ) (d e : A) → i < length l → get_or l i d ≡ get_or l i e
 get_or-inside [] i d e h = absurd (omega arith)

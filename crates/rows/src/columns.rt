@@ -21,20 +21,12 @@ pub struct Lists<'a> {
 
 impl<'a> Lists<'a> {
     // Whether the lists have one length.
+    #[tactic(auto, unfolding(crate::specs::Columns::level))]
     fn is_level(&self) -> bool
         ensures { result ≡ level (columns_in self.now) }
     {
         let n = self.off.len();
-        if self.len.len() != n {
-            return false;
-        }
-        if self.scored.len() != n {
-            return false;
-        }
-        if self.score.len() != n {
-            return false;
-        }
-        self.id.len() == n
+        self.len.len() == n && self.scored.len() == n && self.score.len() == n && self.id.len() == n
     }
 }
 
