@@ -18,21 +18,16 @@ strings-are bytes at e =
 
 pub slice_bounds-strings-count : goal.slice_bounds-strings-count
 unfolding header_of
-slice_bounds-strings-count c =
-    let start_is : c.word-start.result ≡ (header_of c.args.pack.now).strings_off = c.word-start.ensures in
-    let inside : c.word-start.result ≤ length c.args.pack.now = omega (arith, start_is, c.requires.1) in
-    inside
+slice_bounds-strings-count c = omega (arith, c.word-start.ensures, c.requires.1)
 
 pub slice_bounds-strings-start : goal.slice_bounds-strings-start
 unfolding header_of
-slice_bounds-strings-start c =
-    let start_is : c.word-start.result ≡ (header_of c.args.pack.now).strings_off = c.word-start.ensures in
-    let inside : c.word-start.result ≤ length c.args.pack.now = omega (arith, start_is, c.requires.1) in
-    inside
+slice_bounds-strings-start c = omega (arith, c.word-start.ensures, c.requires.1)
 
 pub returns : goal.returns
 unfolding header_of
 returns c =
-    let start_is : c.word-start.result ≡ (header_of c.args.pack.now).strings_off = c.word-start.ensures in
-    let given : List ℕ → List ℕ = λ strings. unless_fault (span_fault strings c.args.off c.args.len) (span_of strings c.args.off c.args.len) [] in
-    c.text.ensures.gave ∙ ap given (strings-are c.args.pack.now c.word-start.result (start_is))
+    let a = c.args in
+    c.text.ensures.gave
+    ∙ ap (λ (strings : List ℕ). unless_fault (span_fault strings a.off a.len) (span_of strings a.off a.len) [])
+    (strings-are a.pack.now c.word-start.result c.word-start.ensures)

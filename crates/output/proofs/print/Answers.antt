@@ -26,10 +26,10 @@ print_built-requires c = let n = length-replicate {A = ℕ} 4_096 0 in (
           starts = omega (arith, c.build-answer.auto.edge_at, n);
           counts = omega (arith, c.build-answer.auto.edge_n, n);
           ids = omega (arith, c.build-answer.auto.node_id, n);
-          scores = omega (arith, c.build-answer.auto.node_score, length-replicate {A = Float} 4_096 (of_bits binary64 0));
           bytes = omega (arith, c.build-answer.auto.byte, n);
           targets = omega (arith, c.build-answer.auto.to, n);
         };
+    scored = omega (arith, c.build-answer.auto.node_score, length-replicate {A = Float} 4_096 (of_bits binary64 0));
   },
   c.requires,
 )

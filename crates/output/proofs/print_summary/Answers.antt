@@ -1,44 +1,45 @@
 -- `output::print_summary` meets its contract: the lines are printed in the vocabulary of the pack's kind. Assumes nothing.
-use Rattle.refusal.specs.declared.Reason.{Reason}
-use Rattle.pack.specs.declared.Summary.{Summary}
-use Rattle.std.specs.Prelude.{Result, Ok}
-use mathlib.Core.Path.{◌≡◌, ap, ◌∙◌, subst}
+use mathlib.Core.Path.{◌≡◌, subst}
+use mathlib.Core.List.{List}
+use Prim.Native.Nat.{ℕ}
 use native.Mathlib.Omega.{arith}
-use Rattle.text.specs.Ascii.{ascii}
-use Rattle.build.specs.Grown.{Bytes}
-use Rattle.output.specs.Lines.{printed_refusal}
+use lib.Ieee.{Float}
+use Rattle.std.specs.Prelude.{Ok}
+use Rattle.trie.specs.Trie.{Trie, parts}
+use Rattle.pack.specs.declared.Summary.{Summary}
+use Rattle.coder.specs.Columns.{vocabulary}
 use Rattle.output.specs.Cut.{LentBuilt}
 use Rattle.output.proofs.Putting.{put_as}
-use Rattle.output.proofs.Packs.{unigram-cuttable, judged-unigram, strings-inside, wordpiece-cuttable, judged-wordpiece}
+use Rattle.output.proofs.Packs.{unigram-cuttable, unigram-scored, judged-unigram, strings-inside, wordpiece-cuttable, judged-wordpiece}
 use Rattle.output.proofs.print_summary.Goals as goal
 
-pub print_lines-requires : goal.print_lines-requires
-print_lines-requires c =
-    let good : Bytes c.args.pack.now = λ i h. omega (arith, c.shared_slice_known-1.given i) in
-    let judged : (s : Summary) → c.args.summary ≡ s → LentBuilt c.args.pack.now (Ok s) c.args.edge_at.now c.args.edge_n.now c.args.id.now c.args.score.now c.args.byte.now c.args.to.now = λ s e. subst (λ (x : Summary). LentBuilt c.args.pack.now (Ok x) c.args.edge_at.now c.args.edge_n.now c.args.id.now c.args.score.now c.args.byte.now c.args.to.now) e c.requires.0 in
-    let cut = unigram-cuttable c.args.pack.now c.args.edge_at.now c.args.edge_n.now c.args.id.now c.args.score.now c.args.byte.now c.args.to.now (good) _ _ _ (judged _ c.in-Unigram.is) in
-    (cut, c.requires.1)
+-- what was built, where the summary is this one
+this : {pack : List ℕ} {s r : Summary} {t : Trie} {scores : List Float} → s ≡ r → LentBuilt pack (Ok s) t scores → LentBuilt pack (Ok r) t scores
+this {pack = pack} {t = t} {scores = scores} e j = subst (λ (x : Summary). LentBuilt pack (Ok x) t scores) e j
 
-pub prefix_of-prefix-requires : goal.prefix_of-prefix-requires
-prefix_of-prefix-requires c =
-    let good : Bytes c.args.pack.now = λ i h. omega (arith, c.shared_slice_known-1.given i) in
-    let judged : (s : Summary) → c.args.summary ≡ s → LentBuilt c.args.pack.now (Ok s) c.args.edge_at.now c.args.edge_n.now c.args.id.now c.args.score.now c.args.byte.now c.args.to.now = λ s e. subst (λ (x : Summary). LentBuilt c.args.pack.now (Ok x) c.args.edge_at.now c.args.edge_n.now c.args.id.now c.args.score.now c.args.byte.now c.args.to.now) e c.requires.0 in
-    strings-inside c.args.pack.now c.args.edge_at.now c.args.edge_n.now c.args.id.now c.args.score.now c.args.byte.now c.args.to.now (good) _ _ _ _ _ (judged _ c.in-WordPiece.is)
+pub cut-requires : goal.cut-requires
+cut-requires c = unigram-cuttable _ _ _ (λ i h. omega (arith, c.shared_slice_known-1.given i)) _ _ _ (this c.in-Unigram.is c.requires.0)
 
-pub print_lines-requires-in-WordPiece : goal.print_lines-requires-in-WordPiece
-print_lines-requires-in-WordPiece c =
-    let good : Bytes c.args.pack.now = λ i h. omega (arith, c.shared_slice_known-1.given i) in
-    let judged : (s : Summary) → c.args.summary ≡ s → LentBuilt c.args.pack.now (Ok s) c.args.edge_at.now c.args.edge_n.now c.args.id.now c.args.score.now c.args.byte.now c.args.to.now = λ s e. subst (λ (x : Summary). LentBuilt c.args.pack.now (Ok x) c.args.edge_at.now c.args.edge_n.now c.args.id.now c.args.score.now c.args.byte.now c.args.to.now) e c.requires.0 in
-    (wordpiece-cuttable c.args.pack.now c.args.edge_at.now c.args.edge_n.now c.args.id.now c.args.score.now c.args.byte.now c.args.to.now (good) _ _ _ _ _ (judged _ c.in-WordPiece.is), c.requires.1)
+pub cut-requires-in-WordPiece : goal.cut-requires-in-WordPiece
+cut-requires-in-WordPiece c =
+    wordpiece-cuttable _ _ _ (λ i h. omega (arith, c.shared_slice_known-1.given i)) _ _ _ _ _ (this c.in-WordPiece.is c.requires.0)
+
+pub prefix_of-requires : goal.prefix_of-requires
+prefix_of-requires c =
+    strings-inside _ _ _ (λ i h. omega (arith, c.shared_slice_known-1.given i)) _ _ _ _ _ (this c.in-WordPiece.is c.requires.0)
 
 pub returns-in-Unigram : goal.returns-in-Unigram
+unfolding vocabulary
 returns-in-Unigram c =
-    let good : Bytes c.args.pack.now = λ i h. omega (arith, c.shared_slice_known-1.given i) in
-    let judged : (s : Summary) → c.args.summary ≡ s → LentBuilt c.args.pack.now (Ok s) c.args.edge_at.now c.args.edge_n.now c.args.id.now c.args.score.now c.args.byte.now c.args.to.now = λ s e. subst (λ (x : Summary). LentBuilt c.args.pack.now (Ok x) c.args.edge_at.now c.args.edge_n.now c.args.id.now c.args.score.now c.args.byte.now c.args.to.now) e c.requires.0 in
-    put_as (judged-unigram c.args.pack.now c.args.edge_at.now c.args.edge_n.now c.args.id.now c.args.score.now c.args.byte.now c.args.to.now (good) _ _ _ (judged _ c.in-Unigram.is) _ c.args.input.now) c.print_lines.ensures
+    put_as
+    (judged-unigram _ _ _ (λ i h. omega (arith, c.shared_slice_known-1.given i)) _ _ _ (this c.in-Unigram.is c.requires.0)
+    c.args.input.now c.cut.ensures)
+    c.print_lines.ensures
 
 pub returns-in-WordPiece : goal.returns-in-WordPiece
+unfolding vocabulary
 returns-in-WordPiece c =
-    let good : Bytes c.args.pack.now = λ i h. omega (arith, c.shared_slice_known-1.given i) in
-    let judged : (s : Summary) → c.args.summary ≡ s → LentBuilt c.args.pack.now (Ok s) c.args.edge_at.now c.args.edge_n.now c.args.id.now c.args.score.now c.args.byte.now c.args.to.now = λ s e. subst (λ (x : Summary). LentBuilt c.args.pack.now (Ok x) c.args.edge_at.now c.args.edge_n.now c.args.id.now c.args.score.now c.args.byte.now c.args.to.now) e c.requires.0 in
-    put_as (judged-wordpiece c.args.pack.now c.args.edge_at.now c.args.edge_n.now c.args.id.now c.args.score.now c.args.byte.now c.args.to.now (good) _ _ _ _ _ (judged _ c.in-WordPiece.is) c.args.input.now c.prefix_of-prefix.ensures) c.print_lines-in-WordPiece.ensures
+    put_as
+    (judged-wordpiece _ _ _ (λ i h. omega (arith, c.shared_slice_known-1.given i)) _ _ _ _ _
+    (this c.in-WordPiece.is c.requires.0) c.args.input.now c.cut.ensures c.prefix_of.ensures)
+    c.print_lines.ensures
