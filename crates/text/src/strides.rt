@@ -42,17 +42,18 @@ fn past_pieces<F: Fn(usize) -> bool>(s: &[u8], i: usize, n: usize, is_whole: F) 
     past_steps(s, i, n - 1, |at| if is_whole(at) { at + n } else { at })
 }
 
-// The test holds at each of the n places from i on. No branch stands between them, so that it compiles to vector code.
+// The test holds at each of the n places from i on: those where it does add up to n. A u8 counts them, with no branch between
+// them, so that the loop compiles to vector code.
 fn all_hold<F: Fn(usize) -> bool>(i: usize, n: usize, test: F) -> bool
-    requires small { i + n < 2 ^ 64 }
+    requires small { (n ≤ 255) × (i + n < 2 ^ 64) }
     requires callable { (k : ℕ) → i ≤ k → k < i + n → F.pre test k }
     ensures { result ≡ true → (k : ℕ) → i ≤ k → k < i + n → F.post test k true }
 {
-    let mut all = true;
-    for k in i..i + n {
-        all &= test(k);
+    let mut held: u8 = 0;
+    for k in 0..n {
+        held += test(i + k) as u8;
     }
-    all
+    held as usize == n
 }
 
 // How many bytes are looked at together, without a branch between them. A long block compiles to sixteen at a time.
@@ -63,7 +64,7 @@ const SHORT: usize = 8;
 
 // The n bytes at i are all ASCII.
 fn is_ascii(s: &[u8], i: usize, n: usize) -> bool
-    requires { i + n ≤ length s.now }
+    requires { (n ≤ 255) × (i + n ≤ length s.now) }
     ensures { result ≡ true → Ascii (was s) i (i + n) }
 {
     all_hold(i, n, |k| s[k] < 128)
@@ -71,14 +72,13 @@ fn is_ascii(s: &[u8], i: usize, n: usize) -> bool
 
 // The end of the whole blocks of n bytes of ASCII at i.
 fn past_blocks(s: &[u8], i: usize, n: usize) -> usize
-    requires { (0 < n) × (i ≤ length s.now) }
+    requires { (0 < n) × (n ≤ 255) × (i ≤ length s.now) }
     ensures { Passed (was s) i result }
 {
     past_pieces(s, i, n, |at| is_ascii(s, at, n))
 }
 
 // The same of long blocks and then of short ones.
-#[inline(always)]
 pub(crate) fn past_all_blocks(s: &[u8], i: usize) -> usize
     requires { i ≤ length s.now }
     ensures { Passed (was s) i result }
@@ -95,7 +95,11 @@ fn past_byte(s: &[u8], i: usize) -> usize
         return i;
     }
     let next = i + 1;
-    if next % SHORT == 0 { past_all_blocks(s, next) } else { next }
+    if next % SHORT == 0 {
+        past_all_blocks(s, next)
+    } else {
+        next
+    }
 }
 
 // The end of the run of ASCII at i.
@@ -177,7 +181,11 @@ fn past_fit_block(s: &[u8], i: usize) -> usize
     if !is_tail(s[end]) {
         return end;
     }
-    if is_tail(s[end + 1]) { end + 2 } else { end + 1 }
+    if is_tail(s[end + 1]) {
+        end + 2
+    } else {
+        end + 1
+    }
 }
 
 // The two bytes at i are a character: C2-DF and a tail.

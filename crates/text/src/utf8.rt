@@ -85,14 +85,22 @@ pub fn valid_up_to(s: &[u8]) -> usize
     ensures { result ≡ valid_up_to (was s) }
 {
     let ascii = past_all_blocks(s, 0);
-    if ascii == s.len() { ascii } else { valid_after(s, ascii) }
+    if ascii == s.len() {
+        ascii
+    } else {
+        valid_after(s, ascii)
+    }
 }
 
 // Whether the bytes are text.
 pub fn judge(s: &[u8]) -> Result<(), Fault>
     ensures { result_err result ≡ text_fault (was s) }
 {
-    if valid_up_to(s) < s.len() { Err(Fault::Text) } else { Ok(()) }
+    if valid_up_to(s) < s.len() {
+        Err(Fault::Text)
+    } else {
+        Ok(())
+    }
 }
 
 // A character begins at i, or the text ends there.

@@ -13,6 +13,6 @@ returns c =
     let s = c.args.s.now in
     let at = c.past_steps.result in
     let last : at < length s → valid_up_to (drop at s) ≡ 0 = λ h.
-        let stays : Stepped s at at = search (rules, c.past_steps.ensures.last (omega arith)) in stays.stuck refl
+    let stays : Stepped s at at = search (rules, c.past_steps.ensures.last (omega arith)) in stays.stuck refl
     in
     grind (arith, c.past_steps.ensures.passed.same, valid-past)
