@@ -1,8 +1,10 @@
-// Reading for the programs: a buffer is filled as far as the input goes.
+// Reading for the programs: a buffer is filled as far as the input goes, and what stored cases come to is counted.
 #![tactic(auto)]
 
 ghost use Rattle.std.specs.Counts.{IsPrefixLen};
+ghost use Rattle.std.specs.Prelude.{◌+◌, ◌≤◌, ◌<◌, None};
 
+use std::fmt;
 use std::io::Read;
 
 // Reads until the buffer is full, the input ends or a read fails, and answers how many bytes it put at the buffer's front.
@@ -20,4 +22,35 @@ pub fn read_full<R: Read>(from: &mut R, buf: &mut [u8]) -> usize
         done += n;
     }
     done
+}
+
+// How many stored cases agree with what is computed, and how many differ.
+#[derive(Clone, Copy)]
+pub struct Tally {
+    pub agree: u64,
+    pub differ: u64,
+}
+
+impl fmt::Display for Tally {
+    fn fmt<W: fmt::Write>(&self, f: &mut fmt::Formatter<W>) -> fmt::Result {
+        writeln!(f, "{} agree", self.agree)?;
+        write!(f, "{} differ", self.differ)
+    }
+}
+
+// Counts up to so many cases: `next` answers whether a case agrees, and nothing at the end of the input.
+pub fn counted<F: FnMut() -> Option<bool>>(limit: u64, mut next: F) -> Tally
+    requires { F.IsAlwaysCallable next }
+    ensures bound { result.agree + result.differ ≤ limit }
+    ensures whole { result.agree + result.differ < limit → (f : F) × (g : F) × F.step f None g }
+{
+    let mut tally = Tally { agree: 0, differ: 0 };
+    for _ in 0..limit {
+        match next() {
+            Some(true) => tally.agree += 1,
+            Some(false) => tally.differ += 1,
+            None => return tally,
+        }
+    }
+    tally
 }
