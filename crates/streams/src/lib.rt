@@ -2,7 +2,7 @@
 #![tactic(auto)]
 
 ghost use Rattle.std.specs.Counts.{IsPrefixLen};
-ghost use Rattle.std.specs.Prelude.{◌+◌, ◌≤◌, ◌<◌, None};
+ghost use Rattle.streams.specs.Counted.{Counted};
 
 use std::fmt;
 use std::io::Read;
@@ -38,18 +38,23 @@ impl fmt::Display for Tally {
     }
 }
 
-// Counts up to so many cases: `next` answers whether a case agrees, and nothing at the end of the input.
+// Counts cases, up to so many: `next` answers whether the next one agrees, and nothing where there is none.
 pub fn counted<F: FnMut() -> Option<bool>>(limit: u64, mut next: F) -> Tally
     requires { F.IsAlwaysCallable next }
-    ensures bound { result.agree + result.differ ≤ limit }
-    ensures whole { result.agree + result.differ < limit → (f : F) × (g : F) × F.step f None g }
+    ensures { Counted (λ f answer g. F.step f answer g) limit next result.agree result.differ }
 {
-    let mut tally = Tally { agree: 0, differ: 0 };
+    let mut tally = Tally {
+        agree: 0,
+        differ: 0,
+    };
     for _ in 0..limit {
-        match next() {
-            Some(true) => tally.agree += 1,
-            Some(false) => tally.differ += 1,
-            None => return tally,
+        let Some(agrees) = next() else {
+            return tally;
+        };
+        if agrees {
+            tally.agree += 1;
+        } else {
+            tally.differ += 1;
         }
     }
     tally
