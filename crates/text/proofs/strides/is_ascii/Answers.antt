@@ -1,4 +1,5 @@
-use Rattle.std.proofs.Common.{rules, arith}
+-- `text::strides::is_ascii` meets its contract: each place's test says that its byte is ASCII. Assumes nothing.
+use Rattle.std.proofs.Common.{rules}
 use Rattle.text.proofs.strides.is_ascii.Goals as goal
 
 pub returns : goal.returns

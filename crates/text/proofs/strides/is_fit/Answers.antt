@@ -1,4 +1,6 @@
-use Rattle.std.proofs.Common.{rules, arith}
+-- `text::strides::is_fit` meets its contract: each place's test says that its byte may stand before the next two. Assumes
+-- nothing.
+use Rattle.std.proofs.Common.{rules}
 use Rattle.text.proofs.strides.is_fit.Goals as goal
 
 pub returns : goal.returns

@@ -1,4 +1,5 @@
-use Rattle.std.proofs.Common.{rules, arith}
+-- `text::strides::past_blocks` meets its contract: a block of ASCII is whole characters. Assumes nothing.
+use Rattle.std.proofs.Common.{rules}
 use Rattle.text.proofs.Passing.{passed-ascii}
 use Rattle.text.proofs.strides.past_blocks.Goals as goal
 

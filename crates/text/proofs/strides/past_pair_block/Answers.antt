@@ -1,3 +1,5 @@
+-- `text::strides::past_pair_block` meets its contract: the block starts at no tail, so it ends with a whole character, inside
+-- it or one byte further. Assumes nothing.
 use native.Mathlib.Omega.{arith}
 use Rattle.text.proofs.Passing.{paired-tail, paired-lead}
 use Rattle.text.proofs.Reading.{tail-quarter, no-tail-quarter}

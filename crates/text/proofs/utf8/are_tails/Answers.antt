@@ -1,3 +1,4 @@
+-- `text::utf8::are_tails` meets its contract: `tails` takes a step for each byte that is read. Assumes nothing.
 use native.Mathlib.Omega.{arith}
 use Rattle.text.proofs.Reading.{tails-none, tails-first, tails-only, tails-two}
 use Rattle.text.proofs.utf8.are_tails.Goals as goal

@@ -1,3 +1,5 @@
+-- `text::utf8::character_at` meets its contract: the entry has the length and the range of the lead byte, and each return is
+-- one case of `character`. Assumes nothing.
 use native.Mathlib.Omega.{arith}
 use Rattle.text.proofs.Entries.{entry_length, entry-second, length-le-four}
 use Rattle.text.proofs.Reading.{character-past, character-none, character-short, second-bad, tails-bad, character-whole}

@@ -1,3 +1,5 @@
+-- `text::utf8::is_boundary` meets its contract: inside the text the byte decides, at and past its end the position. Assumes
+-- nothing.
 use native.Mathlib.Omega.{arith}
 use Rattle.text.proofs.Reading.{boundary-inside, boundary-outside}
 use Rattle.text.proofs.utf8.is_boundary.Goals as goal

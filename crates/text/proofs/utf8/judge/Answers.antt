@@ -1,3 +1,4 @@
+-- `text::utf8::judge` meets its contract: bytes are text where all of them are a prefix of whole characters. Assumes nothing.
 use native.Mathlib.Omega.{arith}
 use Rattle.text.proofs.Spans.{text-bad, text-fine, valid-text}
 use Rattle.text.proofs.utf8.judge.Goals as goal

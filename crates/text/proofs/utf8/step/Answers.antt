@@ -1,3 +1,5 @@
+-- `text::utf8::step` meets its contract: where `character_at` finds a character it is passed, and the runs after it; where it
+-- finds none, nothing from there on is valid. Assumes nothing.
 use mathlib.Core.Path.{sym}
 use Prim.Native.Nat.{◌+◌}
 use native.Mathlib.Omega.{arith}

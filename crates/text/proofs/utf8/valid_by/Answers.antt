@@ -1,3 +1,4 @@
+-- `text::utf8::valid_by` meets its contract: a step that stays, or the end, is where nothing more is valid. Assumes nothing.
 use mathlib.Core.Path.{◌≡◌, refl}
 use Prim.Native.Nat.{◌<◌}
 use native.Mathlib.Omega.{arith}
