@@ -24,14 +24,18 @@ fn digit(b: u8) -> u64 {
 fn word(line: &[u8; 53], at: usize) -> u64
     requires { at ≤ 37 }
 {
-    line[at..at + 16].iter().fold(0, |n, b| (n << 4) | digit(*b))
+    line[at..at + 16]
+        .iter()
+        .fold(0, |n, b| (n << 4) | digit(*b))
 }
 
 // Whether x + y has the pattern c, is finite exactly where c stands for a finite double, and x < y is what is stored.
 fn sum_agrees(x: f64, y: f64, c: u64, is_less: bool) -> bool {
     let sum = doubles::added(x, y);
     let is_finite = matches!(doubles::from_bits(c), Pattern::Finite(_));
-    doubles::to_bits(sum) == Some(c) && doubles::is_finite(sum) == is_finite && doubles::better(y, x) == is_less
+    doubles::to_bits(sum) == Some(c)
+        && doubles::is_finite(sum) == is_finite
+        && doubles::better(y, x) == is_less
 }
 
 fn agrees(line: &[u8; 53]) -> bool {

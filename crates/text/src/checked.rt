@@ -6,12 +6,17 @@ ghost use Rattle.refusal.specs.Lent.{was};
 
 use crate::strides::is_tail;
 
-// How many characters the text has: the bytes that begin one.
+// How many characters the text has: the bytes that begin one. Added up as numbers, in vector code: as `filter` and `count` it
+// took twice as long on ASCII.
 pub fn characters(s: &[u8]) -> usize
     requires { well_formed s.now ≡ true }
     ensures { result ≡ characters (was s) }
 {
-    s.iter().filter(|b| !is_tail(**b)).count()
+    let mut n: usize = 0;
+    for b in s {
+        n += !is_tail(*b) as usize;
+    }
+    n
 }
 
 // The part of the table that a span is, text or not: a token, from the moment its row is judged.

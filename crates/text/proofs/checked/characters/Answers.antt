@@ -1,7 +1,7 @@
--- `text::checked::characters` meets its contract: the characters are the bytes that are no tails. Assumes nothing.
-use Rattle.std.proofs.Common.{rules}
+use native.Mathlib.Omega.{arith}
+use Rattle.std.proofs.lemmas.Grind.{common_steps}
 use Rattle.text.proofs.Boundaries.{characters-counted}
 use Rattle.text.proofs.checked.characters.Goals as goal
 
 pub returns : goal.returns
-returns c = rw characters-counted (search rules)
+returns c = rw characters-counted (grind (arith, common_steps))
