@@ -7,8 +7,8 @@ ghost use Rattle.streams.specs.Counted.{Counted};
 use std::fmt;
 use std::io::Read;
 
-// Reads until the buffer is full, the input ends or a read fails, and answers how many bytes it put at the buffer's front, which
-// `read_exact` would not.
+// Reads until the buffer is full, the input ends or a read fails, and answers how many bytes it put at the buffer's front,
+// which `read_exact` would not.
 pub fn read_full<R: Read>(from: &mut R, buf: &mut [u8]) -> usize
     ensures { IsPrefixLen result buf.new }
 {

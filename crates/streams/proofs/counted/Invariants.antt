@@ -1,5 +1,5 @@
--- `streams::counted` meets its contract. The loop's invariant: the calls so far gave answers, each of which counts once. Assumes
--- nothing.
+-- `streams::counted` meets its contract. The loop's invariant: the calls so far gave answers, each of which counts once.
+-- Assumes nothing.
 use Rattle.std.proofs.Common.{◌+◌, ◌≡◌, Bool, not, List, Some, count_by}
 use Rattle.std.specs.List.{FoldsTo}
 use Rattle.streams.proofs.counted.Given as goal
