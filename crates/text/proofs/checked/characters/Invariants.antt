@@ -1,4 +1,5 @@
--- `text::checked::characters` meets its contract. The loop's invariant: n is how many bytes so far are no tails. Assumes nothing.
+-- `text::checked::characters` meets its contract. The loop's invariant: n is how many bytes so far are no tails. Assumes
+-- nothing.
 use Rattle.std.proofs.Common.{◌≡◌, not, take}
 use Rattle.std.specs.List.{count_by}
 use Rattle.text.specs.Text.{tail}

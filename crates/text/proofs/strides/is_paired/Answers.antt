@@ -1,4 +1,5 @@
--- `text::strides::is_paired` meets its contract: each place's test says that its byte may stand before the next. Assumes nothing.
+-- `text::strides::is_paired` meets its contract: each place's test says that its byte may stand before the next. Assumes
+-- nothing.
 use Rattle.std.proofs.Common.{rules}
 use Rattle.text.proofs.strides.is_paired.Goals as goal
 
