@@ -12,45 +12,30 @@ use std::io::Read;
 
 // What a hexadecimal digit stands for.
 fn digit(b: u8) -> u64 {
-    let d = b as u64;
-    if d >= 97 {
-        return d - 87;
-    }
-    if d >= 48 {
-        return d - 48;
-    }
-    0
+    let d = match b {
+        b'a'.. => b - 87,
+        b'0'.. => b - 48,
+        _ => 0,
+    };
+    u64::from(d)
 }
 
 // The number that the 16 digits from at on spell.
 fn word(line: &[u8; 53], at: usize) -> u64
     requires { at ≤ 37 }
 {
-    let mut n: u64 = 0;
-    let mut i: usize = 0;
-    while i < 16 {
-        n = (n << 4) | digit(line[at + i]);
-        i += 1;
-    }
-    n
+    line[at..at + 16]
+        .iter()
+        .fold(0, |n, b| (n << 4) | digit(*b))
 }
 
 // Whether x + y has the pattern c, is finite exactly where c stands for a finite double, and x < y is what is stored.
 fn sum_agrees(x: f64, y: f64, c: u64, is_less: bool) -> bool {
     let sum = doubles::added(x, y);
-    if doubles::to_bits(sum) != Some(c) {
-        return false;
-    }
-    if let Pattern::Finite(_) = doubles::from_bits(c) {
-        if !doubles::is_finite(sum) {
-            return false;
-        }
-    } else {
-        if doubles::is_finite(sum) {
-            return false;
-        }
-    }
-    doubles::better(y, x) == is_less
+    let is_finite = matches!(doubles::from_bits(c), Pattern::Finite(_));
+    doubles::to_bits(sum) == Some(c)
+        && doubles::is_finite(sum) == is_finite
+        && doubles::better(y, x) == is_less
 }
 
 fn agrees(line: &[u8; 53]) -> bool {
@@ -63,59 +48,20 @@ fn agrees(line: &[u8; 53]) -> bool {
     sum_agrees(x, y, word(line, 34), line[51] == b'1')
 }
 
-// What one line of the input comes to. A line that is cut short differs.
-#[derive(Clone, Copy)]
-enum Turn {
-    Agrees,
-    Differs,
-    Done,
-}
-
-fn read_line<R: Read>(input: &mut R) -> Turn {
+// Whether the next line agrees; nothing at the end of the input. A line that is cut short differs.
+fn next_line<R: Read>(input: &mut R) -> Option<bool> {
     let mut line = [0u8; 53];
-    let n = streams::read_full(input, &mut line);
-    if n == 0 {
-        return Turn::Done;
+    match streams::read_full(input, &mut line) {
+        0 => None,
+        n => Some(n == 53 && agrees(&line)),
     }
-    if n < 53 {
-        return Turn::Differs;
-    }
-    if agrees(&line) {
-        return Turn::Agrees;
-    }
-    Turn::Differs
 }
 
-#[derive(Clone, Copy)]
-struct Counts {
-    agree: u64,
-    differ: u64,
-}
-
-// All lines, up to a number that no run uses up.
-fn counted<R: Read>(input: &mut R) -> Counts {
-    let mut agree: u64 = 0;
-    let mut differ: u64 = 0;
-    let mut left: u64 = 1000000;
-    while left > 0 {
-        left -= 1;
-        match read_line(input) {
-            Turn::Agrees => {
-                agree += 1;
-            }
-            Turn::Differs => {
-                differ += 1;
-            }
-            Turn::Done => {
-                return Counts { agree, differ };
-            }
-        }
-    }
-    Counts { agree, differ }
-}
+// More lines than any run has.
+const MANY: u64 = 1_000_000;
 
 fn main(rt: HostRuntime) {
-    let counts = counted(&mut rt.reader());
-    let _ = println!(rt; "{} agree", counts.agree);
-    let _ = println!(rt; "{} differ", counts.differ);
+    let mut input = rt.reader();
+    let tally = streams::counted(MANY, || next_line(&mut input));
+    let _ = println!(rt; "{tally}");
 }

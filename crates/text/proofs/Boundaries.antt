@@ -1,8 +1,10 @@
 -- Boundaries and characters of a well-formed text, end to end. A text cut at a boundary is two texts (`cut`), so what holds of
 -- the first character of a text holds of the one at any boundary. Assumes nothing.
 use mathlib.Core.Path.{◌≡◌, refl, sym, ap, ◌∙◌}
-use mathlib.Core.Bool.{Bool, true, false, cond}
+use mathlib.Core.Bool.{Bool, true, false, not, cond}
 use mathlib.Core.List.{List, [], ◌∷◌, ◌++◌}
+use Rattle.std.specs.List.{count_by}
+use Rattle.std.proofs.lemmas.List.Recursion.{is_count_by}
 use Prim.Native.Nat.{ℕ, zero, suc, ◌+◌, ◌-◌, ◌≤◌, ◌<◌}
 use native.Mathlib.Nat.{zero-add, add-zero}
 use native.Mathlib.Omega.{arith}
@@ -155,3 +157,11 @@ module _ (s : List ℕ) (well : well_formed s ≡ true) (i : ℕ) (at : boundary
       ap characters (take-add i (length_of (get_or s i 0)) s)
       ∙ characters-append (take i s) (take (length_of (get_or s i 0)) (drop i s))
       ∙ omega (arith, front-one (front_at s well i at below))
+
+-- counted at once: the bytes that are no tails
+pub characters-counted : (s : List ℕ) → characters s ≡ count_by (λ b. not (tail b)) s
+unfolding characters
+characters-counted = is_count_by characters (λ b. not (tail b)) refl more
+  where
+    more : (b : ℕ) (s : List ℕ) → characters (b ∷ s) ≡ cond (not (tail b)) (1 + characters s) (characters s)
+    more b s = elim (tail b) as (λ t. cond t 0 1 + characters s ≡ cond (not t) (1 + characters s) (characters s)) [ true ↦ omega arith | false ↦ refl ]

@@ -92,6 +92,9 @@ module _ (b : ℕ) where
         lt-leb b 0xF4 (omega arith),
       )
 
+-- all of them
+pub ruleset lengths = (length-ascii, length-low, length_two, length_three, length-four, length_high)
+
 module _ (b : ℕ) where
   sum : entry_of b ≡ length_of b * 0x1_00_00 + second_low b * 0x1_00 + second_high b
   unfolding entry_of

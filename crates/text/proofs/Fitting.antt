@@ -8,17 +8,18 @@ use native.Mathlib.Omega.{arith}
 use borrow.Author.Tests.{ltb-true, ltb-false}
 use lib.Dec.{ltb}
 use lib.ListN.{length, get_or}
+use Rattle.text.specs.Text.{tail}
 use Rattle.text.specs.Passing.{Fits, Fit, Begins, Passed}
 use Rattle.text.proofs.Passing.{passed_none, passed_on, passed-character, passed-byte}
 use Rattle.text.proofs.Plain.{two_at, three-at}
-use Rattle.text.proofs.Reading.{quarter-tail}
+use Rattle.text.proofs.Reading.{quarter-tail, tail-quarter, no-tail-quarter}
 
 -- the byte at a place is a tail
 abbrev pub Tail : List ℕ → ℕ → Type 0
 Tail s k = get_or s k 0 / 64 ≡ 2
 
 -- what is passed of a block up to j, by how many tails stand there
-pub record Ended (s : List ℕ) (i j : ℕ) : Type 0 where
+record Ended (s : List ℕ) (i j : ℕ) : Type 0 where
   pub None : (Tail s j → ⊥) → Passed s i j
   pub one : Tail s j → (Tail s (j + 1) → ⊥) → Passed s i (j + 1)
   pub two : Tail s j → Tail s (j + 1) → Passed s i (j + 2)
@@ -160,7 +161,16 @@ module _ (s : List ℕ) where
       in
       rw next at (ended-on i (i + 3) (i + 3 + n) (passed-three i (omega arith) low b f) later)
 
-  -- a block at whose start a character begins ends with a whole one
+  -- a block at whose start a character begins ends with a whole one, up to two bytes further
   module _ (i n : ℕ) (h : i + n + 1 < length s) (run : Fit s i (i + n)) (b : Begins (get_or s i 0) (get_or s (i + 1) 0)) where
-    pub ended : Ended s i (i + n)
+    ended : Ended s i (i + n)
     ended = walk n i (ltb (get_or s i 0) 0x80) (ltb (get_or s i 0) 0xE0) refl refl h run b
+
+    pub fit-none : tail (get_or s (i + n) 0) ≡ false → Passed s i (i + n)
+    fit-none e = ended.None (no-tail-quarter _ e)
+
+    pub fit-one : tail (get_or s (i + n) 0) ≡ true → tail (get_or s (i + n + 1) 0) ≡ false → Passed s i (i + n + 1)
+    fit-one e f = ended.one (tail-quarter _ e) (no-tail-quarter _ f)
+
+    pub fit-two : tail (get_or s (i + n) 0) ≡ true → tail (get_or s (i + n + 1) 0) ≡ true → Passed s i (i + n + 2)
+    fit-two e f = ended.two (tail-quarter _ e) (tail-quarter _ f)

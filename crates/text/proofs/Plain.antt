@@ -71,3 +71,6 @@ module _ (s : List ℕ) (i : ℕ) where
       (second-of _ _ (within_of 0x80 0xBF _ (omega arith) high) (λ e. omega arith) (λ e. omega arith) (λ e. low) (λ e. omega arith))
       (tails-two s (i + 2) _ (omega arith) (omega arith) y ∙ ap (λ (k : ℕ). tail (get_or s k 0)) last ∙ z)
       ∙ long
+
+-- all of them
+pub ruleset plain = (two_at, three-at, four-at)

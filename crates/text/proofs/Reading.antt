@@ -6,7 +6,6 @@ use mathlib.Core.List.{List, [], ◌∷◌}
 use Prim.Native.Nat.{ℕ, zero, suc, ◌+◌, ◌-◌, ◌/◌, ◌≤◌, ◌<◌}
 use native.Mathlib.Numerals.{add-one}
 use native.Mathlib.Omega.{arith}
-use borrow.Author.Tests.{eq-eqb, ne_eqb}
 use lib.Dec.{eqb, eqb-suc-zero, eqb-suc-suc}
 use lib.ListN.{length, get_or, drop, length-drop, drop_of_length-le}
 use lib.Seq.{drop-cons}
@@ -25,13 +24,6 @@ pub no-tail-quarter : (b : ℕ) → tail b ≡ false → b / 64 ≡ 2 → ⊥
 no-tail-quarter b e q =
     let inside : tail b ≡ true = quarter-tail b q in
     zero_one cc
-
-pub tail-by-quarter : (b : ℕ) → eqb (b / 64) 2 ≡ tail b
-tail-by-quarter b = go (tail b) refl
-  where
-    go : (t : Bool) → tail b ≡ t → eqb (b / 64) 2 ≡ t
-    go true e = eq-eqb (b / 64) 2 (tail-quarter b e)
-    go false e = ne_eqb (b / 64) 2 (no-tail-quarter b e)
 
 -- a lead byte of a length below 2 decides by itself
 lead-short : (b : ℕ) (t : List ℕ) (n : ℕ) → length_of b ≡ n → n < 2 → character (b ∷ t) ≡ n

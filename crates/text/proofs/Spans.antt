@@ -111,10 +111,6 @@ module _ {fault : Option Fault} {table : Bor (List ℕ)} {off len : ℕ} {a b : 
 
 -- ---- the part
 
--- a part that ends where it starts is empty
-pub nothing-taken : (s : List ℕ) (at : ℕ) → take (at - at) (drop at s) ≡ []
-nothing-taken s at = let e : at - at ≡ 0 = omega arith in rw e
-
 -- the empty part in front is what is given of a span with a fault
 pub nothing-given :
     {table part : Bor (List ℕ)} {off len : ℕ} (fault : Option Fault) (f : Fault) → fault ≡ Some f → PartGiven None table 0 0 part

@@ -4,18 +4,17 @@ ghost use Rattle.text.specs.Text.{well_formed, characters};
 ghost use Rattle.text.specs.Span.{PartGiven};
 ghost use Rattle.refusal.specs.Lent.{was};
 
-use crate::lead;
+use crate::strides::is_tail;
 
-// How many characters the text has, by the lengths that the table by lead byte gives.
+// How many characters the text has: the bytes that begin one. Added up as numbers, in vector code: as `filter` and `count` it
+// took twice as long on ASCII.
 pub fn characters(s: &[u8]) -> usize
     requires { well_formed s.now ≡ true }
     ensures { result ≡ characters (was s) }
 {
     let mut n: usize = 0;
-    let mut i: usize = 0;
-    while i < s.len() {
-        i += lead::char_len(s[i]);
-        n += 1;
+    for b in s {
+        n += !is_tail(*b) as usize;
     }
     n
 }

@@ -73,23 +73,15 @@ pub(crate) fn entry(table: &[u32; 256], b: u8) -> u32
 
 // How many bytes the character has that this byte begins; 0 where it begins none. By tests and not by the table: a call that
 // reads one entry of a constant table first lays out all of it.
+#[tactic(auto, using(crate::proofs::Entries::lengths))]
 pub fn char_len(b: u8) -> usize
     ensures { result ≡ length_of b }
 {
-    if b < 0x80 {
-        return 1;
+    match b {
+        0..0x80 => 1,
+        0xC2..0xE0 => 2,
+        0xE0..0xF0 => 3,
+        0xF0..0xF5 => 4,
+        _ => 0,
     }
-    if b < 0xC2 {
-        return 0;
-    }
-    if b < 0xE0 {
-        return 2;
-    }
-    if b < 0xF0 {
-        return 3;
-    }
-    if b < 0xF5 {
-        return 4;
-    }
-    0
 }

@@ -23,8 +23,7 @@ pub fn is_outside(tab: &[u8], off: u32, len: u32) -> bool
 fn nothing<'a>(tab: &'a [u8]) -> &'a [u8]
     ensures { PartGiven None tab.entry 0 0 result }
 {
-    let start: usize = 0;
-    &tab[start..start]
+    &tab[..0]
 }
 
 // Whether a span is text: the size of the table is tested, then the span's end, then its bytes. An empty part may be an

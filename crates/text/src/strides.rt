@@ -1,6 +1,6 @@
 // Text passed over in long strides. What tests of the bytes alone tell to be characters is passed, by blocks or by runs; where
 // they can't tell, the stride ends, and what stands there is for the lead table to decide.
-ghost use Rattle.std.specs.Prelude.{◌≡◌, true, ◌+◌, ◌≤◌, ◌<◌, length, drop};
+ghost use Rattle.std.specs.Prelude.{◌≡◌, ℕ, true, ◌+◌, ◌^◌, ◌≤◌, ◌<◌, length, drop};
 ghost use Rattle.text.specs.Passing.{Ascii, Follows, Paired, Fits, Fit, Begins, Passed};
 ghost use Rattle.text.specs.Text.{tail, character};
 ghost use Rattle.refusal.specs.Lent.{was};
@@ -12,24 +12,62 @@ pub(crate) fn is_tail(b: u8) -> bool
     b / 64 == 2
 }
 
+// The end of the steps from i on, each taken where more than `short` bytes are left. One that stays where it is is the last.
+pub(crate) fn past_steps<F: Fn(usize) -> usize>(s: &[u8], i: usize, short: usize, step: F) -> usize
+    requires inside { i ≤ length s.now }
+    requires callable { (at : ℕ) → at + short < length s.now → F.pre step at }
+    requires passes { (at next : ℕ) → at + short < length s.now → F.post step at next → Passed s.now at next }
+    ensures passed { Passed (was s) i result }
+    ensures last { result + short < length s.now → F.post step result result }
+{
+    let mut at = i;
+    while short < s.len() - at {
+        let next = step(at);
+        if next == at {
+            return at;
+        }
+        at = next;
+    }
+    at
+}
+
+// The end of the pieces of n bytes from i on that the test tells to be whole characters.
+fn past_pieces<F: Fn(usize) -> bool>(s: &[u8], i: usize, n: usize, is_whole: F) -> usize
+    requires some { 0 < n }
+    requires inside { i ≤ length s.now }
+    requires callable { (at : ℕ) → at + n ≤ length s.now → F.pre is_whole at }
+    requires passes { (at : ℕ) → at + n ≤ length s.now → F.post is_whole at true → Passed s.now at (at + n) }
+    ensures { Passed (was s) i result }
+{
+    past_steps(s, i, n - 1, |at| if is_whole(at) { at + n } else { at })
+}
+
+// The test holds at each of the n places from i on: those where it does add up to n. A u8 counts them, with no branch between
+// them, so that the loop compiles to vector code; with `&=` on a bool 16 bytes of ASCII took 1.7 times as long.
+fn all_hold<F: Fn(usize) -> bool>(i: usize, n: usize, test: F) -> bool
+    requires small { (n ≤ 255) × (i + n < 2 ^ 64) }
+    requires callable { (k : ℕ) → i ≤ k → k < i + n → F.pre test k }
+    ensures { result ≡ true → (k : ℕ) → i ≤ k → k < i + n → F.post test k true }
+{
+    let mut held: u8 = 0;
+    for k in 0..n {
+        held += test(i + k) as u8;
+    }
+    held as usize == n
+}
+
 // How many bytes are looked at together, without a branch between them. A long block compiles to sixteen at a time.
 const LONG: usize = 64;
 
 // A short one compiles to all eight at once.
 const SHORT: usize = 8;
 
-// The n bytes at i are all ASCII: those that are add up to n. A u8 counts them.
+// The n bytes at i are all ASCII.
 fn is_ascii(s: &[u8], i: usize, n: usize) -> bool
     requires { (n ≤ 255) × (i + n ≤ length s.now) }
     ensures { result ≡ true → Ascii (was s) i (i + n) }
 {
-    let mut count: u8 = 0;
-    let mut k: usize = 0;
-    while k < n {
-        count += 1 - s[i + k] / 128;
-        k += 1;
-    }
-    count as usize == n
+    all_hold(i, n, |k| s[k] < 128)
 }
 
 // The end of the whole blocks of n bytes of ASCII at i.
@@ -37,14 +75,7 @@ fn past_blocks(s: &[u8], i: usize, n: usize) -> usize
     requires { (0 < n) × (n ≤ 255) × (i ≤ length s.now) }
     ensures { Passed (was s) i result }
 {
-    let mut at = i;
-    while n <= s.len() - at {
-        if !is_ascii(s, at, n) {
-            return at;
-        }
-        at += n;
-    }
-    at
+    past_pieces(s, i, n, |at| is_ascii(s, at, n))
 }
 
 // The same of long blocks and then of short ones.
@@ -55,62 +86,47 @@ pub(crate) fn past_all_blocks(s: &[u8], i: usize) -> usize
     past_blocks(s, past_blocks(s, i, LONG), SHORT)
 }
 
-// The end of the run of ASCII at i: byte by byte, and by blocks from an eighth place on, so that a short run costs no block.
+// The end of the byte of ASCII at i, and of the blocks after it from an eighth place on, so that a short run costs no block.
+fn past_byte(s: &[u8], i: usize) -> usize
+    requires { i < length s.now }
+    ensures { Passed (was s) i result }
+{
+    if 128 <= s[i] {
+        return i;
+    }
+    let next = i + 1;
+    if next % SHORT == 0 {
+        past_all_blocks(s, next)
+    } else {
+        next
+    }
+}
+
+// The end of the run of ASCII at i.
 fn past_ascii(s: &[u8], i: usize) -> usize
     requires { i ≤ length s.now }
     ensures { Passed (was s) i result }
 {
-    let mut at = i;
-    while at < s.len() {
-        if 128 <= s[at] {
-            return at;
-        }
-        at += 1;
-        if at % SHORT == 0 {
-            at = past_all_blocks(s, at);
-        }
-    }
-    at
-}
-
-// 1 where b may stand before c in a text of ASCII and characters of two bytes, else 0: a number, for a block adds them up.
-fn follows(b: u8, c: u8) -> u8
-    ensures { (result ≤ 1) × (result ≡ 1 → Follows b c) }
-{
-    if b < 0xC0 {
-        if c / 64 == 2 {
-            return 0;
-        }
-        return 1;
-    }
-    if b < 0xC2 {
-        return 0;
-    }
-    if 0xDF < b {
-        return 0;
-    }
-    if c / 64 == 2 {
-        return 1;
-    }
-    0
+    past_steps(s, i, 0, |at| past_byte(s, at))
 }
 
 // How many bytes outside ASCII are looked at together. It compiles to sixteen at a time, and to no branch for each character,
 // which would often be guessed wrong.
 const BLOCK: usize = 32;
 
+// b may stand before c in a text of ASCII and characters of two bytes.
+fn follows(b: u8, c: u8) -> bool
+    ensures { result ≡ true → Follows b c }
+{
+    (c / 64 == 2) == (0xC0 <= b) && (b < 0xC0 || 0xC2 <= b && b <= 0xDF)
+}
+
 // Each of the BLOCK bytes at i may stand before the next.
 fn is_paired(s: &[u8], i: usize) -> bool
     requires { i + 32 < length s.now }
     ensures { result ≡ true → Paired (was s) i (i + 32) }
 {
-    let mut count: u8 = 0;
-    let mut k: usize = 0;
-    while k < BLOCK {
-        count += follows(s[i + k], s[i + k + 1]);
-        k += 1;
-    }
-    count as usize == BLOCK
+    all_hold(i, BLOCK, |k| follows(s[k], s[k + 1]))
 }
 
 // The end of the block of such text at i, one further where the block's last byte begins a character; i itself where there is
@@ -119,66 +135,22 @@ fn past_pair_block(s: &[u8], i: usize) -> usize
     requires { i + 32 < length s.now }
     ensures { Passed (was s) i result }
 {
-    if is_tail(s[i]) {
-        return i;
-    }
-    if !is_paired(s, i) {
+    if is_tail(s[i]) || !is_paired(s, i) {
         return i;
     }
     let end = i + BLOCK;
-    if is_tail(s[end]) {
-        return end + 1;
-    }
-    end
+    if is_tail(s[end]) { end + 1 } else { end }
 }
 
-// The end of the blocks of such text at i.
-fn past_pairs(s: &[u8], i: usize) -> usize
-    requires { i ≤ length s.now }
-    ensures { Passed (was s) i result }
+// The same for a text of characters of up to three bytes: a may stand before b and c. C0 and C1 are those with a / 2 = 60.
+fn fits(a: u8, b: u8, c: u8) -> bool
+    ensures { result ≡ true → Fits a b c }
 {
-    let mut at = i;
-    while BLOCK < s.len() - at {
-        let next = past_pair_block(s, at);
-        if next == at {
-            return at;
-        }
-        at = next;
-    }
-    at
-}
-
-// The same for a text of characters of up to three bytes: 1 where a may stand before b and c, else 0. C0 and C1 are those with
-// a / 2 = 60.
-fn fits(a: u8, b: u8, c: u8) -> u8
-    ensures { (result ≤ 1) × (result ≡ 1 → Fits a b c) }
-{
-    if 0xF0 <= a {
-        return 0;
-    }
-    if a / 2 == 0x60 {
-        return 0;
-    }
-    if a == 0xE0 {
-        if b < 0xA0 {
-            return 0;
-        }
-    }
-    if a == 0xED {
-        if 0x9F < b {
-            return 0;
-        }
-    }
-    if c / 64 == 2 {
-        if 0xE0 <= a {
-            return 1;
-        }
-        return b / 0xC0;
-    }
-    if 0xE0 <= a {
-        return 0;
-    }
-    1 - b / 0xC0
+    (c / 64 == 2) == (0xE0 <= a || 0xC0 <= b)
+        && a < 0xF0
+        && a / 2 != 0x60
+        && (a != 0xE0 || 0xA0 <= b)
+        && (a != 0xED || b <= 0x9F)
 }
 
 // Each of the BLOCK bytes at i may stand before the next two.
@@ -186,26 +158,14 @@ fn is_fit(s: &[u8], i: usize) -> bool
     requires { i + 33 < length s.now }
     ensures { result ≡ true → Fit (was s) i (i + 32) }
 {
-    let mut count: u8 = 0;
-    let mut k: usize = 0;
-    while k < BLOCK {
-        count += fits(s[i + k], s[i + k + 1], s[i + k + 2]);
-        k += 1;
-    }
-    count as usize == BLOCK
+    all_hold(i, BLOCK, |k| fits(s[k], s[k + 1], s[k + 2]))
 }
 
 // A character begins with a, and goes on with b where it has more than one byte.
 fn begins(a: u8, b: u8) -> bool
     ensures { result ≡ true → Begins a b }
 {
-    if a / 64 == 2 {
-        return false;
-    }
-    if a < 0xC0 {
-        return b / 64 != 2;
-    }
-    b / 64 == 2
+    a / 64 != 2 && (b / 64 == 2) == (0xC0 <= a)
 }
 
 // The end of the block of such text at i, up to two further where the block's last character goes on; i itself where there is
@@ -214,10 +174,7 @@ fn past_fit_block(s: &[u8], i: usize) -> usize
     requires { i + 33 < length s.now }
     ensures { Passed (was s) i result }
 {
-    if !begins(s[i], s[i + 1]) {
-        return i;
-    }
-    if !is_fit(s, i) {
+    if !begins(s[i], s[i + 1]) || !is_fit(s, i) {
         return i;
     }
     let end = i + BLOCK;
@@ -225,112 +182,42 @@ fn past_fit_block(s: &[u8], i: usize) -> usize
         return end;
     }
     if is_tail(s[end + 1]) {
-        return end + 2;
+        end + 2
+    } else {
+        end + 1
     }
-    end + 1
-}
-
-// The end of the blocks of such text at i.
-fn past_fits(s: &[u8], i: usize) -> usize
-    requires { i ≤ length s.now }
-    ensures { Passed (was s) i result }
-{
-    let mut at = i;
-    while BLOCK + 1 < s.len() - at {
-        let next = past_fit_block(s, at);
-        if next == at {
-            return at;
-        }
-        at = next;
-    }
-    at
 }
 
 // The two bytes at i are a character: C2-DF and a tail.
+#[tactic(auto, using(crate::proofs::Plain::plain))]
 fn is_two(s: &[u8], i: usize) -> bool
     requires { i + 2 ≤ length s.now }
     ensures { result ≡ true → character (drop i (was s)) ≡ 2 }
 {
-    let b = s[i];
-    if b < 0xC2 {
-        return false;
-    }
-    if 0xDF < b {
-        return false;
-    }
-    is_tail(s[i + 1])
+    0xC2 <= s[i] && s[i] <= 0xDF && is_tail(s[i + 1])
 }
 
 // The three bytes at i are a character: E0-EF and two tails. Its value over 2048 is not 0, which has shorter forms (E0 before
 // 80-9F), and not 27, the surrogates from 27 * 2048 = D800 on (ED before A0-BF). One number for both, since a branch on ED is
 // often guessed wrong.
+#[tactic(auto, using(crate::proofs::Plain::plain))]
 fn is_three(s: &[u8], i: usize) -> bool
     requires { i + 3 ≤ length s.now }
     ensures { result ≡ true → character (drop i (was s)) ≡ 3 }
 {
-    let b = s[i];
-    if b / 16 != 14 {
-        return false;
-    }
-    let x = s[i + 1];
-    if !is_tail(x) {
-        return false;
-    }
-    if !is_tail(s[i + 2]) {
-        return false;
-    }
-    let part = (b - 0xE0) * 2 + (x - 0x80) / 32;
-    part != 0 && part != 27
+    let (b, x) = (s[i], s[i + 1]);
+    let part = b % 16 * 2 + x % 64 / 32;
+    b / 16 == 14 && is_tail(x) && is_tail(s[i + 2]) && part != 0 && part != 27
 }
 
-// The four bytes at i are a character that F0 begins: 90-BF and two tails after it.
+// The four bytes at i are a character that F0 begins: 90-BF and two tails after it. The rare ones, which F1-F4 begin, are left
+// to the table.
+#[tactic(auto, using(crate::proofs::Plain::plain))]
 fn is_four(s: &[u8], i: usize) -> bool
     requires { i + 4 ≤ length s.now }
     ensures { result ≡ true → character (drop i (was s)) ≡ 4 }
 {
-    if s[i] != 0xF0 {
-        return false;
-    }
-    let x = s[i + 1];
-    if x < 0x90 {
-        return false;
-    }
-    if 0xBF < x {
-        return false;
-    }
-    if !is_tail(s[i + 2]) {
-        return false;
-    }
-    is_tail(s[i + 3])
-}
-
-// The n bytes at i are a character, as tests of its bytes tell. The rare ones, which F1-F4 begin, are left to the table.
-fn is_plain(s: &[u8], i: usize, n: usize) -> bool
-    requires { (2 ≤ n) × (n ≤ 4) × (i + n ≤ length s.now) }
-    ensures { result ≡ true → character (drop i (was s)) ≡ n }
-{
-    if n == 2 {
-        return is_two(s, i);
-    }
-    if n == 3 {
-        return is_three(s, i);
-    }
-    is_four(s, i)
-}
-
-// The end of the run of such characters of n bytes at i. A call gives n as a number, for which the loop is compiled.
-fn past_same(s: &[u8], i: usize, n: usize) -> usize
-    requires { (2 ≤ n) × (n ≤ 4) × (i ≤ length s.now) }
-    ensures { Passed (was s) i result }
-{
-    let mut at = i;
-    while n <= s.len() - at {
-        if !is_plain(s, at, n) {
-            return at;
-        }
-        at += n;
-    }
-    at
+    s[i] == 0xF0 && 0x90 <= s[i + 1] && s[i + 1] <= 0xBF && is_tail(s[i + 2]) && is_tail(s[i + 3])
 }
 
 // The end of the run at i: of ASCII; from a longer character on, of blocks of characters up to its length, and then of those as
@@ -339,17 +226,18 @@ fn past_run(s: &[u8], i: usize) -> usize
     requires { i < length s.now }
     ensures { Passed (was s) i result }
 {
-    let b = s[i];
-    if b < 0x80 {
-        return past_ascii(s, i + 1);
+    match s[i] {
+        0..0x80 => past_ascii(s, i + 1),
+        0x80..0xE0 => {
+            let end = past_steps(s, i, BLOCK, |at| past_pair_block(s, at));
+            past_pieces(s, end, 2, |at| is_two(s, at))
+        }
+        0xE0..0xF0 => {
+            let end = past_steps(s, i, BLOCK + 1, |at| past_fit_block(s, at));
+            past_pieces(s, end, 3, |at| is_three(s, at))
+        }
+        _ => past_pieces(s, i, 4, |at| is_four(s, at)),
     }
-    if b < 0xE0 {
-        return past_same(s, past_pairs(s, i), 2);
-    }
-    if b < 0xF0 {
-        return past_same(s, past_fits(s, i), 3);
-    }
-    past_same(s, i, 4)
 }
 
 // The end of the runs at i, one after the other. What stands there is for the table to decide.
@@ -357,13 +245,5 @@ pub(crate) fn past_runs(s: &[u8], i: usize) -> usize
     requires { i ≤ length s.now }
     ensures { Passed (was s) i result }
 {
-    let mut at = i;
-    while at < s.len() {
-        let next = past_run(s, at);
-        if next == at {
-            return at;
-        }
-        at = next;
-    }
-    at
+    past_steps(s, i, 0, |at| past_run(s, at))
 }

@@ -7,7 +7,7 @@ ghost use Rattle.text.specs.Text.{within, tails, character, valid_up_to, boundar
 ghost use Rattle.refusal.specs.Lent.{was};
 
 use crate::lead;
-use crate::strides::{is_tail, past_all_blocks, past_runs};
+use crate::strides::{is_tail, past_all_blocks, past_runs, past_steps};
 use refusal::Fault;
 
 // The byte is in the range of the second byte that this entry of the lead table has.
@@ -23,16 +23,7 @@ fn are_tails(s: &[u8], i: usize, n: usize) -> bool
     requires { (n ≤ 2) × (i + n ≤ length s.now) }
     ensures { result ≡ tails n (drop i (was s)) }
 {
-    if n == 0 {
-        return true;
-    }
-    if !is_tail(s[i]) {
-        return false;
-    }
-    if n == 1 {
-        return true;
-    }
-    is_tail(s[i + 1])
+    n == 0 || is_tail(s[i]) && (n == 1 || is_tail(s[i + 1]))
 }
 
 // How many bytes the well-formed character at i takes; 0 where there is none.
@@ -48,16 +39,8 @@ fn character_at(table: &[u32; 256], s: &[u8], i: usize) -> usize
     if n < 2 {
         return n;
     }
-    if s.len() - i < n {
-        return 0;
-    }
-    if !is_second(entry, s[i + 1]) {
-        return 0;
-    }
-    if !are_tails(s, i + 2, n - 2) {
-        return 0;
-    }
-    n
+    let is_whole = n <= s.len() - i && is_second(entry, s[i + 1]) && are_tails(s, i + 2, n - 2);
+    if is_whole { n } else { 0 }
 }
 
 // The end of the character at i, which the table finds, and of the runs after it; i itself where no character begins there.
@@ -65,11 +48,10 @@ fn step(table: &[u32; 256], s: &[u8], i: usize) -> usize
     requires { IsLead table.now × (i < length s.now) }
     ensures { Stepped (was s) i result }
 {
-    let n = character_at(table, s, i);
-    if n == 0 {
-        return i;
+    match character_at(table, s, i) {
+        0 => i,
+        n => past_runs(s, i + n),
     }
-    past_runs(s, i + n)
 }
 
 // Where the whole well-formed characters from i on end.
@@ -77,15 +59,7 @@ fn valid_by(table: &[u32; 256], s: &[u8], i: usize) -> usize
     requires { IsLead table.now × (i ≤ length s.now) }
     ensures { result ≡ i + valid_up_to (drop i (was s)) }
 {
-    let mut at = i;
-    while at < s.len() {
-        let next = step(table, s, at);
-        if next == at {
-            return at;
-        }
-        at = next;
-    }
-    at
+    past_steps(s, i, 0, |at| step(table, s, at))
 }
 
 // The same with the lead table, which is laid out once for the text.
@@ -102,10 +76,7 @@ fn valid_after(s: &[u8], i: usize) -> usize
     ensures { result ≡ i + valid_up_to (drop i (was s)) }
 {
     let at = past_runs(s, i);
-    if at == s.len() {
-        return at;
-    }
-    valid_from(s, at)
+    if at == s.len() { at } else { valid_from(s, at) }
 }
 
 // The length of the longest prefix made of whole well-formed characters. What most texts need, blocks of ASCII, stands by
@@ -115,9 +86,10 @@ pub fn valid_up_to(s: &[u8]) -> usize
 {
     let ascii = past_all_blocks(s, 0);
     if ascii == s.len() {
-        return ascii;
+        ascii
+    } else {
+        valid_after(s, ascii)
     }
-    valid_after(s, ascii)
 }
 
 // Whether the bytes are text.
@@ -125,17 +97,18 @@ pub fn judge(s: &[u8]) -> Result<(), Fault>
     ensures { result_err result ≡ text_fault (was s) }
 {
     if valid_up_to(s) < s.len() {
-        return Err(Fault::Text);
+        Err(Fault::Text)
+    } else {
+        Ok(())
     }
-    Ok(())
 }
 
 // A character begins at i, or the text ends there.
 pub fn is_boundary(s: &[u8], i: usize) -> bool
     ensures { result ≡ boundary (was s) i }
 {
-    if i < s.len() {
-        return !is_tail(s[i]);
+    match s.get(i) {
+        Some(b) => !is_tail(*b),
+        None => i == s.len(),
     }
-    i == s.len()
 }

@@ -1,12 +1,9 @@
-use mathlib.Core.Path.{◌≡◌}
-use mathlib.Core.Bool.{true}
-use Prim.Native.Nat.{◌-◌, ◌≤◌}
-use lib.ListN.{length, take}
-use Rattle.text.specs.Text.{boundary, characters}
+-- `text::checked::characters` meets its contract. The loop's invariant: n is how many bytes so far are no tails. Assumes
+-- nothing.
+use Rattle.std.proofs.Common.{◌≡◌, not, take}
+use Rattle.std.specs.List.{count_by}
+use Rattle.text.specs.Text.{tail}
 use Rattle.text.proofs.checked.characters.Given as goal
 
-abbrev pub invariant-loop-i : goal.invariant-loop-i
-invariant-loop-i l = (l.i ≤ length l.s) × (boundary l.s l.i ≡ true) × (l.n ≡ characters (take l.i l.s))
-
-abbrev pub decreases-loop-i : goal.decreases-loop-i
-decreases-loop-i l = length l.s - l.i
+abbrev pub invariant-loop-b : goal.invariant-loop-b
+invariant-loop-b l = l.n ≡ count_by (λ b. not (tail b)) (take l.b-index l.s)

@@ -5,8 +5,4 @@ use Rattle.text.proofs.Valid.{valid-past}
 use Rattle.text.proofs.utf8.valid_up_to.Goals as goal
 
 pub returns-then-ascii-s : goal.returns-then-ascii-s
-returns-then-ascii-s c = omega (
-  arith,
-  c.past_all_blocks-ascii.ensures.same,
-  valid-past c.args.s.now c.past_all_blocks-ascii.result (omega arith),
-)
+returns-then-ascii-s c = grind (arith, valid-past)

@@ -1,0 +1,2 @@
+-- What a count of stored cases says.
+pub mod Counted
