@@ -10,6 +10,7 @@ use Prim.Native.Nat.{ℕ, suc, ◌+◌, ◌-◌, ◌≤◌, ◌<◌}
 use native.Mathlib.Omega.{arith}
 use borrow.Author.Tests.{eq-eqb, ne_eqb, lt-ltb, le-ltb, lt-leb, le-leb}
 use lib.Dec.{eqb, ltb, leb}
+use lib.Ieee.{Float}
 use lib.ListN.{length, get_or, take, drop, length-drop}
 use lib.Seq.{take-suc, get_or-drop, take-add}
 use Rattle.doubles.specs.Double.{Double, plus_zero, sum, is_number}
@@ -18,17 +19,19 @@ use Rattle.text.specs.Text.{well_formed, boundary, next, part}
 use Rattle.text.proofs.Boundaries.{boundary-le, next-above, next-inside, next-boundary, next-first}
 use Rattle.trie.specs.Trie.{step, walk, id_at}
 use Rattle.trie.proofs.Every.{both, fails}
-use Rattle.trie.proofs.Walking.{walk-snoc, walk-append-none, walk-nil}
+use Rattle.trie.specs.Walks.{Stands}
+use Rattle.trie.proofs.SoundParts.{sound-of, scored-of}
+use Rattle.trie.proofs.Walking.{walk-snoc, walk-append-none, walk-nil, step-inside, walk_inside, id_there}
 use Rattle.cutting.specs.Cuttings.{Piece, Slot, nth}
 use Rattle.cutting.specs.Records.{candidate}
 use Rattle.unigram.specs.Pieces.{Model, piece_at, known, piece_of, rule}
 use Rattle.cutting.specs.Slots.{Slots, slot_at, PutAt, taken, after_offer}
 use Rattle.cutting.specs.Law.{Holds}
-use Rattle.unigram.specs.Work.{ends_here, Ended, known_to, KnownOffered, Ready, Recorded}
+use Rattle.unigram.specs.Work.{ends_here, Ended, known_to, Walkable, KnownOffered, Ready, Come, Recorded}
 use Rattle.refusal.specs.Refusal.{first}
 use Rattle.refusal.proofs.Lists.{true-false, below_or}
 use Rattle.cutting.proofs.Working.{Pieces, stands_at, looked}
-use Rattle.cutting.proofs.Best.{is_true, stands-counts}
+use Rattle.cutting.proofs.Best.{is_true, stands-counts, same-slot}
 use Rattle.cutting.proofs.Holding.{after_offers, AllOffered, stands-held, offered-past, holds_more, holds-jumped, recorded}
 use Rattle.unigram.proofs.Given.{piece_here, given, boundary-stands, starts-on, piece-between, between}
 use Rattle.cutting.proofs.Columns.{put_as, put_back, Filled, filled_of, filled_more, filled-below, filled-above}
@@ -60,7 +63,7 @@ or-that false false = refl
 
 module _ (m : Model) (s : List ℕ) (node i one : ℕ) (single : Bool) (at : ℕ) (x : Double) (b : Slots) where
   -- no piece ends here
-  pub ended-none : ends_here m s node i ≡ None → Ended m s node i one single at x b b single
+  ended-none : ends_here m s node i ≡ None → Ended m s node i one single at x b b single
   unfolding after_offer
   ended-none e =
       record {
@@ -68,13 +71,29 @@ module _ (m : Model) (s : List ℕ) (node i one : ℕ) (single : Bool) (at : ℕ
         seen = or_nothing single (eqb i one) ∙ ap (λ (o : Option Piece). single || (eqb i one && is_some o)) (sym e);
       }
 
-  -- a piece does
-  pub ended_some : (p : Piece) (a : Slots) (r : Bool) → ends_here m s node i ≡ Some p → PutAt b i (taken (slot_at b i) (candidate x at p)) a → r ≡ (single || eqb i one) → Ended m s node i one single at x b a r
-  unfolding after_offer
-  ended_some p a r e put seen =
+  -- the position is no boundary, or the node has no id
+  pub ended-inside : boundary s i ≡ false → Ended m s node i one single at x b b single
+  ended-inside e = ended-none (ends_is m node s i e)
+
+  pub ended_nameless : boundary s i ≡ true → id_at m.trie node ≡ None → Ended m s node i one single at x b b single
+  ended_nameless e h = ended-none (ends_is m node s i e ∙ piece_is m node h)
+
+  -- a piece does, and is offered
+  pub ended_some :
+      {q : Slot} {a : Slots} {r : Bool} → boundary s i ≡ true → id_at m.trie node ≡ Some q.id → q.start ≡ at
+      → q.score ≡ sum x (get_or m.score node plus_zero)
+      → PutAt b i (taken (slot_at b i) q) a → r ≡ (single || eqb i one)
+      → Ended m s node i one single at x b a r
+  unfolding after_offer candidate
+  ended_some {q} e h start score put seen =
+      let p : Piece = record { id = q.id; score = get_or m.score node plus_zero } in
+      let ends : ends_here m s node i ≡ Some p = ends_is m node s i e ∙ piece_is m node h in
       record {
-        put = put_as put (ap (λ (o : Option Piece). after_offer o x at (slot_at b i)) (sym e));
-        seen = seen ∙ or-that single (eqb i one) ∙ ap (λ (o : Option Piece). single || (eqb i one && is_some o)) (sym e);
+        put =
+            put_as put
+            (ap (taken (slot_at b i)) (same-slot q (candidate x at p) start refl score)
+            ∙ ap (λ (o : Option Piece). after_offer o x at (slot_at b i)) (sym ends));
+        seen = seen ∙ or-that single (eqb i one) ∙ ap (λ (o : Option Piece). single || (eqb i one && is_some o)) (sym ends);
       }
 
 -- ---- the string that a walk from `at` has come to
@@ -229,6 +248,45 @@ module _ (m : Model) (s : List ℕ) (at one : ℕ) (x : Double) (b : Slots) wher
         seen = o.seen ∙ ⊎_elim (λ (l : i < one). ap (λ (t : Bool). t && is_some (known_to m s at one)) (lt-leb one i l) ∙ ap is_some (sym (none-past one l))) (λ (l : one ≤ i). ap (λ (t : Bool). t && is_some (known_to m s at one)) (le-leb one i l)) (below_or i one);
       }
 
+-- The walk has come to `node` at i, and each string that ends by i has been offered. A walk in sound parts stands on a node, so a
+-- further step may be made, and where that leads there are an id and a score.
+pub record Walked (m : Model) (s : List ℕ) (at one : ℕ) (x : Double) (b : Slots) (i node : ℕ) (now : Slots) (single : Bool) : Type 0 where
+  pub here : walk m.trie 0 (part s at i) ≡ Some node
+  pub offered : Offered m s at one x b i now single
+
+module _ {m : Model} {s : List ℕ} {at one : ℕ} {x : Double} {b : Slots} (able : Walkable m s at one) where
+  pub walked-first : Walked m s at one x b at 0 b false
+  walked-first = record { here = walk-none-yet m s at; offered = offered-none m s at one x b able.ahead }
+
+  module _ {i node : ℕ} {now : Slots} {single : Bool} (w : Walked m s at one x b i node now single) where
+    pub walked-stands : Stands m.trie node
+    walked-stands =
+        let root = (sound-of m.trie able.parts).some-node in
+        record { ids = m.trie.id; parts = able.parts; inside = walk_inside m.trie able.parts 0 (part s at i) root w.here }
+
+    -- at the text's end
+    pub walked-all : length s ≤ i → KnownOffered m s at one x b now single
+    walked-all l = offered-all m s at one x b w.offered (λ j h. known_past m s at j (omega arith))
+
+    module _ (from : at ≤ i) (below : i < length s) where
+      -- where it stops
+      pub walked-over : step m.trie node (get_or s i 0) ≡ None → KnownOffered m s at one x b now single
+      walked-over e = offered-all m s at one x b w.offered (walk-over m s at i node from below w.here e)
+
+      -- a byte further
+      module _ {j : ℕ} (e : step m.trie node (get_or s i 0) ≡ Some j) where
+        on : walk m.trie 0 (part s at (i + 1)) ≡ Some j
+        on = walk-on m s at i node from below w.here j e
+
+        pub next_there : (j < length m.trie.id) × (j < length m.score)
+        next_there =
+            let inside = step-inside m.trie able.parts node (get_or s i 0) walked-stands.inside e in
+            (id_there m.trie able.parts (part s at (i + 1)) on, omega (arith, inside, able.level-score))
+
+        pub walked-more :
+            {after : Slots} {r : Bool} → Ended m s j (i + 1) one single at x now after r → Walked m s at one x b (i + 1) j after r
+        walked-more p = record { here = on; offered = offered-more m s at one x b from on w.offered p }
+
 -- ---- with the one character that has no id, that is every piece
 
 -- each piece from `at` has been offered
@@ -366,3 +424,50 @@ worked-all {m} {s} ready at on below {r} {x} {before} {after} there h e o =
         holds-jumped laws (next-above s well at on below)
         (λ i j k p a b q. true-false (starts-on m s well ready.sound i j k p q) (next-first s well at on below i a b))
         (holds_more laws (omega arith) (omega (arith, ready.size)) h stands all)
+
+-- what is offered at the boundary that the work has come to
+module _
+    {m : Model} {s : List ℕ} {at : ℕ} {starts ids : List ℕ} {scores : List Float} {before : Slots}
+    (c : Come m s at starts ids scores before)
+  where
+    -- the next boundary is inside, and a walk may be begun
+    module _ {one : ℕ} (there : one ≡ next s at) where
+      pub one_inside : one ≤ length s
+      one_inside = omega (arith, next-inside s c.ready.well at c.boundary c.below)
+
+      pub walkable : Walkable m s at one
+      walkable =
+          let facts = scored-of _ _ _ c.ready.sound in
+          record {
+            parts = facts.parts;
+            level-score = facts.level-score;
+            inside = omega (arith, c.below);
+            ahead = omega (arith, next-above s c.ready.well at c.boundary c.below);
+            size = c.ready.size;
+          }
+
+    module _
+        {one : ℕ} {x : Double} {after : Slots} {r : Bool} (there : one ≡ next s at) (stood : x ≡ (slot_at before at).score)
+        (o : KnownOffered m s at one x before after r)
+      where
+        offered : KnownOffered m s at (next s at) x before after r
+        offered = subst (λ (n : ℕ). KnownOffered m s at n x before after r) there o
+
+        done : {last : Slots} → EachOffered m s at x before last → (one ≡ next s at) × Recorded m s one before last
+        done e = (there, worked-all c.ready at c.boundary c.below there c.holds stood e)
+
+        pub worked_known : r ≡ true → (one ≡ next s at) × Recorded m s one before after
+        worked_known e = done (all_known m s at c.boundary c.ready.well c.below offered e)
+
+        pub worked_unknown :
+            {q : Slot} {last : Slots} → r ≡ false → q.start ≡ at → q.id ≡ m.unknown.id → q.score ≡ sum x m.unknown.score
+            → PutAt after one (taken (slot_at after one) q) last
+            → (one ≡ next s at) × Recorded m s one before last
+        unfolding candidate
+        worked_unknown {q} {last} e start id score put =
+            let p : Slot = candidate x at m.unknown in
+            let same : q ≡ p = same-slot q p start id score in
+            let at_next = subst (λ (n : ℕ). PutAt after n (taken (slot_at after n) q) last) there put in
+            done
+            (all-unknown m s at c.boundary c.ready.well c.below offered e
+            (put_as at_next (ap (taken (slot_at after (next s at))) same)))

@@ -242,7 +242,11 @@ module _ (id_of : ℕ → ℕ → Option ℕ) (unknown limit : ℕ) (slot_ids pa
           rest = placed-rest p fits ∙ rest_more ids before n r (omega (arith, p.next)) g.rest;
         }
 
-    -- at the end the run's id is written
+    -- at the end the run's id has room
+    pub end_room : run < at → length path ≤ length before → n < length ids
+    end_room l room = omega (arith, g.few, g.level, g.within, ap length (ids-there id_of unknown run at l))
+
+    -- and is written
     pub going_end :
         {after : List ℕ} {r : ℕ} → length path ≤ k → length path ≤ length before → Placed (run_ids id_of unknown run at) ids n after r
         → let all = merged id_of unknown None 0 (steps_at slot_ids path) in (r ≡ length all) × (after ≡ overlay all before)

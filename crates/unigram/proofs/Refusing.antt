@@ -1,8 +1,8 @@
 -- `segment`: which test gives which fault, what is tested where there is none, and the promise from the fault, from an empty
 -- text, or from the cutting. Assumes nothing.
-use Rattle.std.specs.Prelude.{None, Some, Ok, Err, ℕ}
+use Rattle.std.specs.Prelude.{Option, None, Some, Ok, Err, ℕ}
 use mathlib.Core.Path.{◌≡◌, refl, sym, ap, ◌∙◌}
-use mathlib.Core.Bool.{Bool, true, false, ◌&&◌, ◌||◌, cond}
+use mathlib.Core.Bool.{Bool, true, false, ◌&&◌, ◌||◌, cond, not}
 use mathlib.Core.List.{List, [], ◌∷◌}
 use mathlib.Core.Logic.{⊎_elim}
 use Prim.Native.Nat.{ℕ, ◌+◌, ◌≤◌, ◌<◌}
@@ -14,26 +14,51 @@ use lib.ListN.{length, length-map}
 use Rattle.doubles.specs.Units.{units}
 use Rattle.refusal.specs.declared.Fault.{Fault}
 use Rattle.refusal.specs.declared.Fault.TheVariants as fault
-use Rattle.refusal.specs.Refusal.{refuse}
+use Rattle.refusal.specs.Refusal.{refuse, first}
+use Rattle.refusal.specs.Sizes.{max_text}
 use Rattle.refusal.proofs.Tests.{found, not_found, found_first, none_first, passed, both-passed, Not, refused-so, first_so, nothing-so}
 use Rattle.refusal.proofs.Codings.{coded-refused, coded-ids}
 use Rattle.refusal.proofs.Lists.{zero_one, true-false, below_or}
-use Rattle.text.specs.Text.{characters}
+use Rattle.text.specs.Text.{text_fault, characters}
 use Rattle.text.proofs.Boundaries.{characters-le}
 use Rattle.trie.specs.Lookup.{lookup_fault}
 use Rattle.trie.proofs.Lookups.{lookup-fine, sound-lookup}
 use Rattle.build.specs.Memory.{any_below}
-use Rattle.cutting.specs.Slots.{Inside}
+use Rattle.cutting.specs.Slots.{Slots, Inside}
 use Rattle.unigram.specs.Pieces.{Model, pieces_of, part_id, ids_of}
 use Rattle.unigram.specs.Segment.{Scratch, Lengths, lengths, lengths_of, short_scratch, segment_fault, sound_model, written, writes, Segmented}
-use Rattle.unigram.specs.Work.{Ready}
+use Rattle.unigram.specs.Work.{Ready, BestCutting}
 use Rattle.unigram.specs.Checked.{scratch_of}
 use Rattle.unigram.proofs.Merging.{merged-few}
-use Rattle.unigram.proofs.Segmenting.{pieces-few, law-held}
+use Rattle.unigram.proofs.Segmenting.{pieces-few, law-held, front-few}
 
 -- ---- which fault
 
 module _ (parts : Bool) (s : List ℕ) (n : Lengths) where
+  -- the tests in their order
+  pub first_fault :
+      segment_fault parts s n
+      ≡ cond (ltb max_text (length s)) (Some fault.Size)
+      (cond parts
+      (first (text_fault s)
+      (cond (ltb 0 (length s) && (any_below (length s + 1) n.slots || ltb n.path (characters s))) (Some fault.Scratch)
+      (cond (ltb n.ids (characters s)) (Some fault.Ids) None)))
+      (Some fault.Trie))
+  unfolding segment_fault lookup_fault short_scratch refuse first
+  first_fault = by_tests (ltb max_text (length s)) parts _ (ltb n.ids (characters s)) (text_fault s)
+    where
+      by_tests :
+          (size sound short few : Bool) (text : Option Fault)
+          → first (refuse size fault.Size (refuse (not sound) fault.Trie text))
+          (refuse short fault.Scratch (refuse few fault.Ids None))
+          ≡ cond size (Some fault.Size)
+          (cond sound (first text (cond short (Some fault.Scratch) (cond few (Some fault.Ids) None))) (Some fault.Trie))
+      by_tests true sound short few text = refl
+      by_tests false false short few text = refl
+      by_tests false true true few text = refl
+      by_tests false true false true text = refl
+      by_tests false true false false text = refl
+
   pub fault-early : {f : Fault} → lookup_fault parts s ≡ Some f → segment_fault parts s n ≡ Some f
   unfolding segment_fault
   fault-early e = found_first _ e
@@ -150,6 +175,15 @@ pub lengths-are :
 lengths-are starts ids scores path places =
     ap (λ (n : ℕ). lengths (length starts) (length ids) n (length path) (length places)) (length-map scores units)
 
+-- what is found in columns of so many places is refused
+pub refused-found :
+    (m : Model) (s starts ids : List ℕ) (scores : List Float) (path places : List ℕ) {tested : Bool} {f : Fault}
+    → tested ≡ sound_model m
+    → segment_fault tested s (lengths (length starts) (length ids) (length scores) (length path) (length places)) ≡ Some f
+    → let b = scratch_of starts ids scores path places in Segmented m s b (Err f) b
+refused-found m s starts ids scores path places same found =
+    refused-for m s (scratch_of starts ids scores path places) (rw (lengths-are starts ids scores path places, ← same) found)
+
 -- all that can be refused has been tested; an empty text asks for no slots
 pub record Prepared (m : Model) (s starts slot_ids : List ℕ) (scores : List Float) (paths places : List ℕ) : Type 0 where
   pub ready : Ready m s
@@ -175,3 +209,10 @@ prepared-for m s starts ids scores path places None-found =
       path = ⊎_elim (λ (h : 0 < n). (all h).3) (λ (h : n ≤ 0). omega (arith, characters-le s)) (below_or 0 n);
       ids = enough-ids (sound_model m) s lent free;
     }
+
+-- and the path has a place for each piece
+pub path_room :
+    {m : Model} {s starts ids : List ℕ} {scores : List Float} {path places path' : List ℕ} {b a : Slots} {n : ℕ}
+    → Prepared m s starts ids scores path places → BestCutting m s b path a path' n → length path' ≡ length path
+    → n ≤ length path'
+path_room p w level = omega (arith, front-few p.ready w, p.path)

@@ -1,9 +1,7 @@
 -- What the work at one boundary does to the slots, and what it rests on. Definitions only; assumes nothing.
-use Rattle.std.specs.Prelude.{◌≡◌, ℕ, ◌≤◌, ◌<◌, Bool, true, false, ◌&&◌, ◌||◌, List, map, ltb, eqb, Float, length, Option, None, is_some, Some}
+use Rattle.std.specs.Prelude.{◌≡◌, ℕ, ◌≤◌, ◌<◌, Bool, true, false, ◌&&◌, ◌||◌, List, map, ltb, eqb, Float, length, Option, None, is_some}
 use Rattle.doubles.specs.Double.{Double}
 use Rattle.doubles.specs.Units.{units}
-use Rattle.std.specs.Borrow.{Bor}
-use Rattle.refusal.specs.Lent.{Lent, was}
 use Rattle.refusal.specs.Sizes.{max_text}
 use Rattle.text.specs.Text.{well_formed, boundary, part}
 use Rattle.trie.specs.Trie.{parts_of}
@@ -12,24 +10,21 @@ use Rattle.cutting.specs.Cuttings.{Piece}
 use Rattle.cutting.specs.Slots.{Slots, slot_at, after_offer, Inside, PutAt}
 use Rattle.cutting.specs.Law.{Holds, path_left}
 use Rattle.cutting.specs.Law as law
+use Rattle.unigram.specs.declared.Model as lent
 use Rattle.unigram.specs.Segment.{sound_model}
 use Rattle.unigram.specs.Pieces.{Model, piece_at, known, rule, pieces_of}
 
--- the model in lent columns
+-- the model that lent columns hold
 abbrev pub model_of : List ℕ → List ℕ → List ℕ → List Float → List ℕ → List ℕ → ℕ → Float → Model
 model_of edge_at edge_n id score byte to unknown unknown_score =
     let piece : Piece = record { id = unknown; score = units unknown_score } in
     record { trie = parts_of edge_at edge_n id byte to; score = map units score; unknown = piece }
 
--- the same as a contract names the columns: as the call found them, and in a `requires`
-abbrev pub model : Lent ℕ → Lent ℕ → Lent ℕ → Lent Float → Lent ℕ → Lent ℕ → ℕ → Float → Model
-model edge_at edge_n id score byte to unknown unknown_score =
-    model_of (was edge_at) (was edge_n) (was id) (was score) (was byte) (was to) unknown unknown_score
-
-abbrev pub model_now :
-    Bor (List ℕ) → Bor (List ℕ) → Bor (List ℕ) → Bor (List Float) → Bor (List ℕ) → Bor (List ℕ) → ℕ → Float → Model
-model_now edge_at edge_n id score byte to unknown unknown_score =
-    model_of edge_at.now edge_n.now id.now score.now byte.now to.now unknown unknown_score
+-- the same as a contract names it
+abbrev pub model : lent.Model → Model
+model m =
+    let t = m.trie in
+    model_of t.edge_at.now t.edge_n.now t.id.now m.score.now t.byte.now t.to.now m.unknown m.unknown_score
 
 -- the piece that node k ends at i, if i is a boundary
 unfoldable pub ends_here : Model → List ℕ → ℕ → ℕ → Option Piece
@@ -47,9 +42,9 @@ unfoldable pub known_to : Model → List ℕ → ℕ → ℕ → Option Piece
 known_to m s at j = elim (ltb at j && boundary s j) [ true ↦ known m (part s at j) | false ↦ None ]
 
 -- a walk may be begun at `at`, in sound parts with a score for each node; `one` is past it, and the text is within the limit
-pub record Walkable (edge_at edge_n id : List ℕ) (score : List Float) (byte to s : List ℕ) (at one : ℕ) : Type 0 where
-  pub parts : sound (parts_of edge_at edge_n id byte to) ≡ true
-  pub level-score : length score ≡ length edge_at
+pub record Walkable (m : Model) (s : List ℕ) (at one : ℕ) : Type 0 where
+  pub parts : sound m.trie ≡ true
+  pub level-score : length m.score ≡ length m.trie.edge_at
   pub inside : at ≤ length s
   pub ahead : at < one
   pub size : length s ≤ max_text

@@ -3,24 +3,18 @@ ghost use Rattle.std.specs.Result.{result_err};
 ghost use Rattle.std.specs.Prelude.{◌≡◌, ◌&&◌, ◌||◌, [], ◌∷◌, ◌+◌, ltb, None, Ok};
 ghost use Rattle.build.specs.Memory.{any_below};
 ghost use Rattle.unigram.specs.Segment.{lengths, lengths_of, segment_fault, sound_model, Segmented};
-ghost use Rattle.unigram.specs.Work.{model, model_now};
+ghost use Rattle.unigram.specs.Work.{model};
 ghost use Rattle.unigram.specs.Checked.{scratch_is, scratch_now, scratch_was};
 ghost use Rattle.refusal.specs.Lent.{was};
 
+use crate::Model;
 use refusal::{Fault, MAX_TEXT};
 
 // Nothing is refused here: the parts are sound, the text is well-formed and within the limit, and there are enough places. The
 // ids of the best cutting go to the first id places, the ends of its pieces to the first path places, the records to the slots;
 // an empty text writes nothing. Answers how many ids there are.
 pub fn segment(
-    edge_at: &[u32],
-    edge_n: &[u16],
-    id: &[u32],
-    score: &[f64],
-    byte: &[u8],
-    to: &[u32],
-    unknown: u32,
-    unknown_score: f64,
+    m: &Model,
     text: &[u8],
     start: &mut [u32],
     slot_id: &mut [u32],
@@ -28,44 +22,20 @@ pub fn segment(
     path: &mut [u32],
     ids: &mut [u32],
 ) -> usize
-    requires { segment_fault (sound_model (model_now edge_at edge_n id score byte to unknown unknown_score)) text.now
-        (lengths_of (scratch_now start slot_id slot_score path ids)) ≡ None }
-    ensures { Segmented (model edge_at edge_n id score byte to unknown unknown_score) (was text)
-        (scratch_was start slot_id slot_score path ids) (Ok result) (scratch_is start slot_id slot_score path ids) }
+    requires { segment_fault (sound_model (model m.now)) text.now (lengths_of (scratch_now start slot_id slot_score path
+        ids)) ≡ None }
+    ensures { Segmented (model m.now) (was text) (scratch_was start slot_id slot_score path ids) (Ok result)
+        (scratch_is start slot_id slot_score path ids) }
 {
     if text.len() == 0 {
         return 0;
     }
-    let pieces = crate::lattice::best_cutting(
-        edge_at,
-        edge_n,
-        id,
-        score,
-        byte,
-        to,
-        unknown,
-        unknown_score,
-        text,
-        start,
-        slot_id,
-        slot_score,
-        path,
-    );
-    crate::runs::merge(
-        edge_at,
-        edge_n,
-        id,
-        byte,
-        to,
-        unknown,
-        text,
-        slot_id,
-        &path[..pieces],
-        ids,
-    )
+    let pieces = crate::lattice::best_cutting(m, text, start, slot_id, slot_score, path);
+    crate::runs::merge(m, text, slot_id, &path[..pieces], ids)
 }
 
 // Non-empty text, and fewer slots in a column than bytes + 1, or fewer path places than characters.
+#[tactic(auto, unfolding(build::specs::Memory::any_below))]
 fn short_scratch(
     bytes: usize,
     characters: usize,
@@ -77,23 +47,13 @@ fn short_scratch(
     ensures { result ≡ (ltb 0 bytes && (any_below (bytes + 1) (starts ∷ slot_ids ∷ slot_scores ∷ []) || ltb places
         characters)) }
 {
-    if bytes == 0 {
-        return false;
-    }
-    if starts <= bytes {
-        return true;
-    }
-    if slot_ids <= bytes {
-        return true;
-    }
-    if slot_scores <= bytes {
-        return true;
-    }
-    places < characters
+    0 < bytes
+        && (starts <= bytes || slot_ids <= bytes || slot_scores <= bytes || places < characters)
 }
 
 // The first fault of a call of `segment` in parts that are sound or not, lent so many places: the size, the parts, the text,
 // the scratch, the id places.
+#[tactic(auto, using(crate::proofs::Refusing::first_fault), unfolding(refusal::specs::Refusal::first))]
 fn judge(
     sound: bool,
     text: &[u8],
@@ -122,17 +82,11 @@ fn judge(
     Ok(())
 }
 
-// As `unigram::segment`, where the parts have been tested: `sound` is what was found. So that one test serves many texts.
+// As `unigram::segment`, where the parts have been tested: `sound` is what was found. So that one test serves many texts. It is
+// told, and not asked for, since the promise speaks of parts that are not sound too: what is refused before them comes first.
 pub fn segment_tested(
+    m: &Model,
     sound: bool,
-    edge_at: &[u32],
-    edge_n: &[u16],
-    id: &[u32],
-    score: &[f64],
-    byte: &[u8],
-    to: &[u32],
-    unknown: u32,
-    unknown_score: f64,
     text: &[u8],
     start: &mut [u32],
     slot_id: &mut [u32],
@@ -140,9 +94,9 @@ pub fn segment_tested(
     path: &mut [u32],
     ids: &mut [u32],
 ) -> Result<usize, Fault>
-    requires { sound ≡ sound_model (model_now edge_at edge_n id score byte to unknown unknown_score) }
-    ensures { Segmented (model edge_at edge_n id score byte to unknown unknown_score) (was text)
-        (scratch_was start slot_id slot_score path ids) result (scratch_is start slot_id slot_score path ids) }
+    requires { sound ≡ sound_model (model m.now) }
+    ensures { Segmented (model m.now) (was text) (scratch_was start slot_id slot_score path ids) result
+        (scratch_is start slot_id slot_score path ids) }
 {
     judge(
         sound,
@@ -153,20 +107,5 @@ pub fn segment_tested(
         path.len(),
         ids.len(),
     )?;
-    Ok(segment(
-        edge_at,
-        edge_n,
-        id,
-        score,
-        byte,
-        to,
-        unknown,
-        unknown_score,
-        text,
-        start,
-        slot_id,
-        slot_score,
-        path,
-        ids,
-    ))
+    Ok(segment(m, text, start, slot_id, slot_score, path, ids))
 }
