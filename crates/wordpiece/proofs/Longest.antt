@@ -5,6 +5,7 @@ use mathlib.Core.Path.{◌≡◌, refl, sym, ap, ◌∙◌}
 use mathlib.Core.Bool.{Bool, true, false, not, ◌&&◌, cond}
 use mathlib.Core.List.{List, [], ◌∷◌, ◌++◌}
 use Prim.Native.Nat.{ℕ, zero, suc, ◌+◌, ◌-◌, ◌≤◌, ◌<◌}
+use native.Mathlib.Numerals.{add-one}
 use native.Mathlib.Omega.{arith}
 use native.Mathlib.Decide.{dec_lt}
 use borrow.Author.Tests.{lt-ltb, le-ltb, ltb-true, eqb-true, eqb-false, eq-eqb, ne_eqb}
@@ -17,10 +18,12 @@ use Rattle.refusal.proofs.Tests.{none_first}
 use Rattle.refusal.specs.Sizes.{no_id}
 use Rattle.text.specs.Text.{boundary, part}
 use Rattle.trie.specs.Trie.{Trie, walk, step, id_at, id_from}
+use Rattle.trie.specs.Sound.{sound}
 use Rattle.trie.proofs.Every as every
-use Rattle.trie.proofs.Walking.{walk-snoc, walk-append-none, from-none, from_some, id-none, id-some}
+use Rattle.trie.proofs.SoundParts.{sound-of}
+use Rattle.trie.proofs.Walking.{walk-nil, walk-snoc, walk-append-none, from-none, from_some, step-inside, walk_inside}
 use Rattle.wordpiece.specs.Pieces.{Found, piece_to, longest_to}
-use Rattle.wordpiece.specs.Checked.{found_since}
+use Rattle.wordpiece.specs.Checked.{found_since, NodeOf}
 
 -- ---- parts of a word
 
@@ -55,29 +58,14 @@ since-found i end x h = ap (λ (b : Bool). cond b None (Some (piece-to end x))) 
 pub since_none : (i end x : ℕ) → end ≡ i → found_since i end x ≡ None
 since_none i end x e = ap (λ (b : Bool). cond b None (Some (piece-to end x))) (eq-eqb end i e)
 
--- the piece that ends at j with this id, where j may be an end; and by a test
+-- the piece that ends at j with this id, where j may be an end
 abbrev pub end_at : Bool → ℕ → Option ℕ → Option Found
 end_at b j id = cond b (option_map (piece-to j) id) None
 
-abbrev pub found_if : Bool → ℕ → ℕ → Option Found
-found_if b j x = cond b (Some (piece-to j x)) None
-
--- whether a node's place holds an id, by what its id is
-pub id-told : (t : Trie) (k : ℕ) {o : Option ℕ} → k < length t.id → id_at t k ≡ o → not (eqb (get_or t.id k 0) no_id) ≡ elim o [ None ↦ false | Some x ↦ true ]
-id-told t k {o} h e = go (eqb (get_or t.id k 0) no_id) refl
-  where
-    go : (b : Bool) → eqb (get_or t.id k 0) no_id ≡ b → not (eqb (get_or t.id k 0) no_id) ≡ elim o [ None ↦ false | Some x ↦ true ]
-    go true p = rw (← e, id-none t k h (eqb-true (get_or t.id k 0) no_id p), p)
-    go false p = rw (← e, id-some t k h (eqb-false (get_or t.id k 0) no_id p), p)
-
--- what ends at a node, by what its place holds
-pub ends_is : (t : Trie) (k j : ℕ) (b : Bool) → k < length t.id → end_at b j (id_at t k) ≡ found_if (b && not (eqb (get_or t.id k 0) no_id)) j (get_or t.id k 0)
-ends_is t k j false h = refl
-ends_is t k j true h = go (eqb (get_or t.id k 0) no_id) refl
-  where
-    go : (c : Bool) → eqb (get_or t.id k 0) no_id ≡ c → end_at true j (id_at t k) ≡ found_if (not (eqb (get_or t.id k 0) no_id)) j (get_or t.id k 0)
-    go true p = rw (id-none t k h (eqb-true (get_or t.id k 0) no_id p), p)
-    go false p = rw (id-some t k h (eqb-false (get_or t.id k 0) no_id p), p)
+-- the test may come first
+end-told : (b : Bool) (j : ℕ) (o : Option ℕ) → end_at b j o ≡ option_map (piece-to j) (cond b o None)
+end-told true j o = refl
+end-told false j o = refl
 
 -- ---- in any look-up, where p stands before the piece
 
@@ -155,3 +143,72 @@ module _ (t : Trie) (k : ℕ) (w : List ℕ) (i : ℕ) where
       none-at : (m : ℕ) → j < m → walk t k (part w i m) ≡ None
       none-at m q =
           ap (walk t k) (part-on w i (suc j) m (omega arith) q) ∙ walk-append-none t k (part w i (suc j)) (part w (suc j) m) stopped
+
+-- ---- nodes of sound parts
+
+module _ (t : Trie) (tested : sound t ≡ true) where
+  pub root_node : NodeOf t 0
+  root_node = record { parts = tested; inside = (sound-of t tested).some-node }
+
+  -- and where a walk over s from the root ends
+  pub walk_node : (s : List ℕ) {k : ℕ} → walk t 0 s ≡ Some k → NodeOf t k
+  walk_node s e = record { parts = tested; inside = walk_inside t tested 0 s root_node.inside e }
+
+-- ---- the loop that looks for it
+
+-- the walk over the bytes of w from i on, begun at node k, has come to j and to the node; the longest piece that ends at j or
+-- before is told by where it ends and its id
+pub record Come (t : Trie) (k : ℕ) (w : List ℕ) (i node j end id : ℕ) : Type 0 where
+  pub at : NodeOf t node
+  pub walked : walk t k (part w i j) ≡ Some node
+  pub longest : found_since i end id ≡ longest_to (id_from t k) [] w i j
+
+module _ (t : Trie) (k : ℕ) (w : List ℕ) (i : ℕ) where
+  pub come-start : (id : ℕ) → NodeOf t k → Come t k w i k i i id
+  come-start id at =
+      let none_yet : i - i ≡ 0 = omega arith in
+      record {
+        at = at;
+        walked = ap (λ (n : ℕ). walk t k (take n (drop i w))) none_yet ∙ walk-nil t k;
+        longest = since_none i i id refl ∙ sym (longest-start (id_from t k) [] w i i (omega arith));
+      }
+
+  module _ {node j end id : ℕ} (come : Come t k w i node j end id) (above : i ≤ j) (below : j < length w) where
+    -- no step
+    pub come-stop : step t node (get_or w j 0) ≡ None → found_since i end id ≡ longest_to (id_from t k) [] w i (length w)
+    come-stop stop = come.longest ∙ sym (longest-stops t k w i j above below come.walked stop)
+
+    module _ {m : ℕ} (led : step t node (get_or w j 0) ≡ Some m) where
+      -- the node that it leads to, and that node's place among the ids
+      come-at : NodeOf t m
+      come-at = record { parts = come.at.parts; inside = step-inside t come.at.parts node (get_or w j 0) come.at.inside led }
+
+      pub come-id : m < length t.id
+      come-id = omega (arith, come-at.inside, (sound-of t come.at.parts).level-id)
+
+      -- a step to m, by the piece that ends there
+      come-on :
+          (o : Option ℕ) → cond (boundary w (j + 1)) (id_at t m) None ≡ o → (end' id' : ℕ)
+          → found_since i end' id' ≡ first (option_map (piece-to (j + 1)) o) (found_since i end id)
+          → Come t k w i m (j + 1) end' id'
+      come-on o told end' id' best =
+          let one : j + 1 ≡ suc j = add-one j in
+          let on = rw (← one) at (longest-step t k w i j above below come.walked led) in
+          let piece : option_map (piece-to (j + 1)) o ≡ end_at (boundary w (j + 1)) (j + 1) (id_at t m) =
+          sym (end-told (boundary w (j + 1)) (j + 1) (id_at t m) ∙ ap (option_map (piece-to (j + 1))) told) in
+          record {
+            at = come-at;
+            walked = on.0;
+            longest =
+                best ∙ ap (λ (p : Option Found). first p (found_since i end id)) piece
+                ∙ ap (first (end_at (boundary w (j + 1)) (j + 1) (id_at t m))) come.longest
+                ∙ sym on.1;
+          }
+
+      pub come-past : cond (boundary w (j + 1)) (id_at t m) None ≡ None → Come t k w i m (j + 1) end id
+      unfolding first
+      come-past told = come-on None told end id refl
+
+      pub come-piece : {x : ℕ} → cond (boundary w (j + 1)) (id_at t m) None ≡ Some x → Come t k w i m (j + 1) (j + 1) x
+      unfolding first
+      come-piece {x} told = come-on (Some x) told (j + 1) x (since-found i (j + 1) x (λ e. omega arith))

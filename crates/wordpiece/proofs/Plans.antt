@@ -3,20 +3,21 @@
 use Rattle.std.specs.Prelude.{Option, None, Some, option_and_then, option_map, ℕ}
 use mathlib.Core.Path.{◌≡◌, refl, sym, ap, ◌∙◌}
 use mathlib.Core.Bool.{Bool, true, false, cond}
-use mathlib.Core.List.{List, [], ◌∷◌, ◌++◌}
+use mathlib.Core.List.{List, [], ◌∷◌, ◌++◌, append-nil}
+use borrow.Rule.Slice.PartMut.{put_mid}
 use Prim.Native.Nat.{ℕ, suc, ◌+◌, ◌-◌, ◌≤◌, ◌<◌}
 use native.Mathlib.Omega.{arith}
 use borrow.Author.Tests.{le-ltb}
 use lib.Dec.{ltb}
-use lib.ListN.{length, take, drop}
-use lib.Seq.{sets, length-sets, sets-eq, take_at}
+use lib.ListN.{length, set, take, drop, drop_of_length-le}
+use lib.Seq.{sets, length-sets, sets-eq, take_at, take_all}
 use Rattle.refusal.proofs.Lists.{none-some}
 use Rattle.refusal.specs.Places.{overlay}
 use Rattle.text.specs.Text.{well_formed, characters}
 use Rattle.text.proofs.Boundaries.{characters-le, boundary-zero}
 use Rattle.trie.specs.Trie.{Trie, walk, id_from, id_of}
 use Rattle.wordpiece.specs.Pieces.{Found, longest_to, pieces_of, ids_of}
-use Rattle.wordpiece.specs.Checked.{rest_from, Walked}
+use Rattle.wordpiece.specs.Checked.{rest_from, Walked, Kept}
 use Rattle.wordpiece.proofs.Longest.{piece-to}
 use Rattle.wordpiece.proofs.Turns.{before, or_unknown}
 use Rattle.wordpiece.proofs.Rest.{Ends, longest-ends, pieces-empty, pieces-alone, pieces-absent, after-prefix, pieces-with, pieces-few, one_more, some-character}
@@ -127,6 +128,39 @@ walk-holds {before = before} {after = after} {n = n} walked told xs e =
           ∙ ap (take (length xs)) stored
           ∙ sets-taken xs before (omega (arith, ap length stored, length-sets before 0 xs)),
     )
+
+-- what is kept between the two walks
+pub kept-from :
+    {find : List ℕ → Option ℕ} {w : List ℕ} {i x n : ℕ} {all before held places : List ℕ} → Follows find w i x all
+    → Walked (rest_from find w i) before (Some n) held → characters w ≤ length places → Kept find w i places held n
+kept-from {n = n} f walked room =
+    let holds = walk-holds walked refl f.ids f.rest in
+    record {
+      below = f.below;
+      ids = f.ids;
+      rest = f.rest;
+      many = holds.0;
+      room = omega (arith, holds.0, f.few, room);
+      held = holds.1;
+    }
+
+-- x in the first place, and behind it the ids xs for as many places
+pub laid_behind :
+    (x : ℕ) (xs before : List ℕ) (k : ℕ) → length xs < length before → k ≡ length xs
+    → put_mid 1 k (set before 0 x) xs ≡ overlay (x ∷ xs) before
+laid_behind x xs [] k h e = absurd (omega arith)
+laid_behind x xs (b ∷ before) k h e = ap (λ (n : ℕ). x ∷ xs ++ drop n before) e
+
+-- the same where they were stored in all that is behind it
+pub stored_behind :
+    (x : ℕ) (xs ys before : List ℕ) (k : ℕ) → length xs < length before → k ≡ length before - 1
+    → ys ≡ sets (take k (drop 1 (set before 0 x))) 0 xs → put_mid 1 k (set before 0 x) ys ≡ overlay (x ∷ xs) before
+stored_behind x xs ys [] k h e y = absurd (omega arith)
+stored_behind x xs ys (b ∷ before) k h e y =
+    let none_left : drop k before ≡ [] = drop_of_length-le before (omega arith) in
+    let all_there : take k before ≡ before = take_all k before (omega arith) in
+    ap (λ (l : List ℕ). x ∷ ys ++ l) none_left
+    ∙ ap (λ (l : List ℕ). x ∷ l) (append-nil ys ∙ y ∙ ap (λ (l : List ℕ). sets l 0 xs) all_there ∙ sets_over xs before (omega arith))
 
 -- what was written for the ids xs, where these are all
 pub written : (before : List ℕ) {all xs after : List ℕ} {n : ℕ} → all ≡ xs → (n ≡ length xs) × (after ≡ overlay xs before) → (n ≡ length all) × (after ≡ overlay all before)

@@ -6,11 +6,12 @@ use mathlib.Core.Path.{◌≡◌, refl, sym, ap, ◌∙◌}
 use mathlib.Core.Bool.{Bool, true, false}
 use mathlib.Core.List.{List, [], ◌∷◌, ◌++◌}
 use Prim.Native.Nat.{ℕ, zero, suc, ◌+◌, ◌-◌, ◌≤◌, ◌<◌}
+use native.Mathlib.Numerals.{add-one}
 use native.Mathlib.Omega.{arith}
 use borrow.Author.Tests.{ltb-true, ltb-false}
 use lib.Dec.{ltb, eqb}
-use lib.ListN.{length, take, drop}
-use lib.Seq.{take-add, take_all, take-length}
+use lib.ListN.{length, take, drop, set}
+use lib.Seq.{take-add, take_all, take-length, sets}
 use Rattle.refusal.specs.Refusal.{first}
 use Rattle.refusal.proofs.Lists.{none-some, false-true}
 use Rattle.text.specs.Text.{well_formed, boundary, characters, next, part}
@@ -18,7 +19,7 @@ use Rattle.text.proofs.Boundaries.{next-first, characters-next, characters-appen
 use Rattle.trie.specs.Trie.{Trie, walk, id_from, id_of}
 use Rattle.trie.proofs.Walking.{from-append, id-of}
 use Rattle.wordpiece.specs.Pieces.{Found, piece_to, longest_to, pieces_from, pieces_of}
-use Rattle.wordpiece.specs.Checked.{rest_from}
+use Rattle.wordpiece.specs.Checked.{rest_from, Walked}
 use Rattle.wordpiece.proofs.Longest.{piece-says, piece-absent, longest-more, longest-until}
 use Rattle.wordpiece.proofs.Turns.{before, turn, turn-same, pieces-turn, pieces_end, pieces-next, pieces-same}
 
@@ -181,14 +182,32 @@ module _ (w : List ℕ) (well : well_formed w ≡ true) where
 
 -- ---- counting and writing
 
--- so many more
-abbrev pub more : ℕ → Option ℕ → Option ℕ
-more n o = option_map (λ m. n + m) o
+-- A walk over the rest, into places that held `before`, has written n ids, and these places now hold `ids`: what is left says
+-- what the whole rest is.
+abbrev pub Left : Option (List ℕ) → List ℕ → List ℕ → ℕ → Option (List ℕ) → Type 0
+Left rest before ids n None = rest ≡ None
+Left rest before ids n (Some left) =
+    (xs : List ℕ) × (rest ≡ Some xs) × (length xs ≡ n + length left) × (sets before 0 xs ≡ sets ids n left)
 
-pub count-piece : (x : ℕ) (o : Option (List ℕ)) → option_map length (before x o) ≡ more 1 (option_map length o)
-count-piece x None = refl
-count-piece x (Some ids) = ap (λ (n : ℕ). Some n) (omega arith)
+pub left-all : (rest : Option (List ℕ)) (ids : List ℕ) → Left rest ids ids 0 rest
+left-all None ids = refl
+left-all (Some xs) ids = (xs, refl, omega arith, refl)
 
-pub more-one : (n : ℕ) (o : Option ℕ) → more n (more 1 o) ≡ more (n + 1) o
-more-one n None = refl
-more-one n (Some m) = ap (λ (k : ℕ). Some k) (omega arith)
+module _ (rest : Option (List ℕ)) (old ids : List ℕ) (n : ℕ) where
+  -- one piece more, with the id x
+  pub left-on : (x : ℕ) (o : Option (List ℕ)) → Left rest old ids n (before x o) → Left rest old (set ids n x) (n + 1) o
+  left-on x None h = h
+  left-on x (Some left) h =
+      let one : n + 1 ≡ suc n = add-one n in
+      (h.0, h.1, omega (arith, h.2), h.3 ∙ ap (λ (k : ℕ). sets (set ids n x) k left) (sym one))
+
+  pub left_miss : Left rest old ids n None → Walked rest old None ids
+  left_miss h = record { answered = sym (ap (option_map length) h); held = λ xs e. absurd (none-some (sym h ∙ e)) }
+
+  pub left_none : Left rest old ids n (Some []) → Walked rest old (Some n) ids
+  left_none h =
+      let many : n ≡ length h.0 = omega (arith, h.2) in
+      record {
+        answered = ap Some many ∙ sym (ap (option_map length) h.1);
+        held = λ xs e. let same : h.0 ≡ xs = cc (h.1, e) in sym h.3 ∙ ap (sets old 0) same;
+      }

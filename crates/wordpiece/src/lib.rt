@@ -4,6 +4,7 @@
 use refusal::{Fault, Reason};
 use rows::Kind;
 use rows::columns::Lists;
+use trie::Parts;
 
 pub mod checked;
 
@@ -13,6 +14,16 @@ ghost use Rattle.build.specs.Memory.{memory_is, memory_was};
 ghost use Rattle.wordpiece.specs.Build as promise;
 ghost use Rattle.wordpiece.specs.Encode.{Encoded};
 ghost use Rattle.refusal.specs.Lent.{was};
+
+// A WordPiece trie's parts, with what its words are coded with: the unknown id, the most characters of a word that is not one
+// unknown, and the prefix of a piece that is not the first.
+#[derive(Clone, Copy)]
+pub struct VocabTrie<'a> {
+    pub trie: Parts<'a>,
+    pub unknown: u32,
+    pub max_chars: u32,
+    pub prefix: &'a [u8],
+}
 
 // The trie of the rows, in the lent columns. Refused are sizes above their limits or lists of unequal length, then the first
 // bad row, and then too few lent places. A refusal of the rows writes nothing; a refusal of the places leaves every lent place
@@ -55,22 +66,9 @@ pub fn from_rows(
 // The ids of a word, in the first of the lent places. Refused are a word or prefix above its limit, parts that are not sound,
 // an ill-formed word, an ill-formed prefix, and fewer id places than characters. Places past the answer stay as they are, and a
 // refused call writes nothing.
-pub fn encode(
-    edge_at: &[u32],
-    edge_n: &[u16],
-    id: &[u32],
-    byte: &[u8],
-    to: &[u32],
-    unknown: u32,
-    max_chars: u32,
-    prefix: &[u8],
-    word: &[u8],
-    ids: &mut [u32],
-) -> Result<usize, Fault>
-    ensures { Encoded (parts edge_at edge_n id byte to) unknown max_chars (was prefix) (was word) ids.old result ids.new }
+pub fn encode(v: &VocabTrie, word: &[u8], ids: &mut [u32]) -> Result<usize, Fault>
+    ensures { Encoded (parts v.now.trie) v.now.unknown v.now.max_chars v.now.prefix.now (was word) ids.old result ids.new }
 {
-    let sound = trie::soundness::sound(edge_at, edge_n, id, byte, to);
-    checked::encode_tested(
-        sound, edge_at, edge_n, id, byte, to, unknown, max_chars, prefix, word, ids,
-    )
+    let sound = trie::soundness::sound(&v.trie);
+    checked::encode_tested(v, sound, word, ids)
 }

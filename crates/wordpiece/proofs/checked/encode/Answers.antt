@@ -1,89 +1,62 @@
 -- `wordpiece::checked::encode` meets its contract: by the word's length, its characters, its first piece, and then by the rest;
 -- a word has a place for each character. Assumes nothing.
-use Rattle.std.specs.Prelude.{Option, Some}
-use mathlib.Core.Path.{◌≡◌, refl, sym, ap, ◌∙◌}
-use mathlib.Core.List.{List, []}
-use Prim.Native.Nat.{ℕ, ◌≤◌, ◌<◌}
-use native.Mathlib.Omega.{arith}
-use lib.ListN.{length}
-use Rattle.trie.specs.Trie.{parts_of, id_from, id_of}
-use Rattle.trie.proofs.SoundParts.{sound-of}
-use Rattle.wordpiece.specs.Pieces.{longest_to, pieces_of, ids_of}
-use Rattle.wordpiece.proofs.Turns.{or_unknown}
-use Rattle.wordpiece.specs.Checked.{found_in}
+use Rattle.std.proofs.Common.{◌≡◌, ℕ, ◌<◌, Bool, false, eqb, length, refl, sym, ◌∙◌, arith}
+use borrow.Author.Tests.{eqb-true}
+use Rattle.std.proofs.lemmas.Bool.Decides.{nat_tests}
+use Rattle.trie.specs.Trie.{id_of}
+use Rattle.wordpiece.proofs.Longest.{root_node}
 use Rattle.wordpiece.proofs.Rest.{longest-ends, pieces-first, some-character}
 use Rattle.wordpiece.proofs.Plans.{ids-long, ids_short, ids-empty, missed, alone, written}
 use Rattle.wordpiece.proofs.checked.encode.Goals as goal
 
-pub returns-then-w-eq0 : goal.returns-then-w-eq0
-returns-then-w-eq0 c =
-    let find : List ℕ → Option ℕ = id_of (parts_of c.args.edge_at.now c.args.edge_n.now c.args.id.now c.args.byte.now c.args.to.now) in
-    written c.args.ids.now (ids-empty (find) c.args.unknown c.args.max_chars c.args.prefix.now c.args.w.now c.if-w-eq0.true) (refl, refl)
+-- a word that is not empty
+nonempty : (n : ℕ) (b : Bool) → b ≡ eqb n 0 → b ≡ false → 0 < n
+nonempty n b e f = grind (arith, nat_tests)
+
+pub returns-then-is_empty : goal.returns-then-is_empty
+returns-then-is_empty c =
+    written _ (ids-empty _ _ _ _ _ (eqb-true _ _ (sym c.is_empty.ensures ∙ c.if-is_empty.true))) (refl, refl)
 
 pub returns-then-too_long : goal.returns-then-too_long
-returns-then-too_long c =
-    let find : List ℕ → Option ℕ = id_of (parts_of c.args.edge_at.now c.args.edge_n.now c.args.id.now c.args.byte.now c.args.to.now) in
-    written c.args.ids.now
-    (ids-long (find) c.args.unknown c.args.max_chars c.args.prefix.now c.args.w.now (sym c.too_long.ensures ∙ c.if-too_long.true))
-    c.put.ensures
+returns-then-too_long c = written _ (ids-long _ _ _ _ _ (sym c.too_long.ensures ∙ c.if-too_long.true)) c.put.ensures
 
-pub longest-requires-clause-node_in_bounds : goal.longest-requires-clause-node_in_bounds
-longest-requires-clause-node_in_bounds c =
-    omega (arith, c.root.ensures, (sound-of (parts_of c.args.edge_at.now c.args.edge_n.now c.args.id.now c.args.byte.now c.args.to.now) c.requires.parts).some-node)
+pub longest-requires-clause-node : goal.longest-requires-clause-node
+longest-requires-clause-node c = rw c.root.ensures (root_node _ c.requires.parts)
 
 pub put-requires-in_default : goal.put-requires-in_default
 put-requires-in_default c =
-    let some_byte : 0 < length c.args.w.now = omega (arith, c.if-w-eq0.false) in
-    let place : 1 ≤ length c.args.ids.now = omega (arith, some-character c.args.w.now c.requires.well (some_byte), c.requires.room) in
-    place
+    let some_byte : 0 < length c.args.word.now = nonempty _ _ c.is_empty.ensures c.if-is_empty.false in
+    omega (arith, some-character _ c.requires.well some_byte, c.requires.room)
 
 pub returns-in_default : goal.returns-in_default
 unfolding id_of
 returns-in_default c =
-    let find : List ℕ → Option ℕ = id_of (parts_of c.args.edge_at.now c.args.edge_n.now c.args.id.now c.args.byte.now c.args.to.now) in
-    let some_byte : 0 < length c.args.w.now = omega (arith, c.if-w-eq0.false) in
-    let short : (ids_of (find) c.args.unknown c.args.max_chars c.args.prefix.now c.args.w.now) ≡ (or_unknown c.args.unknown (pieces_of (find) c.args.prefix.now c.args.w.now)) = ids_short (find) c.args.unknown c.args.max_chars c.args.prefix.now c.args.w.now (sym c.too_long.ensures ∙ c.if-too_long.false) in
-    let found : longest_to (find) [] c.args.w.now 0 (length c.args.w.now) ≡ found_in c.longest.result = sym (c.longest.ensures ∙ ap (λ (k : ℕ). longest_to (id_from (parts_of c.args.edge_at.now c.args.edge_n.now c.args.id.now c.args.byte.now c.args.to.now) k) [] c.args.w.now 0 (length c.args.w.now)) c.root.ensures) in
-    let m =
-    missed (find) c.args.unknown c.args.prefix.now c.args.w.now c.requires.well (some_byte)
-    (pieces-first (find) c.args.prefix.now c.args.w.now (some_byte) (found ∙ ap found_in c.in_default.is)) in
-    written c.args.ids.now (short ∙ m.0) c.put-in_default.ensures
+    let some_byte : 0 < length c.args.word.now = nonempty _ _ c.is_empty.ensures c.if-is_empty.false in
+    let found = rw c.root.ensures at c.in_default.ensures in
+    let m = missed _ _ _ _ c.requires.well some_byte (pieces-first _ _ _ some_byte (sym found)) in
+    written _ (ids_short _ _ _ _ _ (sym c.too_long.ensures ∙ c.if-too_long.false) ∙ m.0) c.put-in_default.ensures
 
-pub put-requires-then-end-w : goal.put-requires-then-end-w
-put-requires-then-end-w c =
-    let some_byte : 0 < length c.args.w.now = omega (arith, c.if-w-eq0.false) in
-    let place : 1 ≤ length c.args.ids.now = omega (arith, some-character c.args.w.now c.requires.well (some_byte), c.requires.room) in
-    place
+pub put-requires-then-first-word : goal.put-requires-then-first-word
+put-requires-then-first-word c =
+    let some_byte : 0 < length c.args.word.now = nonempty _ _ c.is_empty.ensures c.if-is_empty.false in
+    omega (arith, some-character _ c.requires.well some_byte, c.requires.room)
 
-pub returns-then-end-w : goal.returns-then-end-w
+pub returns-then-first-word : goal.returns-then-first-word
 unfolding id_of
-returns-then-end-w c =
-    let find : List ℕ → Option ℕ = id_of (parts_of c.args.edge_at.now c.args.edge_n.now c.args.id.now c.args.byte.now c.args.to.now) in
-    let some_byte : 0 < length c.args.w.now = omega (arith, c.if-w-eq0.false) in
-    let short : (ids_of (find) c.args.unknown c.args.max_chars c.args.prefix.now c.args.w.now) ≡ (or_unknown c.args.unknown (pieces_of (find) c.args.prefix.now c.args.w.now)) = ids_short (find) c.args.unknown c.args.max_chars c.args.prefix.now c.args.w.now (sym c.too_long.ensures ∙ c.if-too_long.false) in
-    let found : longest_to (find) [] c.args.w.now 0 (length c.args.w.now) ≡ found_in c.longest.result = sym (c.longest.ensures ∙ ap (λ (k : ℕ). longest_to (id_from (parts_of c.args.edge_at.now c.args.edge_n.now c.args.id.now c.args.byte.now c.args.to.now) k) [] c.args.w.now 0 (length c.args.w.now)) c.root.ensures) in
-    let first : longest_to (find) [] c.args.w.now 0 (length c.args.w.now) ≡ Some (record { end = c.in-Some.first.end; id = c.in-Some.first.id }) = found ∙ ap found_in c.in-Some.is in
-    let m = alone (find) c.args.unknown c.args.prefix.now c.args.w.now c.requires.well (some_byte) (first) c.if-end-w.true in
-    written c.args.ids.now (short ∙ m.0) c.put-then-end-w.ensures
+returns-then-first-word c =
+    let some_byte : 0 < length c.args.word.now = nonempty _ _ c.is_empty.ensures c.if-is_empty.false in
+    let found = rw c.root.ensures at c.in-Some.ensures in
+    let m = alone _ _ _ _ c.requires.well some_byte (sym found) c.if-first-word.true in
+    written _ (ids_short _ _ _ _ _ (sym c.too_long.ensures ∙ c.if-too_long.false) ∙ m.0) c.put-then-first-word.ensures
 
-pub encode_rest-requires-clause-w_value : goal.encode_rest-requires-clause-w_value
+pub encode_rest-requires-clause-longest : goal.encode_rest-requires-clause-longest
 unfolding id_of
-encode_rest-requires-clause-w_value c =
-    let find : List ℕ → Option ℕ = id_of (parts_of c.args.edge_at.now c.args.edge_n.now c.args.id.now c.args.byte.now c.args.to.now) in
-    let found : longest_to (find) [] c.args.w.now 0 (length c.args.w.now) ≡ found_in c.longest.result = sym (c.longest.ensures ∙ ap (λ (k : ℕ). longest_to (id_from (parts_of c.args.edge_at.now c.args.edge_n.now c.args.id.now c.args.byte.now c.args.to.now) k) [] c.args.w.now 0 (length c.args.w.now)) c.root.ensures) in
-    let first : longest_to (find) [] c.args.w.now 0 (length c.args.w.now) ≡ Some (record { end = c.in-Some.first.end; id = c.in-Some.first.id }) = found ∙ ap found_in c.in-Some.is in
-    let s = longest-ends (find) [] c.args.w.now 0 (length c.args.w.now) (first) in first
+encode_rest-requires-clause-longest c = sym (rw c.root.ensures at c.in-Some.ensures)
 
-pub encode_rest-requires-clause-end_in_bounds : goal.encode_rest-requires-clause-end_in_bounds
-unfolding id_of
-encode_rest-requires-clause-end_in_bounds c =
-    let find : List ℕ → Option ℕ = id_of (parts_of c.args.edge_at.now c.args.edge_n.now c.args.id.now c.args.byte.now c.args.to.now) in
-    let found : longest_to (find) [] c.args.w.now 0 (length c.args.w.now) ≡ found_in c.longest.result = sym (c.longest.ensures ∙ ap (λ (k : ℕ). longest_to (id_from (parts_of c.args.edge_at.now c.args.edge_n.now c.args.id.now c.args.byte.now c.args.to.now) k) [] c.args.w.now 0 (length c.args.w.now)) c.root.ensures) in
-    let first : longest_to (find) [] c.args.w.now 0 (length c.args.w.now) ≡ Some (record { end = c.in-Some.first.end; id = c.in-Some.first.id }) = found ∙ ap found_in c.in-Some.is in
-    let s = longest-ends (find) [] c.args.w.now 0 (length c.args.w.now) (first) in omega (arith, s.below, c.if-end-w.false)
+pub encode_rest-requires-clause-below : goal.encode_rest-requires-clause-below
+encode_rest-requires-clause-below c =
+    let ends = longest-ends _ _ _ _ _ (sym c.in-Some.ensures) in
+    omega (arith, ends.below, c.if-first-word.false)
 
 pub returns : goal.returns
-returns c =
-    let find : List ℕ → Option ℕ = id_of (parts_of c.args.edge_at.now c.args.edge_n.now c.args.id.now c.args.byte.now c.args.to.now) in
-    let short : (ids_of (find) c.args.unknown c.args.max_chars c.args.prefix.now c.args.w.now) ≡ (or_unknown c.args.unknown (pieces_of (find) c.args.prefix.now c.args.w.now)) = ids_short (find) c.args.unknown c.args.max_chars c.args.prefix.now c.args.w.now (sym c.too_long.ensures ∙ c.if-too_long.false) in
-    written c.args.ids.now (short) c.encode_rest.ensures
+returns c = written _ (ids_short _ _ _ _ _ (sym c.too_long.ensures ∙ c.if-too_long.false)) c.encode_rest.ensures
