@@ -325,9 +325,7 @@ pub extern "C" fn sk_segment(
         unknown,
         unknown_score,
     };
-    code_number(unigram::segment(
-        &m, text, start, slot_id, slot_score, path, ids,
-    ))
+    code_number(unigram::segment(&m, text, start, slot_id, slot_score, path, ids))
 }
 
 // The same for a caller that has tested the parts, the text and the places, and calls it for many texts.

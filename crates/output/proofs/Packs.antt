@@ -30,11 +30,8 @@ use Rattle.build.specs.Grown.{Bytes}
 use Rattle.build.specs.Memory.{Memory, memory, with_scores, no_room, no_scored_room}
 use Rattle.build.proofs.Promises.{none-exactly}
 use Rattle.build.proofs.Rooms.{nodes-some}
-use Rattle.unigram.specs.Work as work
 use Rattle.unigram.specs.Pieces.{Model}
-use Rattle.coder.specs.declared.Coder.TheVariants as coder-is
 use Rattle.coder.specs.Vocabulary.{unigram_of, wordpiece_of}
-use Rattle.coder.specs.Columns.{vocabulary_of}
 use Rattle.pack.specs.Pack.{header_of, laid_out, rows_of, strings_of, prefix_of}
 use Rattle.pack.specs.Build.{nodes_of, pack_fault, the_kind, unigram_model, PackBuilt}
 use Rattle.pack.proofs.Headers.{kind-laid}

@@ -34,9 +34,7 @@ pub(crate) fn put_line(
     ensures { Put out.old at (coded_line (vocabulary coder.now) (was line)) result
         out.new × (result ≤ at + 11 * length (was line) + 11) }
 {
-    let coded = coder::checked::code(
-        coder, sound, line, start, slot_id, slot_score, path, ids,
-    );
+    let coded = coder::checked::code(coder, sound, line, start, slot_id, slot_score, path, ids);
     match coded {
         Ok(n) => put_ids(out, at, &ids[..n]),
         Err(f) => put_refusal(out, at, b"", f),

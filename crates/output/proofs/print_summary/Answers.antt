@@ -4,6 +4,7 @@ use mathlib.Core.List.{List}
 use Prim.Native.Nat.{ℕ}
 use native.Mathlib.Omega.{arith}
 use lib.Ieee.{Float}
+use Rattle.std.proofs.lemmas.List.{length-take-le}
 use Rattle.std.specs.Prelude.{Ok}
 use Rattle.trie.specs.Trie.{Trie, parts}
 use Rattle.pack.specs.declared.Summary.{Summary}
@@ -19,6 +20,11 @@ this {pack = pack} {t = t} {scores = scores} e j = subst (λ (x : Summary). Lent
 
 pub cut-requires : goal.cut-requires
 cut-requires c = unigram-cuttable _ _ _ (λ i h. omega (arith, c.shared_slice_known-1.given i)) _ _ _ (this c.in-Unigram.is c.requires.0)
+
+pub slice_bounds-coder-end : goal.slice_bounds-coder-end
+slice_bounds-coder-end c =
+    let there = unigram-scored _ _ _ (λ i h. omega (arith, c.shared_slice_known-1.given i)) _ _ _ (this c.in-Unigram.is c.requires.0) in
+    omega (arith, there, length-take-le c.in-Unigram.nodes c.args.score.now there)
 
 pub cut-requires-in-WordPiece : goal.cut-requires-in-WordPiece
 cut-requires-in-WordPiece c =
@@ -41,5 +47,5 @@ unfolding vocabulary
 returns-in-WordPiece c =
     put_as
     (judged-wordpiece _ _ _ (λ i h. omega (arith, c.shared_slice_known-1.given i)) _ _ _ _ _
-    (this c.in-WordPiece.is c.requires.0) c.args.input.now c.cut.ensures c.prefix_of.ensures)
-    c.print_lines.ensures
+    (this c.in-WordPiece.is c.requires.0) c.args.input.now c.cut-in-WordPiece.ensures c.prefix_of.ensures)
+    c.print_lines-in-WordPiece.ensures

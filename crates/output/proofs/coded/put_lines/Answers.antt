@@ -12,7 +12,7 @@ slice_bounds-line-end c =
     omega (
       arith,
       end-inside (coded_line (vocabulary c.args.coder.now)) c.args.input.now c.args.out.now c.loop-from.at c.loop-from.from
-      c.line_end-end.result c.loop-from.out c.loop-from.invariant.0 c.loop-from-test.true c.line_end-end.ensures,
+          c.line_end-end.result c.loop-from.out c.loop-from.invariant.0 c.loop-from-test.true c.line_end-end.ensures,
     )
 
 pub loop-from-preserved : goal.loop-from-preserved
