@@ -9,7 +9,7 @@ ghost use Rattle.refusal.specs.Lent.{was};
 use refusal::NO_ID;
 
 // The work place whose link leads to the first child of `node` by b or a later byte: the node's own, or that of the child
-// before. Bytes rise along the links, so the walk ends.
+// before. Bytes rise along the links, so the walk ends. It follows links and counts nothing, so no iterator says it plainer.
 pub fn seek(edge_n: &[u16], work: &[u32], node: usize, b: u8) -> usize
     requires { Chained edge_n.now work.now 0 node }
     ensures { Sought (was edge_n) (was work) node b result }

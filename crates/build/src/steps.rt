@@ -8,7 +8,7 @@ ghost use Rattle.build.specs.Memory.{memory_is, memory_now, memory_was};
 ghost use Rattle.build.specs.Checked.{Finishable, Finished};
 
 use crate::lay::lay_out;
-use crate::zero::{clear, zero16, zero32};
+use crate::zero::clear;
 use refusal::NO_ID;
 
 // The root, alone: it has no id and no child.
@@ -26,8 +26,8 @@ pub fn start(edge_n: &mut [u16], id: &mut [u32], work: &mut [u32], room: usize) 
     requires { Roomy room edge_n.old id.old work.old }
     ensures { (result ≡ 1) × RowDone ([] ∷ []) no_rule room edge_n.new id.new work.new result }
 {
-    zero16(edge_n);
-    zero32(id);
+    edge_n.fill(0);
+    id.fill(0);
     if room == 0 {
         return 1;
     }

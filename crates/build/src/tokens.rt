@@ -21,13 +21,11 @@ fn enter(
         result.n }
 {
     let mut at = Reached { node: 0, n };
-    let mut i: usize = 0;
-    while i < token.len() {
-        at = child(edge_n, id, work, room, at, token[i]);
+    for b in token {
+        at = child(edge_n, id, work, room, at, *b);
         if at.node == room {
             return at;
         }
-        i += 1;
     }
     at
 }

@@ -67,13 +67,11 @@ pub fn enter_rows(
         (given (was off) (was len) (was ids))) room edge_n.new id.new work.new result }
 {
     let mut n = start(edge_n, id, work, room);
-    let mut i: usize = 0;
-    while i < off.len() {
+    for i in 0..off.len() {
         if room < n {
             return n;
         }
         n = enter_row(kind, tab, off, len, ids, i, edge_n, id, work, room, n);
-        i += 1;
     }
     n
 }

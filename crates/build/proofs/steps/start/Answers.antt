@@ -6,4 +6,8 @@ use Rattle.build.proofs.Rowing.{root-done}
 use Rattle.build.proofs.steps.start.Goals as goal
 
 pub returns : goal.returns
-returns c = (refl, root-done c.requires (omega (arith, c.if-room-eq0.false)) c.zero16.ensures c.zero32.ensures c.plant.ensures.0 c.plant.ensures.1)
+returns c = (
+  refl,
+  root-done c.requires (omega (arith, c.if-room-eq0.false)) (c.fill.ensures.after (λ y e. e)) (c.fill-2.ensures.after (λ y e. e))
+      c.plant.ensures.0 c.plant.ensures.1,
+)
