@@ -1,6 +1,6 @@
 -- What the columns hold as a byte is entered: the child that is there, or one node more, or no room for it. Assumes nothing.
 use Rattle.std.specs.Prelude.{unwrap_or, Option, None, Some}
-use mathlib.Core.Path.{◌≡◌, refl, sym, ap, ◌∙◌, subst}
+use mathlib.Core.Path.{◌≡◌, sym, ap, ◌∙◌, subst}
 use mathlib.Core.List.{List, [], ◌∷◌, ◌++◌}
 use mathlib.Core.Logic.{⊎_elim}
 use Prim.Native.Nat.{ℕ, suc, ◌+◌, ◌*◌, ◌≤◌, ◌<◌}
@@ -11,7 +11,7 @@ use Rattle.refusal.proofs.Lists.{none-some}
 use Rattle.refusal.specs.Sizes.{no_id}
 use Rattle.build.specs.Names.{place, add}
 use Rattle.build.specs.Links.{Slot, Linked, Spelled, linked_work}
-use Rattle.build.specs.Held.{Held, Roomy, Done}
+use Rattle.build.specs.Held.{Held, Roomy, Comes}
 use Rattle.build.proofs.Places.{missing, place-below, place_kept, place_end, place-more, add-there, add-new, length_more}
 use Rattle.build.proofs.Grown.{List²}
 use Rattle.build.proofs.Linking.{linked-more, spelled-more}
@@ -53,27 +53,20 @@ module _ {ns : List²} {rule : List ℕ → Option ℕ} {edge_n id work : List �
   abbrev t : List ℕ
   t = s ++ (b ∷ [])
 
-  pub byte-there : {k : ℕ} → place ns t ≡ Some k → Done (add ns t) rule t room edge_n id work k n
+  pub byte-there : {k : ℕ} → place ns t ≡ Some k → Comes (add ns t) rule t room edge_n id work k n
   byte-there {k = k} e =
       let same = add-there ns t k e in
-      let low : k < length ns = place-below ns t k e in
       record {
-        full = λ z. absurd (omega arith);
-        fits = λ z. fits;
-        count = λ z. count ∙ ap length (sym same);
-        here = λ z. ap (λ (x : List²). place x t) same ∙ e;
-        held = λ z. subst (λ (x : List²). Held x rule edge_n id work) (sym same) h;
+        stands = record {
+          fits = fits;
+          count = count ∙ ap length (sym same);
+          held = subst (λ (x : List²). Held x rule edge_n id work) (sym same) h;
+        };
+        here = ap (λ (x : List²). place x t) same ∙ e;
       }
 
-  pub byte_full : place ns t ≡ None → n ≡ room → Done (add ns t) rule t room edge_n id work room n
-  byte_full e z =
-      record {
-        full = λ y. omega (arith, ap length (add-new ns t e), length_more ns t);
-        fits = λ y. absurd (y refl);
-        count = λ y. absurd (y refl);
-        here = λ y. absurd (y refl);
-        held = λ y. absurd (y refl);
-      }
+  pub byte_full : place ns t ≡ None → n ≡ room → room < length (add ns t)
+  byte_full e z = omega (arith, ap length (add-new ns t e), length_more ns t)
 
   module _ {node at : ℕ} (here : place ns s ≡ Some node) (new : place ns t ≡ None) (slot : Slot ns s b at)
       (byte : b < 256) (more : n < room) (roomy : Roomy room edge_n id work) where
@@ -105,16 +98,17 @@ module _ {ns : List²} {rule : List ℕ → Option ℕ} {edge_n id work : List �
 
     pub byte-made :
         {edge_n' id' work' : List ℕ} → edge_n' ≡ set edge_n n b → id' ≡ set id n no_id → work' ≡ linked_work work at n
-        → Done (add ns t) rule t room edge_n' id' work' n (n + 1)
+        → Comes (add ns t) rule t room edge_n' id' work' n (n + 1)
     byte-made p q r =
         let same = add-new ns t new in
         record {
-          full = λ z. absurd (omega arith);
-          fits = λ z. omega arith;
-          count = λ z. omega (arith, ap length same, length_more ns t);
-          here = λ z. ap (λ (x : List²). place x t) same ∙ place_end ns t new ∙ ap Some (sym count);
-          held = λ z.
-              let e : Held (ns ++ (t ∷ [])) rule (set edge_n n b) (set id n no_id) (linked_work work at n) =
-              subst (λ (m : ℕ). Held (ns ++ (t ∷ [])) rule (set edge_n m b) (set id m no_id) (linked_work work at m)) (sym count) held_more in
-              rw (p, q, r, same) e;
+          stands = record {
+            fits = omega arith;
+            count = omega (arith, ap length same, length_more ns t);
+            held =
+                let e : Held (ns ++ (t ∷ [])) rule (set edge_n n b) (set id n no_id) (linked_work work at n) =
+                subst (λ (m : ℕ). Held (ns ++ (t ∷ [])) rule (set edge_n m b) (set id m no_id) (linked_work work at m)) (sym count) held_more in
+                rw (p, q, r, same) e;
+          };
+          here = ap (λ (x : List²). place x t) same ∙ place_end ns t new ∙ ap Some (sym count);
         }
