@@ -71,10 +71,8 @@ pub fn fill(bytes: &[u8], rows: usize, node_id: &[u32], n: usize, node_score: &m
     ensures { scores_is node_score ≡ filled_scores (scores_of (rows_from Unigram (was bytes) 36 rows))
         (take n (was node_id)) (scores_had node_score) }
 {
-    scored::scores::zero(node_score);
-    let mut k: usize = 0;
-    while k < n {
+    node_score.fill(0.0);
+    for k in 0..n {
         node_score[k] = score_of(bytes, rows, node_id[k]);
-        k += 1;
     }
 }
