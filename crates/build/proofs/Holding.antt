@@ -1,9 +1,9 @@
 -- What the columns hold as a byte is entered: the child that is there, or one node more, or no room for it. Assumes nothing.
 use Rattle.std.specs.Prelude.{unwrap_or, Option, None, Some}
-use mathlib.Core.Path.{◌≡◌, sym, ap, ◌∙◌, subst}
+use mathlib.Core.Path.{◌≡◌, refl, sym, ap, ◌∙◌, subst}
 use mathlib.Core.List.{List, [], ◌∷◌, ◌++◌}
 use mathlib.Core.Logic.{⊎_elim}
-use Prim.Native.Nat.{ℕ, suc, ◌+◌, ◌*◌, ◌≤◌, ◌<◌}
+use Prim.Native.Nat.{ℕ, zero, suc, ◌+◌, ◌*◌, ◌≤◌, ◌<◌}
 use native.Mathlib.Omega.{arith}
 use lib.ListN.{length, get_or, set, length-set}
 use lib.Seq.{get_or-set_same, get_or-set_other}
@@ -11,15 +11,21 @@ use Rattle.refusal.proofs.Lists.{none-some}
 use Rattle.refusal.specs.Sizes.{no_id}
 use Rattle.build.specs.Names.{place, add}
 use Rattle.build.specs.Links.{Slot, Linked, Spelled, linked_work}
-use Rattle.build.specs.Held.{Held, Roomy, Comes}
+use Rattle.build.specs.Held.{Held, Roomy, Chained, Sought, Enterable, Comes}
 use Rattle.build.proofs.Places.{missing, place-below, place_kept, place_end, place-more, add-there, add-new, length_more}
 use Rattle.build.proofs.Grown.{List²}
-use Rattle.build.proofs.Linking.{linked-more, spelled-more}
-use Rattle.build.proofs.Seeking.{seek-none, seek-least, seek-byte}
+use Rattle.build.proofs.Linking.{slot-below, linked-more, spelled-more}
+use Rattle.build.proofs.Seeking.{seek-below, seek-none, seek-least, seek-byte}
 
 -- what is in no longer list was in none
 pub missing-before : (ns ms : List²) (s : List ℕ) → place (ns ++ ms) s ≡ None → place ns s ≡ None
 missing-before ns ms s e = missing (place ns s) (λ k p. none-some (sym e ∙ place_kept ns ms s k p))
+
+-- what the columns hold is linked
+abbrev pub held-chained :
+    {ns : List²} {rule : List ℕ → Option ℕ} (s : List ℕ) {edge_n id work : List ℕ} {node : ℕ} → Held ns rule edge_n id work
+    → place ns s ≡ Some node → Chained edge_n work 0 node
+held-chained {ns = ns} s h e = record { names = ns; string = s; links = h.links; bytes = h.bytes; here = e }
 
 -- ---- is the child there?
 
@@ -34,10 +40,10 @@ module _ {ns : List²} {edge_n work : List ℕ} {s : List ℕ} {node b at : ℕ}
       let byte : w.a ≡ b = sym (seek-byte l sp here slot z) ∙ e in
       subst (λ (a : ℕ). place ns (s ++ (a ∷ [])) ≡ Some child) byte w.child
 
-  pub child-none : b < 256 → child ≡ 0 → place ns (s ++ (b ∷ [])) ≡ None
+  child-none : b < 256 → child ≡ 0 → place ns (s ++ (b ∷ [])) ≡ None
   child-none h z = seek-none l sp here slot z b (omega arith) h
 
-  pub child-other : (child ≡ 0 → ⊥) → (get_or edge_n child 0 ≡ b → ⊥) → place ns (s ++ (b ∷ [])) ≡ None
+  child-other : (child ≡ 0 → ⊥) → (get_or edge_n child 0 ≡ b → ⊥) → place ns (s ++ (b ∷ [])) ≡ None
   child-other z e =
       let w = seek-least l sp here slot z in
       let byte : get_or edge_n child 0 ≡ w.a = seek-byte l sp here slot z in
@@ -45,6 +51,30 @@ module _ {ns : List²} {edge_n work : List ℕ} {s : List ℕ} {node b at : ℕ}
     where
       above : (b a : ℕ) → b ≤ a → (b ≡ a → ⊥) → b < a
       above b a h q = omega arith
+
+  -- there is none, or it has another byte
+  pub child-absent : b < 256 → ((child ≡ 0 → ⊥) → get_or edge_n child 0 ≡ b → ⊥) → place ns (s ++ (b ∷ [])) ≡ None
+  child-absent h other = go child refl
+    where
+      go : (k : ℕ) → child ≡ k → place ns (s ++ (b ∷ [])) ≡ None
+      go zero e = child-none h e
+      go (suc k) e = let z : child ≡ 0 → ⊥ = λ p. omega arith in child-other z (other z)
+
+-- ---- where the walk from a node to come to has ended
+
+module _ {edge_n id work : List ℕ} {room node n b at : ℕ} (from : Enterable edge_n id work room node n)
+    (sought : Sought edge_n work node b at) where
+  slot-of : Slot from.names from.string b at
+  slot-of = sought.slot (held-chained from.string from.held from.here)
+
+  -- the link has its place
+  pub link-inside : (at < 2 * n) × (2 * n ≤ length work)
+  link-inside =
+      (omega (arith, from.count, slot-below from.names from.string b at slot-of), omega (arith, from.count, from.held.links.room))
+
+  -- and so has the child that it leads to
+  pub child-inside : (get_or work at 0 ≡ 0 → ⊥) → get_or work at 0 < length edge_n
+  child-inside z = omega (arith, from.held.bytes.room, seek-below from.held.links from.held.bytes from.here slot-of z)
 
 -- ---- what the byte makes
 
