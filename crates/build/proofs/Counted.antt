@@ -6,6 +6,7 @@ use mathlib.Core.List.{List, [], ◌∷◌, ◌++◌, map, flatten}
 use mathlib.Core.Logic.{⊎_elim}
 use Prim.Native.Nat.{ℕ, zero, suc, ◌+◌, ◌-◌, ◌≤◌, ◌<◌}
 use native.Mathlib.Omega.{arith}
+use Rattle.std.proofs.Math.Nat.{eq-or-lt_of_le}
 use lib.ListN.{length, get_or, length-append}
 use Rattle.build.specs.Names.{place}
 use Rattle.build.specs.Grown.{Grown, root, more}
@@ -13,7 +14,7 @@ use Rattle.build.specs.Parts.{Edge, edge, edges_from, edges_of}
 use Rattle.build.proofs.Strings.{snoc-nil, snoc-front, snoc-last, snoc-longer}
 use Rattle.build.proofs.Places.{found?, place-empty, place-below, place_at, place_end, place_other}
 use Rattle.build.proofs.Grown.{List², grown-distinct, grown-none}
-use Rattle.build.proofs.Edges.{edges-miss, edges-hit, edges_none, at-or-above}
+use Rattle.build.proofs.Edges.{edges-miss, edges-hit, edges_none}
 
 -- ---- the edges of one node, with one name more
 
@@ -58,7 +59,7 @@ module _ (ns : List²) (p : List ℕ) (c : ℕ) (new : place ns (p ++ (c ∷ [])
       (λ w. ap length (edges-hit grown p b n w.0 (same ∙ w.1)) ∙ ap suc on
       ∙ ap (λ (es : List Edge). suc (length es)) (sym (edges-hit ns p b n w.0 w.1)))
       (found? (place ns (p ++ (b ∷ [])))))
-      (at-or-above b c l)
+      (eq-or-lt_of_le l)
 
 -- ---- all edges
 

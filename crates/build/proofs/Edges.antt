@@ -4,10 +4,10 @@ use Rattle.std.specs.Prelude.{Option, None, Some}
 use mathlib.Core.Path.{◌≡◌, refl, sym, ap, ◌∙◌, subst}
 use mathlib.Core.Bool.{cond}
 use mathlib.Core.List.{List, [], ◌∷◌, ◌++◌}
-use mathlib.Core.Logic.{◌⊎◌, inl, inr, ⊎_elim}
+use mathlib.Core.Logic.{⊎_elim}
 use Prim.Native.Nat.{ℕ, zero, suc, ◌+◌, ◌-◌, ◌≤◌, ◌<◌}
 use native.Mathlib.Omega.{arith}
-use native.Mathlib.Decide.{dec_lt}
+use Rattle.std.proofs.Math.Nat.{eq-or-lt_of_le}
 use borrow.Author.Tests.{eq-eqb, ne_eqb}
 use lib.Dec.{eqb}
 use lib.ListN.{length}
@@ -107,13 +107,6 @@ target_miss : (b k : ℕ) (es : List Edge) (a : ℕ) → (b ≡ a → ⊥) → t
 unfolding target
 target_miss b k es a e = rw (ne_eqb b a e)
 
-pub at-or-above : (b a : ℕ) → b ≤ a → (b ≡ a) ⊎ (b < a)
-at-or-above b a l = go (dec_lt b a)
-  where
-    go : Dec (b < a) → (b ≡ a) ⊎ (b < a)
-    go (yes h) = inr h
-    go (no h) = inl (omega arith)
-
 pub target-edges :
     (m : ℕ) (ns : List²) (s : List ℕ) (b a : ℕ) → b ≤ a → a < b + m → target (edges_from ns s b m) a ≡ place ns (s ++ (a ∷ []))
 target-edges zero ns s b a l h = absurd (omega arith)
@@ -130,7 +123,7 @@ target-edges (suc m) ns s b a l h =
     (λ w. ap (λ (es : List Edge). target es a) (edges-hit ns s b m w.0 w.1)
     ∙ target_miss b w.0 (edges_from ns s (suc b) m) a (λ z. omega arith) ∙ target-edges m ns s (suc b) a q (omega arith))
     (found? (place ns (s ++ (b ∷ [])))))
-    (at-or-above b a l)
+    (eq-or-lt_of_le l)
 
 pub target-of : (ns : List²) (s : List ℕ) (a : ℕ) → a < 256 → target (edges_of ns s) a ≡ place ns (s ++ (a ∷ []))
 unfolding edges_of

@@ -28,11 +28,6 @@ module _ {edge_n₀ id₀ work₀ edge_n id work : List ℕ} (k : Kept edge_n₀
       → Kept edge_n₀ id₀ work₀ edge_n' id' work'
   kept_on e i w = record { nodes = e ∙ k.nodes; ids = i ∙ k.ids; links = w ∙ k.links }
 
--- a token of no bytes
-pub length-zero : (s : List ℕ) → length s ≡ 0 → s ≡ []
-length-zero [] e = refl
-length-zero (b ∷ s) e = absurd (omega arith)
-
 -- ---- after i bytes
 
 pub record Along (ns : List²) (rule : List ℕ → Option ℕ) (t : List ℕ) (room i : ℕ) (edge_n id work : List ℕ)

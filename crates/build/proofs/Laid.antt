@@ -4,9 +4,11 @@ use Rattle.std.specs.Prelude.{unwrap_or, Option, None, Some}
 use mathlib.Core.Path.{◌≡◌, refl, sym, ap, ◌∙◌}
 use mathlib.Core.Bool.{cond}
 use mathlib.Core.List.{List, [], ◌∷◌, ◌++◌, map, flatten, append_assoc, append-nil}
-use mathlib.Core.Logic.{◌⊎◌, inl, inr, ⊎_elim}
+use mathlib.Core.Logic.{⊎_elim}
 use Prim.Native.Nat.{ℕ, zero, suc, ◌+◌, ◌<◌}
 use native.Mathlib.Omega.{arith}
+use Rattle.std.proofs.lemmas.Bool.{cases_eq}
+use lib.Seq.{append_snoc}
 use native.Mathlib.Decide.{dec_lt}
 use borrow.Author.Tests.{eq-eqb, ne_eqb}
 use lib.Dec.{eqb}
@@ -18,7 +20,6 @@ use Rattle.trie.specs.Trie.{seek, step, walk, id_at, id_from, id_of}
 use Rattle.build.specs.Names.{place}
 use Rattle.build.specs.Grown.{Grown}
 use Rattle.build.specs.Parts.{Edge, edges_of, starts, lay}
-use Rattle.build.proofs.Strings.{snoc-append}
 use Rattle.build.proofs.Places.{found?, missing, place-below, place_at}
 use Rattle.build.proofs.Grown.{List², grown-root, grown-parent, grown-begins}
 use Rattle.build.proofs.Edges.{target, target-of, target-no-byte}
@@ -86,14 +87,6 @@ seek_hit : (bytes tos : List ℕ) (b at n : ℕ) → get_or bytes at 0 ≡ b →
 unfolding seek
 seek_hit bytes tos b at n h = rw (eq-eqb (get_or bytes at 0) b h)
 
-pub same? : (a b : ℕ) → (a ≡ b) ⊎ (a ≡ b → ⊥)
-same? a b = go (dec_lt a b) (dec_lt b a)
-  where
-    go : Dec (a < b) → Dec (b < a) → (a ≡ b) ⊎ (a ≡ b → ⊥)
-    go (yes p) q = inr (λ e. omega arith)
-    go (no p) (yes q) = inr (λ e. omega arith)
-    go (no p) (no q) = inl (omega arith)
-
 seek-target :
     (es l post : List Edge) (b at : ℕ) → drop at l ≡ es ++ post
     → seek (map (λ e. e.byte) l) (map (λ e. e.to) l) b at (length es) ≡ target es b
@@ -108,7 +101,7 @@ seek-target (e ∷ es) l post b at h =
     (λ (q : e.byte ≡ b → ⊥).
     seek-miss (map (λ x. x.byte) l) (map (λ x. x.to) l) b at (length es) (λ p. q (sym byte ∙ p))
     ∙ seek-target es l post b (suc at) (drop_head l at e (es ++ post) h) ∙ sym (miss q))
-    (same? e.byte b)
+    (cases_eq e.byte b)
   where
     hit : e.byte ≡ b → cond (eqb e.byte b) (Some e.to) (target es b) ≡ Some e.to
     hit q = rw (eq-eqb e.byte b q)
@@ -154,10 +147,10 @@ module _ (rule : List ℕ → Option ℕ) (ns : List²) (g : Grown ns) where
       (λ (q : place ns (p ++ (b ∷ [])) ≡ None).
       let away : place ns (p ++ (b ∷ s)) ≡ None =
       missing (place ns (p ++ (b ∷ s)))
-      (λ j f. none-some (sym q ∙ (grown-begins g (p ++ (b ∷ [])) s j (ap (place ns) (snoc-append p b s) ∙ f)).1)) in
+      (λ j f. none-some (sym q ∙ (grown-begins g (p ++ (b ∷ [])) s j (ap (place ns) (append_snoc p b s) ∙ f)).1)) in
       rw (step-built p k b e ∙ q, walk) (sym away))
       (λ (w : (j : ℕ) × (place ns (p ++ (b ∷ [])) ≡ Some j)).
-      rw (step-built p k b e ∙ w.1, walk) (walk_from s (p ++ (b ∷ [])) w.0 w.1 ∙ ap (place ns) (snoc-append p b s)))
+      rw (step-built p k b e ∙ w.1, walk) (walk_from s (p ++ (b ∷ [])) w.0 w.1 ∙ ap (place ns) (append_snoc p b s)))
       (found? (place ns (p ++ (b ∷ []))))
 
   -- the walk over s ends at the place of s

@@ -6,6 +6,7 @@ use mathlib.Core.List.{List, [], ◌∷◌, ◌++◌}
 use mathlib.Core.Logic.{◌⊎◌, inl, inr, ⊎_elim}
 use Prim.Native.Nat.{ℕ, suc, ◌+◌, ◌*◌, ◌≤◌, ◌<◌}
 use native.Mathlib.Omega.{arith}
+use Rattle.std.proofs.lemmas.Bool.{cases_eq}
 use native.Mathlib.Decide.{dec_lt}
 use lib.ListN.{length, get_or, set, length-set}
 use lib.Seq.{get_or-set_same, get_or-set_other}
@@ -16,7 +17,6 @@ use Rattle.build.specs.Links.{Clear, Least, First, Slot, of-first, of-next, Link
 use Rattle.build.proofs.Strings.{snoc-front, snoc-last, snoc-longer, equal?}
 use Rattle.build.proofs.Places.{place-below, place-one, place_kept, place_end, place_other, place-more, length_more}
 use Rattle.build.proofs.Grown.{List², grown-none}
-use Rattle.build.proofs.Laid.{same?}
 
 -- ---- links
 
@@ -139,7 +139,7 @@ module _ (ns : List²) (work : List ℕ) (l : Linked ns work) (s : List ℕ) (b 
       at_other (2 * k) (λ y. z (omega arith)) (omega arith) x 0
       (lift-other x 0 (get_or work (2 * k) 0)
       (λ y. z (let g : Some i ≡ Some k = sym p ∙ ap (place ns) (sym y) ∙ e in cc)) (l.first x k e)))
-      (same? i k)
+      (cases_eq i k)
   old-first x k e (of-next a i p q h cl) =
       let low : k < n = place-below ns x k e in
       at_other (2 * k) (λ y. omega arith) (omega arith) x 0
@@ -157,7 +157,7 @@ module _ (ns : List²) (work : List ℕ) (l : Linked ns work) (s : List ℕ) (b 
       go : Dec (a < b) → First ms s (suc a) (get_or work (2 * k + 1) 0)
       go (yes m) = none-some (sym (cl a (omega arith) m) ∙ e)
       go (no m) = lift-past (suc a) (get_or work (2 * k + 1) 0) (omega arith) (l.next s a k e)
-  kept_next a k e (of-next c i p q m cl) h = go (dec_lt a b) (dec_lt a c) (same? a c)
+  kept_next a k e (of-next c i p q m cl) h = go (dec_lt a b) (dec_lt a c) (cases_eq a c)
     where
       go : Dec (a < b) → Dec (a < c) → (a ≡ c) ⊎ (a ≡ c → ⊥) → First ms s (suc a) (get_or work (2 * k + 1) 0)
       go (no u) v w = lift-past (suc a) (get_or work (2 * k + 1) 0) (omega arith) (l.next s a k e)
@@ -194,7 +194,7 @@ module _ (ns : List²) (work : List ℕ) (l : Linked ns work) (s : List ℕ) (b 
       (kept_next a k (ap (λ (y : List ℕ). place ns (y ++ (a ∷ []))) w ∙ e) (of-next c i p q h cl) (λ y. z (omega arith))))
       (λ (w : s ≡ x → ⊥). lift-other x (suc a) (get_or work (2 * k + 1) 0) (λ y. w (sym y)) (l.next x a k e))
       (equal? s x)))
-      (same? i k)
+      (cases_eq i k)
 
   new-first : (x : List ℕ) (k : ℕ) → x ≡ t → k ≡ n → First ms x 0 (get_or work' (2 * k) 0)
   new-first x k e z =

@@ -10,7 +10,7 @@ use lib.ListN.{length, get_or}
 use Rattle.refusal.proofs.Lists.{zero_one, none-some}
 use Rattle.build.specs.Names.{place, prefixes, add, enter, names}
 use Rattle.build.specs.Grown.{Grown, root, Bytes}
-use Rattle.build.proofs.Strings.{snoc-append}
+use lib.Seq.{append_snoc}
 use Rattle.build.proofs.Places.{found?, place-empty, place_other, place-more, place_at, add-there, add-new}
 use Rattle.build.proofs.Grown.{List², grown-root, grown-enter, enter-keeps, enter-has, enter-grows, enter-few, enter-append, length-prefixes}
 
@@ -80,11 +80,11 @@ prefixes-from (b ∷ t) p ns s k e =
     let q = p ++ (b ∷ []) in
     ⊎_elim
     (λ (w : (j : ℕ) × (place (add ns q) s ≡ Some j)). ⊎_elim
-    (λ n. ⊎_elim (λ o. inl (w.0, o)) (λ o. inr (t, sym (snoc-append p b t) ∙ ap (λ (x : List ℕ). x ++ t) (sym o.0)))
+    (λ n. ⊎_elim (λ o. inl (w.0, o)) (λ o. inr (t, sym (append_snoc p b t) ∙ ap (λ (x : List ℕ). x ++ t) (sym o.0)))
     (place-more ns q s w.0 n (ap (λ (x : List²). place x s) (sym (add-new ns q n)) ∙ w.1)))
     (λ m. inl (w.0, ap (λ (x : List²). place x s) (sym (add-there ns q m.0 m.1)) ∙ w.1))
     (found? (place ns q)))
-    (λ (w : (r : List ℕ) × (q ++ t ≡ s ++ r)). inr (w.0, sym (snoc-append p b t) ∙ w.1))
+    (λ (w : (r : List ℕ) × (q ++ t ≡ s ++ r)). inr (w.0, sym (append_snoc p b t) ∙ w.1))
     (prefixes-from t q (add ns q) s k e)
 
 tokens-from :

@@ -1,12 +1,12 @@
 -- `build::tokens::enter_token` meets its contract: the token's last node takes the id, unless the token is empty or there was
 -- no room. Assumes nothing.
 use native.Mathlib.Omega.{arith}
-use Rattle.build.proofs.Entering.{length-zero}
+use Rattle.std.proofs.lemmas.List.{nil_from_length}
 use Rattle.build.proofs.Marking.{row-empty, node-below, row-marked}
 use Rattle.build.proofs.tokens.enter_token.Goals as goal
 
 pub returns-then-is_empty : goal.returns-then-is_empty
-returns-then-is_empty c = let e = length-zero c.args.token.now (grind (arith, c.is_empty.ensures, c.if-is_empty.true)) in
+returns-then-is_empty c = let e = nil_from_length c.args.token.now (grind (arith, c.is_empty.ensures, c.if-is_empty.true)) in
     record { entered = λ ns rule h n small. row-empty c.args.kind c.args.v e h n c.requires.fits }
 
 pub returns-in_err-end : goal.returns-in_err-end
