@@ -57,7 +57,15 @@ pub writing_start :
     → {byte to : List ℕ} {at : ℕ} → Writing ns s byte to at byte to at (get_or work (2 * node) 0)
 unfolding edges_of
 writing_start l {s = s} node e =
-    record { low = 0; low_fits = omega arith; few = omega arith; first = l.first s node e; written = refl; led = refl; count = refl }
+    record {
+      low = 0;
+      low_fits = omega arith;
+      few = omega arith;
+      first = l.first s node e;
+      written = refl;
+      led = refl;
+      count = refl;
+    }
 
 module _ {ns : List²} {edge_n work : List ℕ} {node : ℕ} {s byte₀ to₀ : List ℕ} {at₀ : ℕ} {byte to : List ℕ} {at k : ℕ}
     (l : Linked ns work) (sp : Spelled ns node edge_n) (here : place ns s ≡ Some node)

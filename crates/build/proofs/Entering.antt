@@ -46,7 +46,9 @@ along-start {ns = ns} h e fits =
       on = refl;
     }
 
-prefixes-one : (p : List ℕ) (b : ℕ) (s : List ℕ) (ns : List²) → enter ns (prefixes p (b ∷ s)) ≡ enter (add ns (p ++ (b ∷ []))) (prefixes (p ++ (b ∷ [])) s)
+prefixes-one :
+    (p : List ℕ) (b : ℕ) (s : List ℕ) (ns : List²)
+    → enter ns (prefixes p (b ∷ s)) ≡ enter (add ns (p ++ (b ∷ []))) (prefixes (p ++ (b ∷ [])) s)
 unfolding prefixes enter
 prefixes-one p b s ns = refl
 
@@ -92,7 +94,8 @@ module _ {ns : List²} {rule : List ℕ → Option ℕ} {t : List ℕ} {room i :
 
       -- it found no room
       pub along-full :
-          ByteEntered edge_n id work edge_n' id' work' room node n (get_or t i 0) None → room < length (enter ns (prefixes [] t))
+          ByteEntered edge_n id work edge_n' id' work' room node n (get_or t i 0) None
+          → room < length (enter ns (prefixes [] t))
       along-full one =
           let full : room < length then =
           one.entered along.names rule (take i t) along.come.stands.held along.come.stands.count along.come.here in

@@ -114,7 +114,8 @@ module _ (ns : List²) (g : Grown ns) (rule : List ℕ → Option ℕ) (id befor
 
 -- ---- the nodes laid out
 
-module _ {ns : List²} {rule : List ℕ → Option ℕ} {edge_at edge_n id byte to work : List ℕ} {n : ℕ} (h : Held ns rule edge_n id work)
+module _ {ns : List²} {rule : List ℕ → Option ℕ} {edge_at edge_n id byte to work : List ℕ} {n : ℕ}
+    (h : Held ns rule edge_n id work)
     (count : n ≡ length ns) (r : AllReady edge_at edge_n byte to work n) where
   abbrev grown : Grown ns
   grown = h.links.grown
@@ -212,7 +213,8 @@ module _ (kind : Kind) (tab : List ℕ) (rows : List Row) (room : ℕ) (before :
 
 pub entered-ready :
     {edge_at byte to edge_n id work : List ℕ} {made : Option ℕ} (ns : List²) (rule : List ℕ → Option ℕ) (room : ℕ)
-    (edge_n₀ id₀ work₀ : List ℕ) → RowDone ns rule room edge_n id work made → room ≤ room_of (memory edge_at edge_n₀ id₀ byte to work₀)
+    (edge_n₀ id₀ work₀ : List ℕ) → RowDone ns rule room edge_n id work made
+    → room ≤ room_of (memory edge_at edge_n₀ id₀ byte to work₀)
     → length edge_n ≡ length edge_n₀ → length id ≡ length id₀ → length work ≡ length work₀
     → Finishable (memory edge_at edge_n id byte to work) made
 entered-ready ns rule room edge_n₀ id₀ work₀ d r kn ki kw =

@@ -149,7 +149,9 @@ grown-enter (b ∷ s) p ns j g e h =
     grown-enter s q (add ns q) w.0 (grown-add g p b j e (h 0 (omega arith))) w.1 (bytes-tail b s h)
 
 -- a token that was entered is a name, and so is all that it begins with
-pub enter-has : (s p q : List ℕ) (ns : List²) (j : ℕ) → place ns p ≡ Some j → (r : List ℕ) → s ≡ q ++ r → (k : ℕ) × (place (enter ns (prefixes p s)) (p ++ q) ≡ Some k)
+pub enter-has :
+    (s p q : List ℕ) (ns : List²) (j : ℕ) → place ns p ≡ Some j → (r : List ℕ) → s ≡ q ++ r
+    → (k : ℕ) × (place (enter ns (prefixes p s)) (p ++ q) ≡ Some k)
 unfolding enter prefixes
 enter-has s p [] ns j e r d =
     (j, ap (place (enter ns (prefixes p s))) (append-nil p) ∙ enter-keeps (prefixes p s) ns p j e)

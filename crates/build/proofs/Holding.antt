@@ -70,7 +70,8 @@ module _ {edge_n id work : List ℕ} {room node n b at : ℕ} (from : Enterable 
   -- the link has its place
   pub link-inside : (at < 2 * n) × (2 * n ≤ length work)
   link-inside =
-      (omega (arith, from.count, slot-below from.names from.string b at slot-of), omega (arith, from.count, from.held.links.room))
+      let below = slot-below from.names from.string b at slot-of in
+      (omega (arith, from.count, below), omega (arith, from.count, from.held.links.room))
 
   -- and so has the child that it leads to
   pub child-inside : (get_or work at 0 ≡ 0 → ⊥) → get_or work at 0 < length edge_n
@@ -100,7 +101,8 @@ module _ {ns : List²} {rule : List ℕ → Option ℕ} {edge_n id work : List �
 
   module _ {node at : ℕ} (here : place ns s ≡ Some node) (new : place ns t ≡ None) (slot : Slot ns s b at)
       (byte : b < 256) (more : n < room) (roomy : Roomy room edge_n id work) where
-    held_more : Held (ns ++ (t ∷ [])) rule (set edge_n (length ns) b) (set id (length ns) no_id) (linked_work work at (length ns))
+    held_more :
+        Held (ns ++ (t ∷ [])) rule (set edge_n (length ns) b) (set id (length ns) no_id) (linked_work work at (length ns))
     held_more =
         let room-work : 2 * suc (length ns) ≤ length work = omega (arith, roomy.links) in
         let m = length ns in
@@ -109,7 +111,8 @@ module _ {ns : List²} {rule : List ℕ → Option ℕ} {edge_n id work : List �
           bytes =
               spelled-more ns work h.links s b at node here new slot byte room-work edge_n (omega (arith, roomy.nodes)) h.bytes;
           past = λ k p.
-              get_or-set_other edge_n m k b 0 (λ z. omega (arith, length_more ns t)) ∙ h.past k (omega (arith, length_more ns t));
+              get_or-set_other edge_n m k b 0 (λ z. omega (arith, length_more ns t))
+              ∙ h.past k (omega (arith, length_more ns t));
           marks = record {
             room = omega (arith, length_more ns t, length-set id m no_id, roomy.ids);
             ids = λ x k e. ⊎_elim
@@ -122,7 +125,8 @@ module _ {ns : List²} {rule : List ℕ → Option ℕ} {edge_n id work : List �
                 (place-more ns t x k new e);
             within = λ x e. h.marks.within x (missing-before ns (t ∷ []) x e);
             past = λ k p.
-                get_or-set_other id m k no_id 0 (λ z. omega (arith, length_more ns t)) ∙ h.marks.past k (omega (arith, length_more ns t));
+                get_or-set_other id m k no_id 0 (λ z. omega (arith, length_more ns t))
+                ∙ h.marks.past k (omega (arith, length_more ns t));
           };
         }
 
@@ -137,7 +141,8 @@ module _ {ns : List²} {rule : List ℕ → Option ℕ} {edge_n id work : List �
             count = omega (arith, ap length same, length_more ns t);
             held =
                 let e : Held (ns ++ (t ∷ [])) rule (set edge_n n b) (set id n no_id) (linked_work work at n) =
-                subst (λ (m : ℕ). Held (ns ++ (t ∷ [])) rule (set edge_n m b) (set id m no_id) (linked_work work at m)) (sym count) held_more in
+                subst (λ (m : ℕ). Held (ns ++ (t ∷ [])) rule (set edge_n m b) (set id m no_id) (linked_work work at m))
+                (sym count) held_more in
                 rw (p, q, r, same) e;
           };
           here = ap (λ (x : List²). place x t) same ∙ place_end ns t new ∙ ap Some (sym count);

@@ -26,7 +26,8 @@ use Rattle.build.proofs.Edges.{target, target-of, target-no-byte}
 
 -- ---- lists of numbers and edges
 
-pub get_or-map-of : {A B : Type 0} (f : A → B) (l : List A) (k : ℕ) (d : A) (z : B) → k < length l → get_or (map f l) k z ≡ f (get_or l k d)
+pub get_or-map-of :
+    {A B : Type 0} (f : A → B) (l : List A) (k : ℕ) (d : A) (z : B) → k < length l → get_or (map f l) k z ≡ f (get_or l k d)
 get_or-map-of f [] k d z h = absurd (omega arith)
 get_or-map-of f (x ∷ l) zero d z h = refl
 get_or-map-of f (x ∷ l) (suc k) d z h = get_or-map-of f l k d z (omega arith)
@@ -38,7 +39,8 @@ drop_head [] (suc at) x r e = absurd (zero_one cc)
 drop_head (y ∷ l) zero x r e = cc
 drop_head (y ∷ l) (suc at) x r e = drop_head l at x r e
 
-pub map-head : (f : Edge → ℕ) (l : List Edge) (at : ℕ) (x : Edge) (r : List Edge) → drop at l ≡ x ∷ r → get_or (map f l) at 0 ≡ f x
+pub map-head :
+    (f : Edge → ℕ) (l : List Edge) (at : ℕ) (x : Edge) (r : List Edge) → drop at l ≡ x ∷ r → get_or (map f l) at 0 ≡ f x
 map-head f [] zero x r e = absurd (zero_one cc)
 map-head f [] (suc at) x r e = absurd (zero_one cc)
 map-head f (y ∷ l) zero x r e = let p : y ≡ x = cc in ap f p
@@ -62,7 +64,8 @@ length-starts (n ∷ ns) at = ap suc (length-starts ns (at + n))
 -- where the edges of node k begin stand its edges
 laid_from :
     (parts : List (List Edge)) (pre : List Edge) (k : ℕ) → k < length parts
-    → (post : List Edge) × (drop (get_or (starts (length pre) (map length parts)) k 0) (pre ++ flatten parts) ≡ get_or parts k [] ++ post)
+    → (post : List Edge)
+    × (drop (get_or (starts (length pre) (map length parts)) k 0) (pre ++ flatten parts) ≡ get_or parts k [] ++ post)
 unfolding starts flatten
 laid_from [] pre k h = absurd (omega arith)
 laid_from (p ∷ ps) pre zero h = (flatten ps, drop-append_seam pre (p ++ flatten ps))
@@ -79,7 +82,8 @@ pub laid-at :
 laid-at parts k h = laid_from parts [] k h
 
 -- the seeking of a byte among laid out edges is the list's own
-seek-miss : (bytes tos : List ℕ) (b at n : ℕ) → (get_or bytes at 0 ≡ b → ⊥) → seek bytes tos b at (suc n) ≡ seek bytes tos b (suc at) n
+seek-miss :
+    (bytes tos : List ℕ) (b at n : ℕ) → (get_or bytes at 0 ≡ b → ⊥) → seek bytes tos b at (suc n) ≡ seek bytes tos b (suc at) n
 unfolding seek
 seek-miss bytes tos b at n h = rw (ne_eqb (get_or bytes at 0) b h)
 
@@ -134,7 +138,8 @@ module _ (rule : List ℕ → Option ℕ) (ns : List²) (g : Grown ns) where
       let n : get_or (map length parts) k 0 ≡ length (edges_of ns s) =
       get_or-map-of length parts k [] 0 inside-parts ∙ ap length here in
       let w = laid-at parts k inside-parts in
-      ap (seek (map (λ e. e.byte) (flatten parts)) (map (λ e. e.to) (flatten parts)) b (get_or (starts 0 (map length parts)) k 0)) n
+      ap (seek (map (λ e. e.byte) (flatten parts)) (map (λ e. e.to) (flatten parts)) b
+      (get_or (starts 0 (map length parts)) k 0)) n
       ∙ seek-target (edges_of ns s) (flatten parts) w.0 b (get_or (starts 0 (map length parts)) k 0)
       (w.1 ∙ ap (λ (x : List Edge). x ++ w.0) here)
       ∙ target_is s b
@@ -166,7 +171,9 @@ module _ (rule : List ℕ → Option ℕ) (ns : List²) (g : Grown ns) where
       ∙ ap (λ (x : List ℕ). unwrap_or (rule x) no_id) (place_at ns s k e) in
       ap (λ (i : ℕ). cond (eqb i no_id) None (Some i)) stands ∙ read (rule s) small
     where
-      read : (o : Option ℕ) → ((i : ℕ) → o ≡ Some i → i ≡ no_id → ⊥) → cond (eqb (unwrap_or o no_id) no_id) None (Some (unwrap_or o no_id)) ≡ o
+      read :
+          (o : Option ℕ) → ((i : ℕ) → o ≡ Some i → i ≡ no_id → ⊥)
+          → cond (eqb (unwrap_or o no_id) no_id) None (Some (unwrap_or o no_id)) ≡ o
       read None h = refl
       read (Some i) h = rw (ne_eqb i no_id (h i refl))
 
@@ -177,7 +184,8 @@ module _ (rule : List ℕ → Option ℕ) (ns : List²) (g : Grown ns) where
   unfolding id_of id_from
   lookup-built within small s =
       ⊎_elim
-      (λ (q : place ns s ≡ None). let e : walk (lay rule ns) 0 s ≡ None = walk-built s ∙ q in rw (e, id_from) (sym (within s q)))
+      (λ (q : place ns s ≡ None). let e : walk (lay rule ns) 0 s ≡ None = walk-built s
+      ∙ q in rw (e, id_from) (sym (within s q)))
       (λ (w : (k : ℕ) × (place ns s ≡ Some k)).
       let e : walk (lay rule ns) 0 s ≡ Some w.0 = walk-built s ∙ w.1 in
       rw (e, id_from) (id-built s w.0 w.1 (small s)))

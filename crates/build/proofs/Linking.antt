@@ -31,7 +31,8 @@ first-later ns s c b v l cl f =
     go w (yes h) = none-some (sym (cl w.a w.from h) ∙ w.child)
     go w (no h) = inr (record { a = w.a; from = omega arith; child = w.child; clear = λ a p q. w.clear a (omega arith) q })
 
-pub slot-first : (ns : List²) (work : List ℕ) (s : List ℕ) (b at : ℕ) → Linked ns work → Slot ns s b at → First ns s b (get_or work at 0)
+pub slot-first :
+    (ns : List²) (work : List ℕ) (s : List ℕ) (b at : ℕ) → Linked ns work → Slot ns s b at → First ns s b (get_or work at 0)
 slot-first ns work s b at l (of-first k e p cl) =
     first-later ns s 0 b (get_or work at 0) (omega arith) cl
     (subst (λ (i : ℕ). First ns s 0 (get_or work i 0)) (sym p) (l.first s k e))
@@ -72,7 +73,8 @@ module _ (work : List ℕ) (at n : ℕ) (before : at < 2 * n) (room : 2 * suc n 
 -- ---- one node more
 
 module _ (ns : List²) (work : List ℕ) (l : Linked ns work) (s : List ℕ) (b at j : ℕ) (here : place ns s ≡ Some j)
-    (new : place ns (s ++ (b ∷ [])) ≡ None) (slot : Slot ns s b at) (byte : b < 256) (room : 2 * suc (length ns) ≤ length work) where
+    (new : place ns (s ++ (b ∷ [])) ≡ None) (slot : Slot ns s b at) (byte : b < 256)
+    (room : 2 * suc (length ns) ≤ length work) where
   abbrev n : ℕ
   n = length ns
 
@@ -90,10 +92,15 @@ module _ (ns : List²) (work : List ℕ) (l : Linked ns work) (s : List ℕ) (b 
 
   -- a first child stays one, where the new one does not come before it
   lift :
-      (x : List ℕ) (c v : ℕ) → ((e : ℕ) → Clear ns x c e → (a : ℕ) → c ≤ a → a < e → x ++ (a ∷ []) ≡ t → ⊥) → First ns x c v → First ms x c v
+      (x : List ℕ) (c v : ℕ) → ((e : ℕ) → Clear ns x c e → (a : ℕ) → c ≤ a → a < e → x ++ (a ∷ []) ≡ t → ⊥) → First ns x c v
+      → First ms x c v
   lift x c v apart f =
       ⊎_elim
-      (λ (w : (v ≡ 0) × Clear ns x c 256). inl (w.0, λ a p q. place_other ns t (x ++ (a ∷ [])) (apart 256 w.1 a p q) ∙ w.1 a p q))
+      (λ (w : (v ≡ 0) × Clear ns x c 256). inl (
+        w.0,
+        λ a p q. place_other ns t (x ++ (a ∷ [])) (apart 256 w.1 a p q)
+            ∙ w.1 a p q,
+      ))
       (λ (w : Least ns x c v). inr (record {
         a = w.a;
         from = w.from;
@@ -122,7 +129,9 @@ module _ (ns : List²) (work : List ℕ) (l : Linked ns work) (s : List ℕ) (b 
         clear = λ a p q. place_other ns t (s ++ (a ∷ [])) (λ z. omega (arith, snoc-last s s a b z)) ∙ cl a p q;
       })
 
-  at_other : (i : ℕ) → (i ≡ at → ⊥) → i < 2 * n → (x : List ℕ) (c : ℕ) → First ms x c (get_or work i 0) → First ms x c (get_or work' i 0)
+  at_other :
+      (i : ℕ) → (i ≡ at → ⊥) → i < 2 * n → (x : List ℕ) (c : ℕ) → First ms x c (get_or work i 0)
+      → First ms x c (get_or work' i 0)
   at_other i h q x c f = subst (First ms x c) (sym (linked-other work at n before room i h q)) f
 
   at_slot : (i : ℕ) → at ≡ i → (x : List ℕ) (c : ℕ) → s ≡ x → First ms s c n → First ms x c (get_or work' i 0)
@@ -151,7 +160,9 @@ module _ (ns : List²) (work : List ℕ) (l : Linked ns work) (s : List ℕ) (b 
       (equal? s x))
 
   -- the next sibling of s ++ [a], where another link than its own was changed
-  kept_next : (a k : ℕ) → place ns (s ++ (a ∷ [])) ≡ Some k → Slot ns s b at → (2 * k + 1 ≡ at → ⊥) → First ms s (suc a) (get_or work (2 * k + 1) 0)
+  kept_next :
+      (a k : ℕ) → place ns (s ++ (a ∷ [])) ≡ Some k → Slot ns s b at → (2 * k + 1 ≡ at → ⊥)
+      → First ms s (suc a) (get_or work (2 * k + 1) 0)
   kept_next a k e (of-first i p q cl) h = go (dec_lt a b)
     where
       go : Dec (a < b) → First ms s (suc a) (get_or work (2 * k + 1) 0)
@@ -168,7 +179,9 @@ module _ (ns : List²) (work : List ℕ) (l : Linked ns work) (s : List ℕ) (b 
           absurd (h (omega arith))
       go (yes u) (no v) (inr w) = none-some (sym (cl a (omega arith) u) ∙ e)
 
-  old-next : (x : List ℕ) (a k : ℕ) → place ns (x ++ (a ∷ [])) ≡ Some k → Slot ns s b at → First ms x (suc a) (get_or work' (2 * k + 1) 0)
+  old-next :
+      (x : List ℕ) (a k : ℕ) → place ns (x ++ (a ∷ [])) ≡ Some k → Slot ns s b at
+      → First ms x (suc a) (get_or work' (2 * k + 1) 0)
   old-next x a k e (of-first i p q cl) =
       let low : k < n = place-below ns (x ++ (a ∷ [])) k e in
       at_other (2 * k + 1) (λ y. omega arith) (omega arith) x (suc a)

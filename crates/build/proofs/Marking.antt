@@ -45,7 +45,8 @@ marked-elsewhere WordPiece id node v k h = get_or-set_other id node k v 0 h
 -- the node's own id is what the rule keeps
 marked-there :
     (kind : Kind) (id : List ℕ) (node v : ℕ) (o : Option ℕ) → node < length id → get_or id node 0 ≡ unwrap_or o no_id
-    → (kind ≡ Unigram → (i : ℕ) → o ≡ Some i → i < no_id) → get_or (marked_ids kind id node v) node 0 ≡ unwrap_or (kept kind o v) no_id
+    → (kind ≡ Unigram → (i : ℕ) → o ≡ Some i → i < no_id)
+    → get_or (marked_ids kind id node v) node 0 ≡ unwrap_or (kept kind o v) no_id
 unfolding kept
 marked-there Unigram id node v None h e small = rw (eq-eqb (get_or id node 0) no_id e) (get_or-set_same id node v 0 h)
 marked-there Unigram id node v (Some i) h e small =
@@ -109,7 +110,8 @@ module _ {ms : List²} {rule : List ℕ → Option ℕ} {t : List ℕ} {room : �
                   ∙ held.marks.ids s k p ∙ ap (λ (o : Option ℕ). unwrap_or o no_id) (sym (marked_other kind t v rule s q)))
                   (equal? s t);
               within = λ s p.
-                  marked_other kind t v rule s (λ q. none-some (sym (ap (place ms) (sym q) ∙ p) ∙ come.here)) ∙ held.marks.within s p;
+                  marked_other kind t v rule s (λ q. none-some (sym (ap (place ms) (sym q) ∙ p) ∙ come.here))
+                  ∙ held.marks.within s p;
               past = λ k p.
                   marked-elsewhere kind id node v k (λ y. omega (arith, below)) ∙ held.marks.past k p;
             });

@@ -76,7 +76,8 @@ all_fit m n some-node small e =
     let work = ltb (length m.work) (2 * n) in
     let p = neither-says (nodes || edges) work e in
     let q = neither-says nodes edges p.0 in
-    let s = neither-says (ltb (length m.parts.edge_at) n) (ltb (length m.parts.edge_n) n || (ltb (length m.parts.id) n || false)) q.0 in
+    let s = neither-says (ltb (length m.parts.edge_at) n)
+    (ltb (length m.parts.edge_n) n || (ltb (length m.parts.id) n || false)) q.0 in
     let t = none_below n (length m.parts.edge_n) (length m.parts.id) s.1 in
     let u = none_below (n - 1) (length m.parts.byte) (length m.parts.to) q.1 in
     record {
@@ -113,7 +114,8 @@ pub no-scored-room :
     (m : Memory) (n : ℕ) → 1 ≤ n → n ≤ 4_294_967_295 → no_scored_room n m ≡ ltb (min (room_of m) (length m.score)) n
 unfolding no_scored_room
 no-scored-room m n some-node small =
-    ap (λ (t : Bool). t || ltb (length m.score) n) (no_room_by m n some-node small) ∙ lesser-below (room_of m) (length m.score) n
+    ap (λ (t : Bool). t || ltb (length m.score) n) (no_room_by m n some-node small)
+    ∙ lesser-below (room_of m) (length m.score) n
 
 -- of a memory with this score column, whose room is that lesser one
 module _ (m : Memory) (xs : List Double) {room : ℕ} (e : room ≡ min (room_of m) (length xs)) where
@@ -133,7 +135,8 @@ nodes-some tab rows = omega (arith, ap length (names-are (tokens_of tab rows)), 
 
 -- at most 1,048,576 rows of 1,024 bytes: 1,073,741,825 nodes
 pub nodes-few :
-    (kind : Kind) (tab : List ℕ) (rows : List Row) → length rows ≤ max_rows → first_bad kind tab 0 rows ≡ None → nodes_of tab rows ≤ 1_073_741_825
+    (kind : Kind) (tab : List ℕ) (rows : List Row) → length rows ≤ max_rows → first_bad kind tab 0 rows ≡ None
+    → nodes_of tab rows ≤ 1_073_741_825
 nodes-few kind tab rows few fine =
     let tokens = tokens_of tab rows in
     let each = bytes-few tokens max_token

@@ -72,7 +72,8 @@ held-root edge_n id work he hi hw ze zi =
 
 -- in columns made zero, where there is room for it
 pub root-done :
-    {room : ℕ} {edge_n id work edge_n₁ id₁ id' work' : List ℕ} → Roomy room edge_n id work → 1 ≤ room → edge_n₁ ≡ zeroed 0 edge_n → id₁ ≡ zeroed 0 id
+    {room : ℕ} {edge_n id work edge_n₁ id₁ id' work' : List ℕ} → Roomy room edge_n id work → 1 ≤ room
+    → edge_n₁ ≡ zeroed 0 edge_n → id₁ ≡ zeroed 0 id
     → id' ≡ set id₁ 0 no_id → work' ≡ set work 0 0 → Stands ([] ∷ []) no_rule room edge_n₁ id' work' 1
 root-done {edge_n = edge_n} {id = id} {work = work} {edge_n₁ = edge_n₁} {id₁ = id₁} r h ze zi p q =
     record {
@@ -81,7 +82,8 @@ root-done {edge_n = edge_n} {id = id} {work = work} {edge_n₁ = edge_n₁} {id�
       held =
           rw (p, q)
           (held-root edge_n₁ id₁ work (omega (arith, length-zeroed edge_n edge_n₁ ze, r.nodes))
-          (omega (arith, length-zeroed id id₁ zi, r.ids)) (omega (arith, r.links)) (zero-from edge_n edge_n₁ 0 ze) (zero-from id id₁ 0 zi));
+          (omega (arith, length-zeroed id id₁ zi, r.ids)) (omega (arith, r.links)) (zero-from edge_n edge_n₁ 0 ze)
+          (zero-from id id₁ 0 zi));
     }
 
 -- ---- after i of the rows, the rest being still to be entered: the columns keep their lengths
@@ -175,7 +177,8 @@ module _ {kind : Kind} {tab : List ℕ} {rows : List Row} {room : ℕ} where
       rules-next : rules_from kind tab no_rule 0 rows ≡ rules_from kind tab rule-then (i + 1) more
       unfolding rules_from
       rules-next =
-          r.rules-on ∙ ap (rules_from kind tab r.rule i) next ∙ ap (λ (k : ℕ). rules_from kind tab rule-then k more) (sym (add-one i))
+          r.rules-on ∙ ap (rules_from kind tab r.rule i) next
+          ∙ ap (λ (k : ℕ). rules_from kind tab rule-then k more) (sym (add-one i))
 
       low-next : kind ≡ Unigram → (s : List ℕ) (j : ℕ) → rule-then s ≡ Some j → j < i + 1
       low-next e s j p =
@@ -186,7 +189,8 @@ module _ {kind : Kind} {tab : List ℕ} {rows : List Row} {room : ℕ} where
       module _ {edge_n' id' work' : List ℕ} (few : i < max_rows) where
         -- there was no room for it
         pub rowed-full :
-            RowEntered edge_n id work edge_n' id' work' kind room n token value None → room < length (names (tokens_of tab rows))
+            RowEntered edge_n id work edge_n' id' work' kind room n token value None
+            → room < length (names (tokens_of tab rows))
         rowed-full one =
             let full : room < length (enter r.nodes (prefixes [] token)) =
             one.entered r.nodes r.rule r.stands.held r.stands.count (λ e s j p. omega (arith, r.low e s j p)) in
@@ -225,7 +229,8 @@ unfolding rows_of
 rest_all off len ids = ap (rows_from (columns off len [] [] ids) 0) (omega arith)
 
 pub rest-next :
-    (off len ids : List ℕ) (i : ℕ) → i < length off → rest_of off len ids i ≡ row_at (columns off len [] [] ids) i ∷ rest_of off len ids (i + 1)
+    (off len ids : List ℕ) (i : ℕ) → i < length off
+    → rest_of off len ids i ≡ row_at (columns off len [] [] ids) i ∷ rest_of off len ids (i + 1)
 unfolding rows_from
 rest-next off len ids i h =
     let c = columns off len [] [] ids in
@@ -238,8 +243,10 @@ rest-none off len ids i h = let e : length off - i ≡ 0 = omega arith in ap (ro
 
 -- row i, from its places
 pub row-given :
-    {edge_n id work edge_n' id' work' : List ℕ} {kind : Kind} {room n : ℕ} {answer : Option ℕ} (tab off len ids : List ℕ) (i : ℕ)
-    → RowEntered edge_n id work edge_n' id' work' kind room n (span_of tab (get_or off i 0) (get_or len i 0)) (value_of kind i (get_or ids i 0)) answer
+    {edge_n id work edge_n' id' work' : List ℕ} {kind : Kind} {room n : ℕ} {answer : Option ℕ} (tab off len ids : List ℕ)
+    (i : ℕ)
+    → RowEntered edge_n id work edge_n' id' work' kind room n (span_of tab (get_or off i 0) (get_or len i 0))
+    (value_of kind i (get_or ids i 0)) answer
     → let r = row_at (columns off len [] [] ids) i in
     RowEntered edge_n id work edge_n' id' work' kind room n (token_of tab r) (value_of kind i (id_of_worth r.worth)) answer
 unfolding row_at id_of_worth

@@ -1,6 +1,7 @@
 -- What the lent columns hold while tokens are entered, and what each step of entering promises. A step speaks of the names and
 -- ids that the columns hold: it asks that there are some, and says of any what they become. Definitions only; assumes nothing.
-use Rattle.std.specs.Prelude.{◌≡◌, cond, List, [], ◌∷◌, ◌++◌, ℕ, ◌+◌, ◌*◌, ◌≤◌, ◌<◌, eqb, length, get_or, set, Option, None, Some, unwrap_or, MatchOption}
+use Rattle.std.specs.Prelude.{◌≡◌, cond, List, [], ◌∷◌, ◌++◌, ℕ, ◌+◌, ◌*◌, ◌≤◌, ◌<◌, eqb, length, get_or, set, Option}
+use Rattle.std.specs.Prelude.{None, Some, unwrap_or, MatchOption}
 use Rattle.refusal.specs.Sizes.{no_id, max_rows}
 use Rattle.rows.specs.declared.Kind.{Kind}
 use Rattle.rows.specs.declared.Kind.TheVariants.{Unigram, WordPiece}

@@ -48,8 +48,8 @@ pub struct Reached {
     pub n: usize,
 }
 
-// The child by the byte b of the node reached: the one that is there, or else the next node, which is made. None where it is not
-// there and no room is left.
+// The child by the byte b of the node reached: the one that is there, or else the next node, which is made. None where it is
+// not there and no room is left.
 pub fn child(
     edge_n: &mut [u16],
     id: &mut [u32],

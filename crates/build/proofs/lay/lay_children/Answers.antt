@@ -49,13 +49,15 @@ pub overflow_cast-to : goal.overflow_cast-to
 overflow_cast-to c = omega (arith, laying_inside c.requires c.loop-k.invariant c.loop-k-test.true)
 
 pub offset_bounds-to-at : goal.offset_bounds-to-at
-offset_bounds-to-at c = omega (arith, laying_inside c.requires c.loop-k.invariant c.loop-k-test.true, c.loop-k.invariant.targets, c.well_formed)
+offset_bounds-to-at c =
+    omega (arith, laying_inside c.requires c.loop-k.invariant c.loop-k-test.true, c.loop-k.invariant.targets, c.well_formed)
 
 pub bounds-to-at : goal.bounds-to-at
 bounds-to-at c = (laying_inside c.requires c.loop-k.invariant c.loop-k-test.true).in-to
 
 pub overflow_add-at : goal.overflow_add-at
-overflow_add-at c = omega (arith, laying_inside c.requires c.loop-k.invariant c.loop-k-test.true, c.loop-k.invariant.targets, c.well_formed)
+overflow_add-at c =
+    omega (arith, laying_inside c.requires c.loop-k.invariant c.loop-k-test.true, c.loop-k.invariant.targets, c.well_formed)
 
 pub overflow_mul-k-in-loop-k : goal.overflow_mul-k-in-loop-k
 overflow_mul-k-in-loop-k c = omega (arith, laying_inside c.requires c.loop-k.invariant c.loop-k-test.true)

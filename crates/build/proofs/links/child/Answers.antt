@@ -3,7 +3,8 @@
 use mathlib.Core.Path.{◌≡◌}
 use native.Mathlib.Omega.{arith}
 use lib.ListN.{get_or}
-use Rattle.build.proofs.Holding.{held-chained, link-inside, child-inside, child-there, child-absent, byte-there, byte_full, byte-made}
+use Rattle.build.proofs.Holding.{held-chained, link-inside, child-inside, child-there, child-absent, byte-there}
+use Rattle.build.proofs.Holding.{byte_full, byte-made}
 use Rattle.build.proofs.links.child.Goals.{then-k-ne0+else-edge_n-k, else-k-ne0}
 use Rattle.build.proofs.links.child.Goals as goal
 
@@ -27,7 +28,11 @@ pub returns-then-n-room : goal.returns-then-n-room
 returns-then-n-room c =
     let k = get_or c.args.work.now c.seek-at.result 0 in
     let other : (k ≡ 0 → ⊥) → get_or c.args.edge_n.now k 0 ≡ c.args.b → ⊥ =
-    elim c.if-k-ne0.branch [ then-k-ne0+else-edge_n-k w ↦ λ z. w.if-edge_n-k.false | else-k-ne0 w ↦ λ z. absurd (z w.if-k-ne0.false) ] in
+    elim c.if-k-ne0.branch [
+      | then-k-ne0+else-edge_n-k w ↦ λ z. w.if-edge_n-k.false
+      | else-k-ne0 w ↦ λ z. absurd
+          (z w.if-k-ne0.false)
+    ] in
     record {
       entered = λ ns rule s h n e.
           let slot = c.seek-at.ensures.slot (held-chained s h e) in
@@ -50,10 +55,15 @@ pub returns : goal.returns
 returns c =
     let k = get_or c.args.work.now c.seek-at.result 0 in
     let other : (k ≡ 0 → ⊥) → get_or c.args.edge_n.now k 0 ≡ c.args.b → ⊥ =
-    elim c.if-k-ne0.branch [ then-k-ne0+else-edge_n-k w ↦ λ z. w.if-edge_n-k.false | else-k-ne0 w ↦ λ z. absurd (z w.if-k-ne0.false) ] in
+    elim c.if-k-ne0.branch [
+      | then-k-ne0+else-edge_n-k w ↦ λ z. w.if-edge_n-k.false
+      | else-k-ne0 w ↦ λ z. absurd
+          (z w.if-k-ne0.false)
+    ] in
     record {
       entered = λ ns rule s h n e.
           let slot = c.seek-at.ensures.slot (held-chained s h e) in
-          byte-made h s c.args.b n c.requires.fits e (child-absent h.links h.bytes e slot (omega arith) other) slot (omega arith)
-          (omega (arith, c.requires.fits, c.if-n-room.false)) c.requires.roomy c.link.ensures.0 c.link.ensures.1 c.link.ensures.2;
+          byte-made h s c.args.b n c.requires.fits e (child-absent h.links h.bytes e slot (omega arith) other) slot
+          (omega arith) (omega (arith, c.requires.fits, c.if-n-room.false)) c.requires.roomy c.link.ensures.0
+          c.link.ensures.1 c.link.ensures.2;
     }

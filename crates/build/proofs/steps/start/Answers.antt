@@ -6,5 +6,6 @@ use Rattle.build.proofs.steps.start.Goals as goal
 
 pub returns : goal.returns
 returns c =
-    root-done c.requires (omega (arith, c.if-room-eq0.false)) (c.fill.ensures.after (λ y e. e)) (c.fill-2.ensures.after (λ y e. e))
+    root-done c.requires (omega (arith, c.if-room-eq0.false)) (c.fill.ensures.after (λ y e. e))
+    (c.fill-2.ensures.after (λ y e. e))
     c.plant.ensures.0 c.plant.ensures.1

@@ -9,5 +9,6 @@ use Rattle.build.proofs.tokens.enter.Given as goal
 
 abbrev pub invariant-loop-b : goal.invariant-loop-b
 invariant-loop-b l = Kept l.initial.edge_n l.initial.id l.initial.work l.edge_n l.id l.work
-    × ((ns : List (List ℕ)) (rule : List ℕ → Option ℕ) → Held ns rule l.initial.edge_n l.initial.id l.initial.work → l.n ≡ length ns
+    × ((ns : List (List ℕ)) (rule : List ℕ → Option ℕ) → Held ns rule l.initial.edge_n l.initial.id l.initial.work
+    → l.n ≡ length ns
     → Along ns rule l.token l.room l.b-index l.edge_n l.id l.work l.at.node l.at.n)

@@ -24,5 +24,6 @@ pub returns : goal.returns
 returns c =
     let end = c.in_ok-end.ensures in
     record {
-      entered = λ ns rule h n small. row-marked (end.entered ns rule h n) c.args.v (grind (arith, c.is_empty.ensures, c.if-is_empty.false)) small c.mark.ensures;
+      entered = λ ns rule h n small. row-marked (end.entered ns rule h n) c.args.v
+          (grind (arith, c.is_empty.ensures, c.if-is_empty.false)) small c.mark.ensures;
     }
