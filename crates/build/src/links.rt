@@ -65,10 +65,8 @@ pub fn child(
     let n = from.n;
     let at = seek(edge_n, work, from.node, b);
     let k = work[at] as usize;
-    if k != 0 {
-        if edge_n[k] == b as u16 {
-            return Some(Reached { node: k, n });
-        }
+    if k != 0 && edge_n[k] == b as u16 {
+        return Some(Reached { node: k, n });
     }
     if n == room {
         return None;

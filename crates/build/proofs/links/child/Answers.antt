@@ -5,7 +5,8 @@ use native.Mathlib.Omega.{arith}
 use lib.ListN.{get_or}
 use Rattle.build.proofs.Holding.{held-chained, link-inside, child-inside, child-there, child-absent, byte-there}
 use Rattle.build.proofs.Holding.{byte_full, byte-made}
-use Rattle.build.proofs.links.child.Goals.{then-k-ne0+else-edge_n-k, else-k-ne0}
+use Rattle.build.proofs.links.child.Goals.{else-k-ne0-via-then-k-ne0+else-edge_n-k as other_byte}
+use Rattle.build.proofs.links.child.Goals.{else-k-ne0-via-else-k-ne0 as no_child}
 use Rattle.build.proofs.links.child.Goals as goal
 
 pub offset_bounds-work-at : goal.offset_bounds-work-at
@@ -28,11 +29,7 @@ pub returns-then-n-room : goal.returns-then-n-room
 returns-then-n-room c =
     let k = get_or c.args.work.now c.seek-at.result 0 in
     let other : (k ≡ 0 → ⊥) → get_or c.args.edge_n.now k 0 ≡ c.args.b → ⊥ =
-    elim c.if-k-ne0.branch [
-      | then-k-ne0+else-edge_n-k w ↦ λ z. w.if-edge_n-k.false
-      | else-k-ne0 w ↦ λ z. absurd
-          (z w.if-k-ne0.false)
-    ] in
+    elim c.else-k-ne0.branch [ other_byte w ↦ λ z. w.if-edge_n-k.false | no_child w ↦ λ z. absurd (z w.if-k-ne0.false) ] in
     record {
       entered = λ ns rule s h n e.
           let slot = c.seek-at.ensures.slot (held-chained s h e) in
@@ -55,11 +52,7 @@ pub returns : goal.returns
 returns c =
     let k = get_or c.args.work.now c.seek-at.result 0 in
     let other : (k ≡ 0 → ⊥) → get_or c.args.edge_n.now k 0 ≡ c.args.b → ⊥ =
-    elim c.if-k-ne0.branch [
-      | then-k-ne0+else-edge_n-k w ↦ λ z. w.if-edge_n-k.false
-      | else-k-ne0 w ↦ λ z. absurd
-          (z w.if-k-ne0.false)
-    ] in
+    elim c.else-k-ne0.branch [ other_byte w ↦ λ z. w.if-edge_n-k.false | no_child w ↦ λ z. absurd (z w.if-k-ne0.false) ] in
     record {
       entered = λ ns rule s h n e.
           let slot = c.seek-at.ensures.slot (held-chained s h e) in
