@@ -34,7 +34,7 @@ pub record BuiltOf (kind : Kind) (tab : List ℕ) (rows : List Row) (room : ℕ)
 
 -- ---- the last step
 
--- rows were entered and made so many nodes, where every lent column had room for `room`, or they found no room
+-- rows were entered and made so many nodes, or found no room for them; every lent column has room for `room`
 pub record Finishable (m : Memory) (made : Option ℕ) : Type 0 where
   pub nodes : List (List ℕ)
   pub rule : List ℕ → Option ℕ

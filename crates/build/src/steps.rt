@@ -34,8 +34,8 @@ pub fn start(edge_n: &mut [u16], id: &mut [u32], work: &mut [u32], room: usize) 
     Some(1)
 }
 
-// The nodes that the rows made, so many, laid out as parts. Where there was no room for them, every lent place is zero
-// afterwards.
+// The nodes that the rows made, `made` of them, laid out as parts. Where there was no room for them, it is None, and every lent
+// place is zero afterwards.
 pub fn finish(
     edge_at: &mut [u32],
     edge_n: &mut [u16],
