@@ -14,7 +14,7 @@ use borrow.Author.Tests.{eq-eqb, ne_eqb}
 use lib.Dec.{eqb}
 use lib.ListN.{length, get_or, drop, length-append, length-map}
 use lib.Seq.{drop-append_seam}
-use Rattle.refusal.proofs.Lists.{zero_one, none-some}
+use Rattle.refusal.proofs.Lists.{map-inside, zero_one, none-some}
 use Rattle.refusal.specs.Sizes.{no_id}
 use Rattle.trie.specs.Trie.{seek, step, walk, id_at, id_from, id_of}
 use Rattle.build.specs.Names.{place}
@@ -28,9 +28,7 @@ use Rattle.build.proofs.Edges.{target, target-of, target-no-byte}
 
 pub get_or-map-of :
     {A B : Type 0} (f : A → B) (l : List A) (k : ℕ) (d : A) (z : B) → k < length l → get_or (map f l) k z ≡ f (get_or l k d)
-get_or-map-of f [] k d z h = absurd (omega arith)
-get_or-map-of f (x ∷ l) zero d z h = refl
-get_or-map-of f (x ∷ l) (suc k) d z h = get_or-map-of f l k d z (omega arith)
+get_or-map-of f l k d z h = map-inside f l k d z h
 
 -- what stands at `at`, and after it
 pub drop_head : (l : List Edge) (at : ℕ) (x : Edge) (r : List Edge) → drop at l ≡ x ∷ r → drop (suc at) l ≡ r
