@@ -28,7 +28,8 @@ use Rattle.rows.proofs.LowestScores.{unknown-finite}
 use Rattle.build.specs.Names.{names}
 use Rattle.build.specs.Grown.{Bytes}
 use Rattle.build.specs.Parts.{trie_of}
-use Rattle.build.specs.Rules.{tokens_of, first_row, last_id, score_of, scores_of, node_score_of, unigram_trie, unigram_scores, wordpiece_trie}
+use Rattle.build.specs.Rules.{tokens_of, first_row, last_id, score_of, scores_of, node_score_of, unigram_trie}
+use Rattle.build.specs.Rules.{unigram_scores, wordpiece_trie}
 use Rattle.build.specs.Memory.{Memory, holding}
 use Rattle.build.specs.Checked.{nodes_of}
 use Rattle.build.specs.Promise.{trie_in, scores_in, Promised}
@@ -40,7 +41,9 @@ use Rattle.build.proofs.Promises.{built-left}
 
 -- the parts with n nodes that lent columns hold in front
 abbrev pub parts_in : ℕ → Memory → Trie
-parts_in n m = parts_of (take n m.parts.edge_at) (take n m.parts.edge_n) (take n m.parts.id) (take (n - 1) m.parts.byte) (take (n - 1) m.parts.to)
+parts_in n m =
+    parts_of (take n m.parts.edge_at) (take n m.parts.edge_n) (take n m.parts.id) (take (n - 1) m.parts.byte)
+    (take (n - 1) m.parts.to)
 
 -- every score is a double, as those of a lent column are
 abbrev pub Doubles : List Double → Type 0
@@ -49,7 +52,8 @@ Doubles xs = (k : ℕ) → k < length xs → T (is_double (get_or xs k plus_zero
 -- ---- the cut, and that it is sound
 
 same_parts :
-    {a b c d e a' b' c' d' e' : List ℕ} → a ≡ a' → b ≡ b' → c ≡ c' → d ≡ d' → e ≡ e' → parts_of a b c d e ≡ parts_of a' b' c' d' e'
+    {a b c d e a' b' c' d' e' : List ℕ} → a ≡ a' → b ≡ b' → c ≡ c' → d ≡ d' → e ≡ e'
+    → parts_of a b c d e ≡ parts_of a' b' c' d' e'
 same_parts p q r s t = cc
 
 module _ (tab : List ℕ) (rows : List Row) (bytes : Bytes tab) where
@@ -60,20 +64,26 @@ module _ (tab : List ℕ) (rows : List Row) (bytes : Bytes tab) where
   cut-held rule xs m =
       let tokens = tokens_of tab rows in
       let all = tokens-bytes tab rows bytes in
-      same_parts (take_at _ _ _ (length-edge_at rule tokens)) (take_at _ _ _ (length-edge_n rule tokens)) (take_at _ _ _ (length-id rule tokens))
+      same_parts (take_at _ _ _ (length-edge_at rule tokens)) (take_at _ _ _ (length-edge_n rule tokens))
+      (take_at _ _ _ (length-id rule tokens))
       (take_at _ _ _ (length-byte rule tokens all)) (take_at _ _ _ (length_to rule tokens all))
 
-  pub rows_cut : (kind : Kind) (xs : List Double) (m : Memory) → parts_in (nodes_of tab rows) (holding (trie_in kind tab rows) xs m) ≡ trie_in kind tab rows
+  pub rows_cut :
+      (kind : Kind) (xs : List Double) (m : Memory)
+      → parts_in (nodes_of tab rows) (holding (trie_in kind tab rows) xs m) ≡ trie_in kind tab rows
   unfolding trie_in unigram_trie wordpiece_trie
   rows_cut Unigram xs m = cut-held (first_row (tokens_of tab rows)) xs m
   rows_cut WordPiece xs m = cut-held (last_id tab rows) xs m
 
-  pub rows-sound : (kind : Kind) → length rows ≤ max_rows → first_bad kind tab 0 rows ≡ None → sound (trie_in kind tab rows) ≡ true
+  pub rows-sound :
+      (kind : Kind) → length rows ≤ max_rows → first_bad kind tab 0 rows ≡ None → sound (trie_in kind tab rows) ≡ true
   unfolding trie_in unigram_trie wordpiece_trie
   rows-sound Unigram few fine =
-      sound-built (first_row (tokens_of tab rows)) (tokens_of tab rows) (tokens-bytes tab rows bytes) (omega (arith, nodes-few Unigram tab rows few fine))
+      sound-built (first_row (tokens_of tab rows)) (tokens_of tab rows) (tokens-bytes tab rows bytes)
+      (omega (arith, nodes-few Unigram tab rows few fine))
   rows-sound WordPiece few fine =
-      sound-built (last_id tab rows) (tokens_of tab rows) (tokens-bytes tab rows bytes) (omega (arith, nodes-few WordPiece tab rows few fine))
+      sound-built (last_id tab rows) (tokens_of tab rows) (tokens-bytes tab rows bytes)
+      (omega (arith, nodes-few WordPiece tab rows few fine))
 
 -- ---- the scores of a Unigram trie
 
@@ -84,10 +94,12 @@ length-scores tab rows = length-map (names (tokens_of tab rows)) _
 -- the score of node k is that of the row of its string
 pub score-at :
     (tab : List ℕ) (rows : List Row) (k : ℕ) → k < nodes_of tab rows
-    → get_or (unigram_scores tab rows) k plus_zero ≡ node_score_of (scores_of rows) (first_row (tokens_of tab rows) (get_or (names (tokens_of tab rows)) k []))
+    → get_or (unigram_scores tab rows) k plus_zero ≡ node_score_of (scores_of rows)
+    (first_row (tokens_of tab rows) (get_or (names (tokens_of tab rows)) k []))
 unfolding unigram_scores
 score-at tab rows k h =
-    let tokens = tokens_of tab rows in get_or-map-of (λ s. node_score_of (scores_of rows) (first_row tokens s)) (names tokens) k [] plus_zero h
+    let tokens = tokens_of tab rows in
+    get_or-map-of (λ s. node_score_of (scores_of rows) (first_row tokens s)) (names tokens) k [] plus_zero h
 
 is_true : (b : Bool) → T b → b ≡ true
 is_true true t = refl
@@ -103,7 +115,9 @@ module _ (tab : List ℕ) (rows : List Row) (fine : first_bad Unigram tab 0 rows
           let r = get_or rows i no_row in
           let w = fine-score r.worth (fine-worth Unigram tab r (none-bad-says Unigram tab no_row 0 rows fine i h)) in
           ap is_finite (get_or-map-of (λ (r : Row). score_of r.worth) rows i no_row plus_zero h ∙ ap score_of w.1) ∙ w.2
-      go (no h) = ap is_finite (get_or-eq_default (scores_of rows) plus_zero (omega (arith, length-map rows (λ (r : Row). score_of r.worth))))
+      go (no h) =
+          ap is_finite (get_or-eq_default (scores_of rows) plus_zero
+          (omega (arith, length-map rows (λ (r : Row). score_of r.worth))))
 
   node-finite : (o : Option ℕ) → is_finite (node_score_of (scores_of rows) o) ≡ true
   unfolding node_score_of is_finite
@@ -111,7 +125,9 @@ module _ (tab : List ℕ) (rows : List Row) (fine : first_bad Unigram tab 0 rows
   node-finite (Some i) = score-finite i
 
   -- sound, scores and unknown score finite
-  pub rows-scored : Bytes tab → length rows ≤ max_rows → Doubles (scores_of rows) → sound_scored (unigram_trie tab rows) (unigram_scores tab rows) (unknown_score (scores_of rows)) ≡ true
+  pub rows-scored :
+      Bytes tab → length rows ≤ max_rows → Doubles (scores_of rows)
+      → sound_scored (unigram_trie tab rows) (unigram_scores tab rows) (unknown_score (scores_of rows)) ≡ true
   unfolding trie_in unigram_trie
   rows-scored bytes few doubles =
       let tokens = tokens_of tab rows in
@@ -119,14 +135,17 @@ module _ (tab : List ℕ) (rows : List Row) (fine : first_bad Unigram tab 0 rows
       (record {
         parts = rows-sound tab rows bytes Unigram few fine;
         level-score = length-scores tab rows ∙ sym (length-edge_at (first_row tokens) tokens);
-        finite = λ k h. ap is_finite (score-at tab rows k (omega (arith, length-scores tab rows))) ∙ node-finite (first_row tokens (get_or (names tokens) k []));
+        finite = λ k h. ap is_finite (score-at tab rows k (omega (arith, length-scores tab rows)))
+            ∙ node-finite (first_row tokens (get_or (names tokens) k []));
         finite-unknown = is_true _ (unknown-finite (scores_of rows) (λ k h. (doubles k h, subst T (sym (score-finite k)) tt)));
       })
 
 -- ---- after a build
 
-module _ {A : Type 0} {kind : Kind} {tab : List ℕ} {rows : List Row} {judged : Option Reason} {short : Bool} {summary : A} {m : Memory} {answer : Result A Reason} {after : Memory}
-    (p : Promised kind tab rows judged short summary m answer after) {s : A} (e : answer ≡ Ok s) {n : ℕ} (count : n ≡ nodes_of tab rows) where
+module _ {A : Type 0} {kind : Kind} {tab : List ℕ} {rows : List Row} {judged : Option Reason} {short : Bool} {summary : A}
+    {m : Memory} {answer : Result A Reason} {after : Memory}
+    (p : Promised kind tab rows judged short summary m answer after) {s : A} (e : answer ≡ Ok s) {n : ℕ}
+    (count : n ≡ nodes_of tab rows) where
   -- the lent columns, cut to the counts, are the trie of the rows
   pub built-parts : Bytes tab → parts_in n after ≡ trie_in kind tab rows
   built-parts bytes =
@@ -138,5 +157,6 @@ module _ {A : Type 0} {kind : Kind} {tab : List ℕ} {rows : List Row} {judged :
   pub built-scores : kind ≡ Unigram → take n after.score ≡ unigram_scores tab rows
   unfolding holding scores_in
   built-scores k =
-      ap (λ (x : Memory). take n x.score) (built-left p e ∙ ap (λ (y : Kind). holding (trie_in y tab rows) (scores_in y tab rows) m) k)
+      ap (λ (x : Memory). take n x.score) (built-left p e
+      ∙ ap (λ (y : Kind). holding (trie_in y tab rows) (scores_in y tab rows) m) k)
       ∙ take_at (unigram_scores tab rows) _ n (length-scores tab rows ∙ sym count)

@@ -11,7 +11,9 @@ use lib.Seq.{sets}
 use Rattle.build.specs.Names.{place}
 use Rattle.build.specs.Parts.{Edge, edges_from, edges_of}
 use Rattle.build.specs.Links.{Least, First, Linked, Spelled}
-use Rattle.build.specs.Laying.{bytes_of, targets_of, ChildrenDone}
+use Rattle.build.specs.Held.{Chained}
+use Rattle.build.specs.Laying.{bytes_of, targets_of, ChildrenDone, ChildrenReady}
+use Rattle.build.proofs.Places.{place-below}
 use Rattle.build.proofs.Grown.{List²}
 use Rattle.build.proofs.Seeking.{hand-none, hand, hand-below, hand-byte, hand-small}
 use Rattle.build.proofs.Edges.{edges_none, edges-next}
@@ -55,7 +57,15 @@ pub writing_start :
     → {byte to : List ℕ} {at : ℕ} → Writing ns s byte to at byte to at (get_or work (2 * node) 0)
 unfolding edges_of
 writing_start l {s = s} node e =
-    record { low = 0; low_fits = omega arith; few = omega arith; first = l.first s node e; written = refl; led = refl; count = refl }
+    record {
+      low = 0;
+      low_fits = omega arith;
+      few = omega arith;
+      first = l.first s node e;
+      written = refl;
+      led = refl;
+      count = refl;
+    }
 
 module _ {ns : List²} {edge_n work : List ℕ} {node : ℕ} {s byte₀ to₀ : List ℕ} {at₀ : ℕ} {byte to : List ℕ} {at k : ℕ}
     (l : Linked ns work) (sp : Spelled ns node edge_n) (here : place ns s ≡ Some node)
@@ -109,3 +119,42 @@ module _ {ns : List²} {edge_n work : List ℕ} {node : ℕ} {s byte₀ to₀ : 
         led = sym (w.led ∙ ap (λ (es : List Edge). sets to at (targets_of es)) none_left);
         count = omega (arith, w.count, ap length none_left);
       }
+
+-- ---- the same, whichever names the columns hold, in columns that keep their lengths
+
+pub record Laying (edge_n work byte₀ to₀ : List ℕ) (node from : ℕ) (byte to : List ℕ) (at k : ℕ) : Type 0 where
+  pub bytes : length byte ≡ length byte₀
+  pub targets : length to ≡ length to₀
+  pub children : (c : Chained edge_n work node node) → Writing c.names c.string byte₀ to₀ from byte to at k
+
+-- the child at hand and its edge have their places, and there is one child for each byte
+pub record Inside (edge_n work byte to : List ℕ) (from at k : ℕ) : Type 0 where
+  pub node : k < length edge_n
+  pub link : 2 * k + 1 < length work
+  pub number : k < 4_294_967_296
+  pub a_byte : get_or edge_n k 0 < 256
+  pub in-byte : at < length byte
+  pub in-to : at < length to
+  pub few : at < from + 256
+
+module _ {edge_n work byte₀ to₀ : List ℕ} {node from : ℕ} (ready : ChildrenReady edge_n work byte₀ to₀ node from) where
+  pub laying_inside :
+      {byte to : List ℕ} {at k : ℕ} → Laying edge_n work byte₀ to₀ node from byte to at k → (k ≡ 0 → ⊥)
+      → Inside edge_n work byte to from at k
+  laying_inside l z =
+      let c = ready.chained in
+      let w = l.children c in
+      let below = writing-below c.links c.bytes c.here w z in
+      let room = writing-room c.links c.bytes c.here w z in
+      record {
+        node = omega (arith, below, c.bytes.room);
+        link = omega (arith, below, c.links.room);
+        number = omega (arith, below, ready.small);
+        a_byte = writing-small c.links c.bytes c.here w z;
+        in-byte = omega (arith, room, ready.room-byte, l.bytes);
+        in-to = omega (arith, room, ready.room-to, l.targets);
+        few = writing-few c.links c.bytes c.here w z;
+      }
+
+  pub node_link : 2 * node < length work
+  node_link = let c = ready.chained in omega (arith, c.links.room, place-below c.names c.string node c.here)

@@ -6,6 +6,7 @@ use mathlib.Core.List.{List, [], ◌∷◌, ◌++◌, map, flatten}
 use mathlib.Core.Logic.{⊎_elim}
 use Prim.Native.Nat.{ℕ, zero, suc, ◌+◌, ◌-◌, ◌≤◌, ◌<◌}
 use native.Mathlib.Omega.{arith}
+use Rattle.std.proofs.Math.Nat.{eq-or-lt_of_le}
 use lib.ListN.{length, get_or, length-append}
 use Rattle.build.specs.Names.{place}
 use Rattle.build.specs.Grown.{Grown, root, more}
@@ -13,7 +14,7 @@ use Rattle.build.specs.Parts.{Edge, edge, edges_from, edges_of}
 use Rattle.build.proofs.Strings.{snoc-nil, snoc-front, snoc-last, snoc-longer}
 use Rattle.build.proofs.Places.{found?, place-empty, place-below, place_at, place_end, place_other}
 use Rattle.build.proofs.Grown.{List², grown-distinct, grown-none}
-use Rattle.build.proofs.Edges.{edges-miss, edges-hit, edges_none, at-or-above}
+use Rattle.build.proofs.Edges.{edges-miss, edges-hit, edges_none}
 
 -- ---- the edges of one node, with one name more
 
@@ -24,7 +25,8 @@ unfolding edges_from
 edges-agree zero ns ms s b h = refl
 edges-agree (suc n) ns ms s b h =
     ap (λ (o : Option ℕ). edge b o ++ edges_from ms s (suc b) n) (h b (omega arith))
-    ∙ ap (λ (es : List Edge). edge b (place ns (s ++ (b ∷ []))) ++ es) (edges-agree n ns ms s (suc b) (λ a l. h a (omega arith)))
+    ∙ ap (λ (es : List Edge). edge b (place ns (s ++ (b ∷ []))) ++ es)
+    (edges-agree n ns ms s (suc b) (λ a l. h a (omega arith)))
 
 module _ (ns : List²) (p : List ℕ) (c : ℕ) (new : place ns (p ++ (c ∷ [])) ≡ None) where
   abbrev grown : List²
@@ -54,11 +56,12 @@ module _ (ns : List²) (p : List ℕ) (c : ℕ) (new : place ns (p ++ (c ∷ [])
       place_other ns (p ++ (c ∷ [])) (p ++ (b ∷ [])) (λ e. omega (arith, snoc-last p p b c e)) in
       let on = edges-gain n (suc b) q (omega arith) in
       ⊎_elim
-      (λ e. ap length (edges-miss grown p b n (same ∙ e)) ∙ on ∙ ap (λ (es : List Edge). suc (length es)) (sym (edges-miss ns p b n e)))
+      (λ e. ap length (edges-miss grown p b n (same ∙ e)) ∙ on
+      ∙ ap (λ (es : List Edge). suc (length es)) (sym (edges-miss ns p b n e)))
       (λ w. ap length (edges-hit grown p b n w.0 (same ∙ w.1)) ∙ ap suc on
       ∙ ap (λ (es : List Edge). suc (length es)) (sym (edges-hit ns p b n w.0 w.1)))
       (found? (place ns (p ++ (b ∷ [])))))
-      (at-or-above b c l)
+      (eq-or-lt_of_le l)
 
 -- ---- all edges
 
@@ -100,7 +103,8 @@ module _ (ns : List²) (p : List ℕ) (c : ℕ) (new : place ns (p ++ (c ∷ [])
   total-gain (m ∷ ms) zero l e h =
       let gain = edges-gain ns p c new 256 0 (omega arith) (omega arith) in
       let here : length (edges_of (grown ns p c new) m) ≡ suc (length (edges_of ns m)) =
-      ap (λ (x : List ℕ). length (edges_of (grown ns p c new) x)) e ∙ gain ∙ ap (λ (x : List ℕ). suc (length (edges_of ns x))) (sym e) in
+      ap (λ (x : List ℕ). length (edges_of (grown ns p c new) x)) e ∙ gain
+      ∙ ap (λ (x : List ℕ). suc (length (edges_of ns x))) (sym e) in
       omega (arith, here, total-other ms (λ k n f. omega (arith, h (suc k) (omega arith) f)))
   total-gain (m ∷ ms) (suc j) l e h =
       let on = total-gain ms j (omega arith) e (λ k n f. omega (arith, h (suc k) (omega arith) f)) in
@@ -120,7 +124,9 @@ total-new {ns} g p c f =
 pub count-edges : {ns : List²} → Grown ns → suc (total ns ns) ≡ length ns
 unfolding total edges_of
 count-edges root =
-    let bare = edges_none ([] ∷ []) [] 0 (omega arith) (λ a l m. place_other [] [] (a ∷ []) (λ e. snoc-nil [] a e) ∙ place-empty (a ∷ [])) in
+    let bare =
+    edges_none ([] ∷ []) [] 0 (omega arith)
+    (λ a l m. place_other [] [] (a ∷ []) (λ e. snoc-nil [] a e) ∙ place-empty (a ∷ [])) in
     omega (arith, ap length bare)
 count-edges (more {ns} p c j g e h f) =
     let t = p ++ (c ∷ []) in

@@ -4,10 +4,10 @@ use Rattle.std.specs.Prelude.{Option, None, Some}
 use mathlib.Core.Path.{◌≡◌, refl, sym, ap, ◌∙◌, subst}
 use mathlib.Core.Bool.{cond}
 use mathlib.Core.List.{List, [], ◌∷◌, ◌++◌}
-use mathlib.Core.Logic.{◌⊎◌, inl, inr, ⊎_elim}
+use mathlib.Core.Logic.{⊎_elim}
 use Prim.Native.Nat.{ℕ, zero, suc, ◌+◌, ◌-◌, ◌≤◌, ◌<◌}
 use native.Mathlib.Omega.{arith}
-use native.Mathlib.Decide.{dec_lt}
+use Rattle.std.proofs.Math.Nat.{eq-or-lt_of_le}
 use borrow.Author.Tests.{eq-eqb, ne_eqb}
 use lib.Dec.{eqb}
 use lib.ListN.{length}
@@ -19,7 +19,9 @@ use Rattle.build.proofs.Grown.{List²}
 
 -- ---- byte by byte
 
-pub edges-miss : (ns : List²) (s : List ℕ) (b n : ℕ) → place ns (s ++ (b ∷ [])) ≡ None → edges_from ns s b (suc n) ≡ edges_from ns s (suc b) n
+pub edges-miss :
+    (ns : List²) (s : List ℕ) (b n : ℕ) → place ns (s ++ (b ∷ [])) ≡ None
+    → edges_from ns s b (suc n) ≡ edges_from ns s (suc b) n
 unfolding edges_from edge
 edges-miss ns s b n e = rw e
 
@@ -34,7 +36,8 @@ unfolding edges_from
 edges-end ns s b = refl
 
 -- bytes with no child are passed over
-pub edges-clear : (d : ℕ) (ns : List²) (s : List ℕ) (b n : ℕ) → Clear ns s b (b + d) → edges_from ns s b (d + n) ≡ edges_from ns s (b + d) n
+pub edges-clear :
+    (d : ℕ) (ns : List²) (s : List ℕ) (b n : ℕ) → Clear ns s b (b + d) → edges_from ns s b (d + n) ≡ edges_from ns s (b + d) n
 edges-clear zero ns s b n h =
     let p : 0 + n ≡ n = omega arith in
     let q : b + 0 ≡ b = omega arith in
@@ -45,11 +48,14 @@ edges-clear (suc d) ns s b n h =
     ap (edges_from ns s b) p ∙ edges-miss ns s b (d + n) (h b (omega arith) (omega arith))
     ∙ edges-clear d ns s (suc b) n (λ a l m. h a (omega arith) (omega arith)) ∙ ap (λ (x : ℕ). edges_from ns s x n) q
 
-pub edges-skip : (ns : List²) (s : List ℕ) (b a : ℕ) → b ≤ a → a ≤ 256 → Clear ns s b a → edges_from ns s b (256 - b) ≡ edges_from ns s a (256 - a)
+pub edges-skip :
+    (ns : List²) (s : List ℕ) (b a : ℕ) → b ≤ a → a ≤ 256 → Clear ns s b a
+    → edges_from ns s b (256 - b) ≡ edges_from ns s a (256 - a)
 edges-skip ns s b a l m h =
     let p : 256 - b ≡ (a - b) + (256 - a) = omega arith in
     let q : b + (a - b) ≡ a = omega arith in
-    ap (edges_from ns s b) p ∙ edges-clear (a - b) ns s b (256 - a) (λ x u v. h x u (omega arith)) ∙ ap (λ (x : ℕ). edges_from ns s x (256 - a)) q
+    ap (edges_from ns s b) p ∙ edges-clear (a - b) ns s b (256 - a) (λ x u v. h x u (omega arith))
+    ∙ ap (λ (x : ℕ). edges_from ns s x (256 - a)) q
 
 pub edges_none : (ns : List²) (s : List ℕ) (b : ℕ) → b ≤ 256 → Clear ns s b 256 → edges_from ns s b (256 - b) ≡ []
 edges_none ns s b l h = edges-skip ns s b 256 l (omega arith) h ∙ edges-end ns s 256
@@ -75,7 +81,8 @@ pub rising-edges : (m : ℕ) (ns : List²) (s : List ℕ) (b : ℕ) → Rising (
 rising-edges zero ns s b = subst (Rising (length ns) b) (sym (edges-end ns s b)) end
 rising-edges (suc m) ns s b =
     ⊎_elim
-    (λ e. subst (Rising (length ns) b) (sym (edges-miss ns s b m e)) (rising_down (rising-edges m ns s (suc b)) b (omega arith)))
+    (λ e. subst (Rising (length ns) b) (sym (edges-miss ns s b m e))
+    (rising_down (rising-edges m ns s (suc b)) b (omega arith)))
     (λ w. subst (Rising (length ns) b) (sym (edges-hit ns s b m w.0 w.1))
     (next (record { byte = b; to = w.0 }) (omega arith) (place-below ns (s ++ (b ∷ [])) w.0 w.1) (rising-edges m ns s (suc b))))
     (found? (place ns (s ++ (b ∷ []))))
@@ -107,13 +114,6 @@ target_miss : (b k : ℕ) (es : List Edge) (a : ℕ) → (b ≡ a → ⊥) → t
 unfolding target
 target_miss b k es a e = rw (ne_eqb b a e)
 
-pub at-or-above : (b a : ℕ) → b ≤ a → (b ≡ a) ⊎ (b < a)
-at-or-above b a l = go (dec_lt b a)
-  where
-    go : Dec (b < a) → (b ≡ a) ⊎ (b < a)
-    go (yes h) = inr h
-    go (no h) = inl (omega arith)
-
 pub target-edges :
     (m : ℕ) (ns : List²) (s : List ℕ) (b a : ℕ) → b ≤ a → a < b + m → target (edges_from ns s b m) a ≡ place ns (s ++ (a ∷ []))
 target-edges zero ns s b a l h = absurd (omega arith)
@@ -130,7 +130,7 @@ target-edges (suc m) ns s b a l h =
     (λ w. ap (λ (es : List Edge). target es a) (edges-hit ns s b m w.0 w.1)
     ∙ target_miss b w.0 (edges_from ns s (suc b) m) a (λ z. omega arith) ∙ target-edges m ns s (suc b) a q (omega arith))
     (found? (place ns (s ++ (b ∷ [])))))
-    (at-or-above b a l)
+    (eq-or-lt_of_le l)
 
 pub target-of : (ns : List²) (s : List ℕ) (a : ℕ) → a < 256 → target (edges_of ns s) a ≡ place ns (s ++ (a ∷ []))
 unfolding edges_of

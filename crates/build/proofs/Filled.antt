@@ -1,6 +1,6 @@
 -- The columns at the end: what stands in front is what was laid out, and what was zero behind it still is. Assumes nothing.
 use Rattle.std.specs.Prelude.{unwrap_or, Option, Some, None, ℕ}
-use mathlib.Core.Path.{◌≡◌, refl, sym, ap, ap₂, ◌∙◌}
+use mathlib.Core.Path.{◌≡◌, refl, sym, ap, ap₂, ◌∙◌, subst}
 use mathlib.Core.Bool.{Bool, cond, true, false}
 use mathlib.Core.List.{List, [], ◌∷◌, ◌++◌, map}
 use Prim.Native.Nat.{ℕ, zero, suc, ◌+◌, ◌-◌, ◌≤◌, ◌<◌}
@@ -19,7 +19,7 @@ use Rattle.build.specs.Grown.{Grown}
 use Rattle.build.specs.Parts.{edges_of, starts, lay, trie_of}
 use Rattle.build.specs.Rules.{tokens_of}
 use Rattle.build.specs.Given.{rules_from, no_rule}
-use Rattle.build.specs.Held.{ZeroFrom, Identified, Held, RowDone}
+use Rattle.build.specs.Held.{ZeroFrom, Identified, Held, Stands, RowDone}
 use Rattle.build.specs.Laying.{bytes_of, targets_of, AllReady}
 use Rattle.build.specs.Memory.{Memory, memory, cleared, holding}
 use Rattle.build.specs.Promise.{trie_in}
@@ -114,7 +114,8 @@ module _ (ns : List²) (g : Grown ns) (rule : List ℕ → Option ℕ) (id befor
 
 -- ---- the nodes laid out
 
-module _ {ns : List²} {rule : List ℕ → Option ℕ} {edge_at edge_n id byte to work : List ℕ} {n : ℕ} (h : Held ns rule edge_n id work)
+module _ {ns : List²} {rule : List ℕ → Option ℕ} {edge_at edge_n id byte to work : List ℕ} {n : ℕ}
+    (h : Held ns rule edge_n id work)
     (count : n ≡ length ns) (r : AllReady edge_at edge_n byte to work n) where
   abbrev grown : Grown ns
   grown = h.links.grown
@@ -160,74 +161,75 @@ module _ {ns : List²} {rule : List ℕ → Option ℕ} {edge_at edge_n id byte 
 
 -- ---- the build
 
-module _ {edge_at edge_n id byte to work : List ℕ} {room n : ℕ} where
+module _ {edge_at edge_n id byte to work : List ℕ} where
   pub finish-ready :
-      Finishable room (memory edge_at edge_n id byte to work) n → n ≤ room → AllReady edge_at edge_n byte to work n
-  finish-ready f fits =
-      let held = f.done.held fits in
-      let count = f.done.count fits in
-      let every = room_for (memory edge_at edge_n id byte to work) room f.roomy in
+      {made : Option ℕ} {n : ℕ} → Finishable (memory edge_at edge_n id byte to work) made → made ≡ Some n
+      → AllReady edge_at edge_n byte to work n
+  finish-ready {n = n} f e =
+      let all : Stands f.nodes f.rule f.room edge_n id work n =
+      subst (RowDone f.nodes f.rule f.room edge_n id work) e f.done in
+      let every = room_for (memory edge_at edge_n id byte to work) f.room f.roomy in
       record {
         names = f.nodes;
-        links = held.links;
-        bytes = held.bytes;
-        count = count;
-        small = omega (arith, every.roomy.small);
-        room_at = omega (arith, every.starts);
-        room-byte = omega (arith, every.bytes);
-        room-to = omega (arith, every.targets);
+        links = all.held.links;
+        bytes = all.held.bytes;
+        count = all.count;
+        small = omega (arith, all.fits, every.roomy.small);
+        room_at = omega (arith, all.fits, every.starts);
+        room-byte = omega (arith, all.fits, every.bytes);
+        room-to = omega (arith, all.fits, every.targets);
       }
 
-  module _ {kind : Kind} {tab : List ℕ} {rows : List Row}
-      (done : RowDone (names (tokens_of tab rows)) (rules_from kind tab no_rule 0 rows) room edge_n id work n) where
-    pub built-full :
-        room < n → {after : Memory} → after ≡ cleared (memory edge_at edge_n id byte to work)
-        → BuiltOf kind tab rows room (memory edge_at edge_n id byte to work) after None
-    built-full h e =
-        let ns = names (tokens_of tab rows) in
-        let before = memory edge_at edge_n id byte to work in
-        let full : ltb room (length ns) ≡ true = lt-ltb room (length ns) (done.full h) in
-        record {
-          answered = rw full;
-          left = e ∙ sym (ap (λ (t : Bool). cond t (cleared before) (holding (trie_in kind tab rows) [] before)) full);
-        }
+module _ (kind : Kind) (tab : List ℕ) (rows : List Row) (room : ℕ) (before : Memory) where
+  abbrev ns : List²
+  ns = names (tokens_of tab rows)
 
-    pub built-done :
-        (fits : n ≤ room) {after : Memory}
-        → after ≡ holding (lay (rules_from kind tab no_rule 0 rows) (names (tokens_of tab rows))) [] (memory edge_at edge_n id byte to work)
-        → BuiltOf kind tab rows room (memory edge_at edge_n id byte to work) after (Some n)
-    unfolding trie_of
-    built-done fits e =
-        let ns = names (tokens_of tab rows) in
-        let before = memory edge_at edge_n id byte to work in
-        let room-left : ltb room (length ns) ≡ false = le-ltb room (length ns) (omega (arith, done.count fits)) in
-        record {
-          answered = ap Some (done.count fits) ∙ sym (ap (λ (t : Bool). cond t None (Some (length ns))) room-left);
-          left =
-              e ∙ ap (λ t. holding t [] before) (trie-given kind tab rows)
-              ∙ sym (ap (λ (t : Bool). cond t (cleared before) (holding (trie_in kind tab rows) [] before)) room-left);
-        }
+  abbrev rule : List ℕ → Option ℕ
+  rule = rules_from kind tab no_rule 0 rows
+
+  -- what is left, by the test of the room
+  left-by : {t : Bool} {after : Memory} → ltb room (length ns) ≡ t
+      → after ≡ cond t (cleared before) (holding (trie_in kind tab rows) [] before)
+      → after ≡ cond (ltb room (length ns)) (cleared before) (holding (trie_in kind tab rows) [] before)
+  left-by e p = p ∙ sym (ap (λ (t : Bool). cond t (cleared before) (holding (trie_in kind tab rows) [] before)) e)
+
+  pub built-full : {after : Memory} → room < length ns → after ≡ cleared before → BuiltOf kind tab rows room before after None
+  built-full h e =
+      let full : ltb room (length ns) ≡ true = lt-ltb room (length ns) h in
+      record { answered = rw full; left = left-by full e }
+
+  pub built-done :
+      {after : Memory} {edge_n id work : List ℕ} {n : ℕ} → Stands ns rule room edge_n id work n
+      → after ≡ holding (lay rule ns) [] before → BuiltOf kind tab rows room before after (Some n)
+  unfolding trie_of
+  built-done all e =
+      let fits : ltb room (length ns) ≡ false = le-ltb room (length ns) (omega (arith, all.count, all.fits)) in
+      record {
+        answered = ap Some all.count ∙ sym (ap (λ (t : Bool). cond t None (Some (length ns))) fits);
+        left = left-by fits (e ∙ ap (λ t. holding t [] before) (trie-given kind tab rows));
+      }
 
 -- ---- the build once the rows are entered: it leaves the same in other columns of the same lengths
 
 pub entered-ready :
-    {edge_at byte to edge_n id work : List ℕ} {room n : ℕ} {ns : List²} {rule : List ℕ → Option ℕ} (edge_n₀ id₀ work₀ : List ℕ)
-    → RowDone ns rule room edge_n id work n → room ≤ room_of (memory edge_at edge_n₀ id₀ byte to work₀)
+    {edge_at byte to edge_n id work : List ℕ} {made : Option ℕ} (ns : List²) (rule : List ℕ → Option ℕ) (room : ℕ)
+    (edge_n₀ id₀ work₀ : List ℕ) → RowDone ns rule room edge_n id work made
+    → room ≤ room_of (memory edge_at edge_n₀ id₀ byte to work₀)
     → length edge_n ≡ length edge_n₀ → length id ≡ length id₀ → length work ≡ length work₀
-    → Finishable room (memory edge_at edge_n id byte to work) n
-entered-ready {ns = ns} {rule = rule} edge_n₀ id₀ work₀ d r kn ki kw =
-    record { nodes = ns; rule = rule; done = d; roomy = rw (kn, ki, kw) r }
+    → Finishable (memory edge_at edge_n id byte to work) made
+entered-ready ns rule room edge_n₀ id₀ work₀ d r kn ki kw =
+    record { nodes = ns; rule = rule; room = room; done = d; roomy = rw (kn, ki, kw) r }
 
-module _ {edge_at edge_n₀ id₀ byte to work₀ edge_n id work : List ℕ} {room n : ℕ} where
+module _ {edge_at edge_n₀ id₀ byte to work₀ edge_n id work : List ℕ} {made : Option ℕ} where
   pub entered-built :
-      {kind : Kind} {tab : List ℕ} {rows : List Row} {after : Memory} {answer : Option ℕ}
-      → RowDone (names (tokens_of tab rows)) (rules_from kind tab no_rule 0 rows) room edge_n id work n
-      → Finished room (memory edge_at edge_n id byte to work) after n answer
+      {after : Memory} {answer : Option ℕ} (kind : Kind) (tab : List ℕ) (rows : List Row) (room : ℕ)
+      → RowDone (names (tokens_of tab rows)) (rules_from kind tab no_rule 0 rows) room edge_n id work made
+      → Finished (memory edge_at edge_n id byte to work) after made answer
       → length edge_n ≡ length edge_n₀ → length id ≡ length id₀ → length work ≡ length work₀
       → BuiltOf kind tab rows room (memory edge_at edge_n₀ id₀ byte to work₀) after answer
   unfolding cleared holding
-  entered-built {kind = kind} {tab = tab} {rows = rows} d f kn ki kw =
-      let b = f.built kind tab rows d in
+  entered-built kind tab rows room d f kn ki kw =
+      let b = f.built kind tab rows room d in
       let t = trie_in kind tab rows in
       record {
         answered = b.answered;

@@ -3,28 +3,21 @@
 use Rattle.std.specs.Prelude.{None, Some}
 use mathlib.Core.Path.{◌≡◌, refl, sym, ap, ◌∙◌, subst}
 use mathlib.Core.List.{List, [], ◌∷◌, ◌++◌, append-nil}
-use mathlib.Core.Logic.{◌⊎◌, inl, inr, ⊎_elim}
+use mathlib.Core.Logic.{⊎_elim}
 use Prim.Native.Nat.{ℕ, zero, suc, ◌+◌, ◌≤◌, ◌<◌}
 use native.Mathlib.Omega.{arith}
-use native.Mathlib.Decide.{dec_lt}
+use Rattle.std.proofs.Math.Nat.{eq-or-lt_of_le}
 use lib.ListN.{length, get_or, get_or-append}
-use lib.Seq.{get_or-append_seam}
+use lib.Seq.{get_or-append_seam, append_snoc}
 use Rattle.refusal.proofs.Lists.{zero_one, none-some}
 use Rattle.build.specs.Names.{place, prefixes, add, enter}
 use Rattle.build.specs.Grown.{Grown, root, more, Bytes}
-use Rattle.build.proofs.Strings.{snoc-nil, snoc-front, snoc-last, snoc-append, same_refl}
+use Rattle.build.proofs.Strings.{snoc-nil, snoc-front, snoc-last, same_refl}
 use Rattle.build.proofs.Places.{found?, place-empty, missing, place-hit, place-below}
 use Rattle.build.proofs.Places.{place_kept, place_end, place_other, place-more, add-there, add-new, length_more}
 
 abbrev pub List² : Type 0
 List² = List (List ℕ)
-
-pub below-or-at : (k n : ℕ) → k < suc n → (k < n) ⊎ (k ≡ n)
-below-or-at k n h = go (dec_lt k n)
-  where
-    go : Dec (k < n) → (k < n) ⊎ (k ≡ n)
-    go (yes l) = inl l
-    go (no l) = inr (omega arith)
 
 -- ---- lists that grew
 
@@ -41,12 +34,12 @@ grown-distinct root (suc k) h = absurd (omega arith)
 grown-distinct (more {ns} p c j g e h f) k l =
     let t = p ++ (c ∷ []) in
     ⊎_elim
-    (λ (b : k < length ns). subst (λ (x : List ℕ). place (ns ++ (t ∷ [])) x ≡ Some k) (sym (get_or-append ns (t ∷ []) [] k b))
-    (place_kept ns (t ∷ []) (get_or ns k []) k (grown-distinct g k b)))
     (λ (b : k ≡ length ns).
     let q : get_or (ns ++ (t ∷ [])) k [] ≡ t = ap (λ (i : ℕ). get_or (ns ++ (t ∷ [])) i []) b ∙ get_or-append_seam ns t [] [] in
     ap (place (ns ++ (t ∷ []))) q ∙ place_end ns t f ∙ ap Some (sym b))
-    (below-or-at k (length ns) (omega (arith, length_more ns t)))
+    (λ (b : k < length ns). subst (λ (x : List ℕ). place (ns ++ (t ∷ [])) x ≡ Some k) (sym (get_or-append ns (t ∷ []) [] k b))
+    (place_kept ns (t ∷ []) (get_or ns k []) k (grown-distinct g k b)))
+    (eq-or-lt_of_le (let h : k ≤ length ns = omega (arith, length_more ns t) in h))
 
 -- what a name extends stands before it
 pub grown-parent :
@@ -72,7 +65,7 @@ pub grown-begins :
     {ns : List²} → Grown ns → (q s : List ℕ) (k : ℕ) → place ns (q ++ s) ≡ Some k → (j : ℕ) × (place ns q ≡ Some j)
 grown-begins {ns} g q [] k e = (k, ap (place ns) (sym (append-nil q)) ∙ e)
 grown-begins {ns} g q (b ∷ s) k e =
-    let w = grown-begins g (q ++ (b ∷ [])) s k (ap (place ns) (snoc-append q b s) ∙ e) in
+    let w = grown-begins g (q ++ (b ∷ [])) s k (ap (place ns) (append_snoc q b s) ∙ e) in
     let v = grown-parent g q b w.0 w.1 in
     (v.0, v.1)
 
@@ -156,7 +149,9 @@ grown-enter (b ∷ s) p ns j g e h =
     grown-enter s q (add ns q) w.0 (grown-add g p b j e (h 0 (omega arith))) w.1 (bytes-tail b s h)
 
 -- a token that was entered is a name, and so is all that it begins with
-pub enter-has : (s p q : List ℕ) (ns : List²) (j : ℕ) → place ns p ≡ Some j → (r : List ℕ) → s ≡ q ++ r → (k : ℕ) × (place (enter ns (prefixes p s)) (p ++ q) ≡ Some k)
+pub enter-has :
+    (s p q : List ℕ) (ns : List²) (j : ℕ) → place ns p ≡ Some j → (r : List ℕ) → s ≡ q ++ r
+    → (k : ℕ) × (place (enter ns (prefixes p s)) (p ++ q) ≡ Some k)
 unfolding enter prefixes
 enter-has s p [] ns j e r d =
     (j, ap (place (enter ns (prefixes p s))) (append-nil p) ∙ enter-keeps (prefixes p s) ns p j e)
@@ -167,5 +162,5 @@ enter-has (c ∷ s) p (b ∷ q) ns j e r d =
     let rest : s ≡ q ++ r = cc in
     let w = add-has ns t in
     let v = enter-has s t q (add ns t) w.0 w.1 r rest in
-    let f : p ++ (b ∷ q) ≡ t ++ q = ap (λ (x : ℕ). p ++ (x ∷ q)) (sym same_byte) ∙ sym (snoc-append p c q) in
+    let f : p ++ (b ∷ q) ≡ t ++ q = ap (λ (x : ℕ). p ++ (x ∷ q)) (sym same_byte) ∙ sym (append_snoc p c q) in
     (v.0, ap (place (enter (add ns t) (prefixes t s))) f ∙ v.1)

@@ -116,7 +116,8 @@ same-build WordPiece tab c fine =
     (ap (trie_in WordPiece tab) rows, ap (nodes_of tab) rows)
 
 pub columns-built :
-    (kind : Kind) (tab : List ℕ) (c : Columns) {room : ℕ} {m after : Memory} {answer : Option ℕ} → columns_fault kind tab c ≡ None
+    (kind : Kind) (tab : List ℕ) (c : Columns) {room : ℕ} {m after : Memory} {answer : Option ℕ}
+    → columns_fault kind tab c ≡ None
     → BuiltOf kind tab (given c.off c.len c.id) room m after answer → BuiltOf kind tab (rows_of c) room m after answer
 columns-built kind tab c {room = room} {m = m} fine d =
     let same = same-build kind tab c fine in

@@ -4,31 +4,31 @@ use Rattle.std.specs.Prelude.{unwrap_or, Option, None, Some}
 use mathlib.Core.Path.{◌≡◌, refl, sym, ap, ◌∙◌}
 use mathlib.Core.Bool.{cond}
 use mathlib.Core.List.{List, [], ◌∷◌, ◌++◌, map, flatten, append_assoc, append-nil}
-use mathlib.Core.Logic.{◌⊎◌, inl, inr, ⊎_elim}
+use mathlib.Core.Logic.{⊎_elim}
 use Prim.Native.Nat.{ℕ, zero, suc, ◌+◌, ◌<◌}
 use native.Mathlib.Omega.{arith}
+use Rattle.std.proofs.lemmas.Bool.{cases_eq}
+use lib.Seq.{append_snoc}
 use native.Mathlib.Decide.{dec_lt}
 use borrow.Author.Tests.{eq-eqb, ne_eqb}
 use lib.Dec.{eqb}
 use lib.ListN.{length, get_or, drop, length-append, length-map}
 use lib.Seq.{drop-append_seam}
-use Rattle.refusal.proofs.Lists.{zero_one, none-some}
+use Rattle.refusal.proofs.Lists.{map-inside, zero_one, none-some}
 use Rattle.refusal.specs.Sizes.{no_id}
 use Rattle.trie.specs.Trie.{seek, step, walk, id_at, id_from, id_of}
 use Rattle.build.specs.Names.{place}
 use Rattle.build.specs.Grown.{Grown}
 use Rattle.build.specs.Parts.{Edge, edges_of, starts, lay}
-use Rattle.build.proofs.Strings.{snoc-append}
 use Rattle.build.proofs.Places.{found?, missing, place-below, place_at}
 use Rattle.build.proofs.Grown.{List², grown-root, grown-parent, grown-begins}
 use Rattle.build.proofs.Edges.{target, target-of, target-no-byte}
 
 -- ---- lists of numbers and edges
 
-pub get_or-map-of : {A B : Type 0} (f : A → B) (l : List A) (k : ℕ) (d : A) (z : B) → k < length l → get_or (map f l) k z ≡ f (get_or l k d)
-get_or-map-of f [] k d z h = absurd (omega arith)
-get_or-map-of f (x ∷ l) zero d z h = refl
-get_or-map-of f (x ∷ l) (suc k) d z h = get_or-map-of f l k d z (omega arith)
+pub get_or-map-of :
+    {A B : Type 0} (f : A → B) (l : List A) (k : ℕ) (d : A) (z : B) → k < length l → get_or (map f l) k z ≡ f (get_or l k d)
+get_or-map-of f l k d z h = map-inside f l k d z h
 
 -- what stands at `at`, and after it
 pub drop_head : (l : List Edge) (at : ℕ) (x : Edge) (r : List Edge) → drop at l ≡ x ∷ r → drop (suc at) l ≡ r
@@ -37,7 +37,8 @@ drop_head [] (suc at) x r e = absurd (zero_one cc)
 drop_head (y ∷ l) zero x r e = cc
 drop_head (y ∷ l) (suc at) x r e = drop_head l at x r e
 
-pub map-head : (f : Edge → ℕ) (l : List Edge) (at : ℕ) (x : Edge) (r : List Edge) → drop at l ≡ x ∷ r → get_or (map f l) at 0 ≡ f x
+pub map-head :
+    (f : Edge → ℕ) (l : List Edge) (at : ℕ) (x : Edge) (r : List Edge) → drop at l ≡ x ∷ r → get_or (map f l) at 0 ≡ f x
 map-head f [] zero x r e = absurd (zero_one cc)
 map-head f [] (suc at) x r e = absurd (zero_one cc)
 map-head f (y ∷ l) zero x r e = let p : y ≡ x = cc in ap f p
@@ -61,7 +62,8 @@ length-starts (n ∷ ns) at = ap suc (length-starts ns (at + n))
 -- where the edges of node k begin stand its edges
 laid_from :
     (parts : List (List Edge)) (pre : List Edge) (k : ℕ) → k < length parts
-    → (post : List Edge) × (drop (get_or (starts (length pre) (map length parts)) k 0) (pre ++ flatten parts) ≡ get_or parts k [] ++ post)
+    → (post : List Edge)
+    × (drop (get_or (starts (length pre) (map length parts)) k 0) (pre ++ flatten parts) ≡ get_or parts k [] ++ post)
 unfolding starts flatten
 laid_from [] pre k h = absurd (omega arith)
 laid_from (p ∷ ps) pre zero h = (flatten ps, drop-append_seam pre (p ++ flatten ps))
@@ -78,21 +80,14 @@ pub laid-at :
 laid-at parts k h = laid_from parts [] k h
 
 -- the seeking of a byte among laid out edges is the list's own
-seek-miss : (bytes tos : List ℕ) (b at n : ℕ) → (get_or bytes at 0 ≡ b → ⊥) → seek bytes tos b at (suc n) ≡ seek bytes tos b (suc at) n
+seek-miss :
+    (bytes tos : List ℕ) (b at n : ℕ) → (get_or bytes at 0 ≡ b → ⊥) → seek bytes tos b at (suc n) ≡ seek bytes tos b (suc at) n
 unfolding seek
 seek-miss bytes tos b at n h = rw (ne_eqb (get_or bytes at 0) b h)
 
 seek_hit : (bytes tos : List ℕ) (b at n : ℕ) → get_or bytes at 0 ≡ b → seek bytes tos b at (suc n) ≡ Some (get_or tos at 0)
 unfolding seek
 seek_hit bytes tos b at n h = rw (eq-eqb (get_or bytes at 0) b h)
-
-pub same? : (a b : ℕ) → (a ≡ b) ⊎ (a ≡ b → ⊥)
-same? a b = go (dec_lt a b) (dec_lt b a)
-  where
-    go : Dec (a < b) → Dec (b < a) → (a ≡ b) ⊎ (a ≡ b → ⊥)
-    go (yes p) q = inr (λ e. omega arith)
-    go (no p) (yes q) = inr (λ e. omega arith)
-    go (no p) (no q) = inl (omega arith)
 
 seek-target :
     (es l post : List Edge) (b at : ℕ) → drop at l ≡ es ++ post
@@ -108,7 +103,7 @@ seek-target (e ∷ es) l post b at h =
     (λ (q : e.byte ≡ b → ⊥).
     seek-miss (map (λ x. x.byte) l) (map (λ x. x.to) l) b at (length es) (λ p. q (sym byte ∙ p))
     ∙ seek-target es l post b (suc at) (drop_head l at e (es ++ post) h) ∙ sym (miss q))
-    (same? e.byte b)
+    (cases_eq e.byte b)
   where
     hit : e.byte ≡ b → cond (eqb e.byte b) (Some e.to) (target es b) ≡ Some e.to
     hit q = rw (eq-eqb e.byte b q)
@@ -141,7 +136,8 @@ module _ (rule : List ℕ → Option ℕ) (ns : List²) (g : Grown ns) where
       let n : get_or (map length parts) k 0 ≡ length (edges_of ns s) =
       get_or-map-of length parts k [] 0 inside-parts ∙ ap length here in
       let w = laid-at parts k inside-parts in
-      ap (seek (map (λ e. e.byte) (flatten parts)) (map (λ e. e.to) (flatten parts)) b (get_or (starts 0 (map length parts)) k 0)) n
+      ap (seek (map (λ e. e.byte) (flatten parts)) (map (λ e. e.to) (flatten parts)) b
+      (get_or (starts 0 (map length parts)) k 0)) n
       ∙ seek-target (edges_of ns s) (flatten parts) w.0 b (get_or (starts 0 (map length parts)) k 0)
       (w.1 ∙ ap (λ (x : List Edge). x ++ w.0) here)
       ∙ target_is s b
@@ -154,10 +150,10 @@ module _ (rule : List ℕ → Option ℕ) (ns : List²) (g : Grown ns) where
       (λ (q : place ns (p ++ (b ∷ [])) ≡ None).
       let away : place ns (p ++ (b ∷ s)) ≡ None =
       missing (place ns (p ++ (b ∷ s)))
-      (λ j f. none-some (sym q ∙ (grown-begins g (p ++ (b ∷ [])) s j (ap (place ns) (snoc-append p b s) ∙ f)).1)) in
+      (λ j f. none-some (sym q ∙ (grown-begins g (p ++ (b ∷ [])) s j (ap (place ns) (append_snoc p b s) ∙ f)).1)) in
       rw (step-built p k b e ∙ q, walk) (sym away))
       (λ (w : (j : ℕ) × (place ns (p ++ (b ∷ [])) ≡ Some j)).
-      rw (step-built p k b e ∙ w.1, walk) (walk_from s (p ++ (b ∷ [])) w.0 w.1 ∙ ap (place ns) (snoc-append p b s)))
+      rw (step-built p k b e ∙ w.1, walk) (walk_from s (p ++ (b ∷ [])) w.0 w.1 ∙ ap (place ns) (append_snoc p b s)))
       (found? (place ns (p ++ (b ∷ []))))
 
   -- the walk over s ends at the place of s
@@ -173,7 +169,9 @@ module _ (rule : List ℕ → Option ℕ) (ns : List²) (g : Grown ns) where
       ∙ ap (λ (x : List ℕ). unwrap_or (rule x) no_id) (place_at ns s k e) in
       ap (λ (i : ℕ). cond (eqb i no_id) None (Some i)) stands ∙ read (rule s) small
     where
-      read : (o : Option ℕ) → ((i : ℕ) → o ≡ Some i → i ≡ no_id → ⊥) → cond (eqb (unwrap_or o no_id) no_id) None (Some (unwrap_or o no_id)) ≡ o
+      read :
+          (o : Option ℕ) → ((i : ℕ) → o ≡ Some i → i ≡ no_id → ⊥)
+          → cond (eqb (unwrap_or o no_id) no_id) None (Some (unwrap_or o no_id)) ≡ o
       read None h = refl
       read (Some i) h = rw (ne_eqb i no_id (h i refl))
 
@@ -184,7 +182,8 @@ module _ (rule : List ℕ → Option ℕ) (ns : List²) (g : Grown ns) where
   unfolding id_of id_from
   lookup-built within small s =
       ⊎_elim
-      (λ (q : place ns s ≡ None). let e : walk (lay rule ns) 0 s ≡ None = walk-built s ∙ q in rw (e, id_from) (sym (within s q)))
+      (λ (q : place ns s ≡ None). let e : walk (lay rule ns) 0 s ≡ None = walk-built s
+      ∙ q in rw (e, id_from) (sym (within s q)))
       (λ (w : (k : ℕ) × (place ns s ≡ Some k)).
       let e : walk (lay rule ns) 0 s ≡ Some w.0 = walk-built s ∙ w.1 in
       rw (e, id_from) (id-built s w.0 w.1 (small s)))

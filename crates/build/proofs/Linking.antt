@@ -6,6 +6,7 @@ use mathlib.Core.List.{List, [], ◌∷◌, ◌++◌}
 use mathlib.Core.Logic.{◌⊎◌, inl, inr, ⊎_elim}
 use Prim.Native.Nat.{ℕ, suc, ◌+◌, ◌*◌, ◌≤◌, ◌<◌}
 use native.Mathlib.Omega.{arith}
+use Rattle.std.proofs.lemmas.Bool.{cases_eq}
 use native.Mathlib.Decide.{dec_lt}
 use lib.ListN.{length, get_or, set, length-set}
 use lib.Seq.{get_or-set_same, get_or-set_other}
@@ -16,7 +17,6 @@ use Rattle.build.specs.Links.{Clear, Least, First, Slot, of-first, of-next, Link
 use Rattle.build.proofs.Strings.{snoc-front, snoc-last, snoc-longer, equal?}
 use Rattle.build.proofs.Places.{place-below, place-one, place_kept, place_end, place_other, place-more, length_more}
 use Rattle.build.proofs.Grown.{List², grown-none}
-use Rattle.build.proofs.Laid.{same?}
 
 -- ---- links
 
@@ -31,7 +31,8 @@ first-later ns s c b v l cl f =
     go w (yes h) = none-some (sym (cl w.a w.from h) ∙ w.child)
     go w (no h) = inr (record { a = w.a; from = omega arith; child = w.child; clear = λ a p q. w.clear a (omega arith) q })
 
-pub slot-first : (ns : List²) (work : List ℕ) (s : List ℕ) (b at : ℕ) → Linked ns work → Slot ns s b at → First ns s b (get_or work at 0)
+pub slot-first :
+    (ns : List²) (work : List ℕ) (s : List ℕ) (b at : ℕ) → Linked ns work → Slot ns s b at → First ns s b (get_or work at 0)
 slot-first ns work s b at l (of-first k e p cl) =
     first-later ns s 0 b (get_or work at 0) (omega arith) cl
     (subst (λ (i : ℕ). First ns s 0 (get_or work i 0)) (sym p) (l.first s k e))
@@ -72,7 +73,8 @@ module _ (work : List ℕ) (at n : ℕ) (before : at < 2 * n) (room : 2 * suc n 
 -- ---- one node more
 
 module _ (ns : List²) (work : List ℕ) (l : Linked ns work) (s : List ℕ) (b at j : ℕ) (here : place ns s ≡ Some j)
-    (new : place ns (s ++ (b ∷ [])) ≡ None) (slot : Slot ns s b at) (byte : b < 256) (room : 2 * suc (length ns) ≤ length work) where
+    (new : place ns (s ++ (b ∷ [])) ≡ None) (slot : Slot ns s b at) (byte : b < 256)
+    (room : 2 * suc (length ns) ≤ length work) where
   abbrev n : ℕ
   n = length ns
 
@@ -90,10 +92,15 @@ module _ (ns : List²) (work : List ℕ) (l : Linked ns work) (s : List ℕ) (b 
 
   -- a first child stays one, where the new one does not come before it
   lift :
-      (x : List ℕ) (c v : ℕ) → ((e : ℕ) → Clear ns x c e → (a : ℕ) → c ≤ a → a < e → x ++ (a ∷ []) ≡ t → ⊥) → First ns x c v → First ms x c v
+      (x : List ℕ) (c v : ℕ) → ((e : ℕ) → Clear ns x c e → (a : ℕ) → c ≤ a → a < e → x ++ (a ∷ []) ≡ t → ⊥) → First ns x c v
+      → First ms x c v
   lift x c v apart f =
       ⊎_elim
-      (λ (w : (v ≡ 0) × Clear ns x c 256). inl (w.0, λ a p q. place_other ns t (x ++ (a ∷ [])) (apart 256 w.1 a p q) ∙ w.1 a p q))
+      (λ (w : (v ≡ 0) × Clear ns x c 256). inl (
+        w.0,
+        λ a p q. place_other ns t (x ++ (a ∷ [])) (apart 256 w.1 a p q)
+            ∙ w.1 a p q,
+      ))
       (λ (w : Least ns x c v). inr (record {
         a = w.a;
         from = w.from;
@@ -122,7 +129,9 @@ module _ (ns : List²) (work : List ℕ) (l : Linked ns work) (s : List ℕ) (b 
         clear = λ a p q. place_other ns t (s ++ (a ∷ [])) (λ z. omega (arith, snoc-last s s a b z)) ∙ cl a p q;
       })
 
-  at_other : (i : ℕ) → (i ≡ at → ⊥) → i < 2 * n → (x : List ℕ) (c : ℕ) → First ms x c (get_or work i 0) → First ms x c (get_or work' i 0)
+  at_other :
+      (i : ℕ) → (i ≡ at → ⊥) → i < 2 * n → (x : List ℕ) (c : ℕ) → First ms x c (get_or work i 0)
+      → First ms x c (get_or work' i 0)
   at_other i h q x c f = subst (First ms x c) (sym (linked-other work at n before room i h q)) f
 
   at_slot : (i : ℕ) → at ≡ i → (x : List ℕ) (c : ℕ) → s ≡ x → First ms s c n → First ms x c (get_or work' i 0)
@@ -139,7 +148,7 @@ module _ (ns : List²) (work : List ℕ) (l : Linked ns work) (s : List ℕ) (b 
       at_other (2 * k) (λ y. z (omega arith)) (omega arith) x 0
       (lift-other x 0 (get_or work (2 * k) 0)
       (λ y. z (let g : Some i ≡ Some k = sym p ∙ ap (place ns) (sym y) ∙ e in cc)) (l.first x k e)))
-      (same? i k)
+      (cases_eq i k)
   old-first x k e (of-next a i p q h cl) =
       let low : k < n = place-below ns x k e in
       at_other (2 * k) (λ y. omega arith) (omega arith) x 0
@@ -151,13 +160,15 @@ module _ (ns : List²) (work : List ℕ) (l : Linked ns work) (s : List ℕ) (b 
       (equal? s x))
 
   -- the next sibling of s ++ [a], where another link than its own was changed
-  kept_next : (a k : ℕ) → place ns (s ++ (a ∷ [])) ≡ Some k → Slot ns s b at → (2 * k + 1 ≡ at → ⊥) → First ms s (suc a) (get_or work (2 * k + 1) 0)
+  kept_next :
+      (a k : ℕ) → place ns (s ++ (a ∷ [])) ≡ Some k → Slot ns s b at → (2 * k + 1 ≡ at → ⊥)
+      → First ms s (suc a) (get_or work (2 * k + 1) 0)
   kept_next a k e (of-first i p q cl) h = go (dec_lt a b)
     where
       go : Dec (a < b) → First ms s (suc a) (get_or work (2 * k + 1) 0)
       go (yes m) = none-some (sym (cl a (omega arith) m) ∙ e)
       go (no m) = lift-past (suc a) (get_or work (2 * k + 1) 0) (omega arith) (l.next s a k e)
-  kept_next a k e (of-next c i p q m cl) h = go (dec_lt a b) (dec_lt a c) (same? a c)
+  kept_next a k e (of-next c i p q m cl) h = go (dec_lt a b) (dec_lt a c) (cases_eq a c)
     where
       go : Dec (a < b) → Dec (a < c) → (a ≡ c) ⊎ (a ≡ c → ⊥) → First ms s (suc a) (get_or work (2 * k + 1) 0)
       go (no u) v w = lift-past (suc a) (get_or work (2 * k + 1) 0) (omega arith) (l.next s a k e)
@@ -168,7 +179,9 @@ module _ (ns : List²) (work : List ℕ) (l : Linked ns work) (s : List ℕ) (b 
           absurd (h (omega arith))
       go (yes u) (no v) (inr w) = none-some (sym (cl a (omega arith) u) ∙ e)
 
-  old-next : (x : List ℕ) (a k : ℕ) → place ns (x ++ (a ∷ [])) ≡ Some k → Slot ns s b at → First ms x (suc a) (get_or work' (2 * k + 1) 0)
+  old-next :
+      (x : List ℕ) (a k : ℕ) → place ns (x ++ (a ∷ [])) ≡ Some k → Slot ns s b at
+      → First ms x (suc a) (get_or work' (2 * k + 1) 0)
   old-next x a k e (of-first i p q cl) =
       let low : k < n = place-below ns (x ++ (a ∷ [])) k e in
       at_other (2 * k + 1) (λ y. omega arith) (omega arith) x (suc a)
@@ -194,7 +207,7 @@ module _ (ns : List²) (work : List ℕ) (l : Linked ns work) (s : List ℕ) (b 
       (kept_next a k (ap (λ (y : List ℕ). place ns (y ++ (a ∷ []))) w ∙ e) (of-next c i p q h cl) (λ y. z (omega arith))))
       (λ (w : s ≡ x → ⊥). lift-other x (suc a) (get_or work (2 * k + 1) 0) (λ y. w (sym y)) (l.next x a k e))
       (equal? s x)))
-      (same? i k)
+      (cases_eq i k)
 
   new-first : (x : List ℕ) (k : ℕ) → x ≡ t → k ≡ n → First ms x 0 (get_or work' (2 * k) 0)
   new-first x k e z =

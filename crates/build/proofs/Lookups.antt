@@ -36,7 +36,9 @@ span-bytes tab off len h i l =
 abbrev pub no_row : Row
 no_row = record { off = 0; len = 0; worth = id 0 }
 
-pub token-at : (tab : List ℕ) (rows : List Row) (i : ℕ) → i < length rows → get_or (tokens_of tab rows) i [] ≡ token_of tab (get_or rows i no_row)
+pub token-at :
+    (tab : List ℕ) (rows : List Row) (i : ℕ) → i < length rows
+    → get_or (tokens_of tab rows) i [] ≡ token_of tab (get_or rows i no_row)
 unfolding tokens_of
 token-at tab rows i h = get_or-map-of (token_of tab) rows i no_row [] h
 
@@ -104,7 +106,8 @@ last_row tab (r ∷ rs) s i e =
     later : (w : (j : ℕ) × (last_of tab rs s ≡ Some j)) → last_of tab (r ∷ rs) s ≡ Some w.0
     later w = rw (w.1, last_of)
 
-last_within : (tab : List ℕ) (rows : List Row) (s : List ℕ) → place (names (tokens_of tab rows)) s ≡ None → last_id tab rows s ≡ None
+last_within :
+    (tab : List ℕ) (rows : List Row) (s : List ℕ) → place (names (tokens_of tab rows)) s ≡ None → last_id tab rows s ≡ None
 unfolding last_id
 last_within tab rows [] e = refl
 last_within tab rows (b ∷ s) e =
@@ -122,7 +125,8 @@ last-small tab rows h [] i e z = none-some e
 last-small tab rows h (b ∷ s) i e z = let w = last_row tab rows (b ∷ s) i e in h w.0 w.1 (w.3 ∙ z)
 
 pub wordpiece-lookup :
-    (tab : List ℕ) (rows : List Row) → Bytes tab → ((k : ℕ) → k < length rows → id_of_worth (get_or rows k no_row).worth ≡ no_id → ⊥) → (s : List ℕ)
+    (tab : List ℕ) (rows : List Row) → Bytes tab
+    → ((k : ℕ) → k < length rows → id_of_worth (get_or rows k no_row).worth ≡ no_id → ⊥) → (s : List ℕ)
     → id_of (wordpiece_trie tab rows) s ≡ last_id tab rows s
 unfolding wordpiece_trie trie_of
 wordpiece-lookup tab rows h small s =

@@ -10,9 +10,10 @@ use lib.ListN.{length, get_or}
 use Rattle.refusal.proofs.Lists.{zero_one, none-some}
 use Rattle.build.specs.Names.{place, prefixes, add, enter, names}
 use Rattle.build.specs.Grown.{Grown, root, Bytes}
-use Rattle.build.proofs.Strings.{snoc-append}
+use lib.Seq.{append_snoc}
 use Rattle.build.proofs.Places.{found?, place-empty, place_other, place-more, place_at, add-there, add-new}
-use Rattle.build.proofs.Grown.{List², grown-root, grown-enter, enter-keeps, enter-has, enter-grows, enter-few, enter-append, length-prefixes}
+use Rattle.build.proofs.Grown.{List², grown-root, grown-enter, enter-keeps, enter-has, enter-grows, enter-few}
+use Rattle.build.proofs.Grown.{enter-append, length-prefixes}
 
 -- every token is made of bytes
 abbrev pub AllBytes : List² → Type 0
@@ -62,7 +63,8 @@ entered-grows ts ns = enter-grows (flat_map (prefixes []) ts) ns
 abbrev pub Begins : List² → List ℕ → Type 0
 Begins tokens s = (i : ℕ) × (r : List ℕ) × (i < length tokens) × (get_or tokens i [] ≡ s ++ r)
 
-pub entered-has : (ts ns : List²) (q : List ℕ) → place ns [] ≡ Some 0 → Begins ts q → (k : ℕ) × (place (entered ns ts) q ≡ Some k)
+pub entered-has :
+    (ts ns : List²) (q : List ℕ) → place ns [] ≡ Some 0 → Begins ts q → (k : ℕ) × (place (entered ns ts) q ≡ Some k)
 entered-has [] ns q e w = absurd (omega (arith, w.2))
 entered-has (t ∷ ts) ns q e (zero, r, l, d) =
     let v = enter-has t [] q ns 0 e r d in
@@ -80,11 +82,11 @@ prefixes-from (b ∷ t) p ns s k e =
     let q = p ++ (b ∷ []) in
     ⊎_elim
     (λ (w : (j : ℕ) × (place (add ns q) s ≡ Some j)). ⊎_elim
-    (λ n. ⊎_elim (λ o. inl (w.0, o)) (λ o. inr (t, sym (snoc-append p b t) ∙ ap (λ (x : List ℕ). x ++ t) (sym o.0)))
+    (λ n. ⊎_elim (λ o. inl (w.0, o)) (λ o. inr (t, sym (append_snoc p b t) ∙ ap (λ (x : List ℕ). x ++ t) (sym o.0)))
     (place-more ns q s w.0 n (ap (λ (x : List²). place x s) (sym (add-new ns q n)) ∙ w.1)))
     (λ m. inl (w.0, ap (λ (x : List²). place x s) (sym (add-there ns q m.0 m.1)) ∙ w.1))
     (found? (place ns q)))
-    (λ (w : (r : List ℕ) × (q ++ t ≡ s ++ r)). inr (w.0, sym (snoc-append p b t) ∙ w.1))
+    (λ (w : (r : List ℕ) × (q ++ t ≡ s ++ r)). inr (w.0, sym (append_snoc p b t) ∙ w.1))
     (prefixes-from t q (add ns q) s k e)
 
 tokens-from :
@@ -117,7 +119,9 @@ begins-name tokens s w =
     (v.0, ap (λ (x : List²). place x s) (names-are tokens) ∙ v.1)
 
 -- a token that stands at a place is a name
-pub token-name : (tokens : List²) (s : List ℕ) (i : ℕ) → place tokens s ≡ Some i → i < length tokens → (k : ℕ) × (place (names tokens) s ≡ Some k)
+pub token-name :
+    (tokens : List²) (s : List ℕ) (i : ℕ) → place tokens s ≡ Some i → i < length tokens
+    → (k : ℕ) × (place (names tokens) s ≡ Some k)
 token-name tokens s i e l = begins-name tokens s (i, [], l, place_at tokens s i e ∙ sym (append-nil s))
 
 -- ---- how many
@@ -142,7 +146,9 @@ entered-few (t ∷ ts) ns =
 pub names-few : (tokens : List²) → length (names tokens) ≤ 1 + all_bytes tokens
 names-few tokens = omega (arith, ap length (names-are tokens), entered-few tokens ([] ∷ []))
 
-pub bytes-few : (tokens : List²) (m : ℕ) → ((i : ℕ) → i < length tokens → length (get_or tokens i []) ≤ m) → all_bytes tokens ≤ length tokens * m
+pub bytes-few :
+    (tokens : List²) (m : ℕ) → ((i : ℕ) → i < length tokens → length (get_or tokens i []) ≤ m)
+    → all_bytes tokens ≤ length tokens * m
 unfolding all_bytes
 bytes-few [] m h = omega arith
 bytes-few (t ∷ ts) m h = omega (arith, h 0 (omega arith), bytes-few ts m (λ i l. h (suc i) (omega arith)))

@@ -34,7 +34,8 @@ counts_of ns ms = map length (map (edges_of ns) ms)
 
 -- ---- the first k nodes are laid out
 
-abbrev pub chained-at : {ns : List²} {edge_n work : List ℕ} {k : ℕ} → Linked ns work → Spelled ns k edge_n → k < length ns → Chained edge_n work k k
+abbrev pub chained-at :
+    {ns : List²} {edge_n work : List ℕ} {k : ℕ} → Linked ns work → Spelled ns k edge_n → k < length ns → Chained edge_n work k k
 chained-at {ns = ns} {k = k} l sp h =
     record { names = ns; string = get_or ns k []; links = l; bytes = sp; here = grown-distinct l.grown k h }
 
@@ -54,16 +55,19 @@ pub record Written (ns : List²) (edge_at edge_n byte to edge_at' edge_n' byte' 
   pub led : to' ≡ sets to 0 (targets_of (all_edges ns ns))
 
 pub laid-start :
-    {ns : List²} {edge_at edge_n byte to : List ℕ} → Spelled ns 0 edge_n → LaidTo ns edge_at edge_n byte to edge_at edge_n byte to 0 0
+    {ns : List²} {edge_at edge_n byte to : List ℕ} → Spelled ns 0 edge_n
+    → LaidTo ns edge_at edge_n byte to edge_at edge_n byte to 0 0
 laid-start sp = record { begun = refl; counted = refl; written = refl; led = refl; sum = omega arith; bytes = sp }
 
 -- the edges of a node, and then those of the others, for either part of an edge
 next-edges :
     (f : Edge → ℕ) (ns : List²) (s : List ℕ) (r : List²) (l : List ℕ) (at : ℕ)
-    → sets l at (map f (all_edges ns (s ∷ r))) ≡ sets (sets l at (map f (edges_of ns s))) (at + length (edges_of ns s)) (map f (all_edges ns r))
+    → sets l at (map f (all_edges ns (s ∷ r))) ≡ sets (sets l at (map f (edges_of ns s))) (at + length (edges_of ns s))
+    (map f (all_edges ns r))
 next-edges f ns s r l at =
     ap (λ (es : List Edge). sets l at (map f es)) (flatten-cons (edges_of ns s) (map (edges_of ns) r))
-    ∙ ap (sets l at) (map-join f (edges_of ns s) (all_edges ns r)) ∙ sets-append (map f (edges_of ns s)) (map f (all_edges ns r)) l at
+    ∙ ap (sets l at) (map-join f (edges_of ns s) (all_edges ns r))
+    ∙ sets-append (map f (edges_of ns s)) (map f (all_edges ns r)) l at
     ∙ ap (λ (k : ℕ). sets (sets l at (map f (edges_of ns s))) (at + k) (map f (all_edges ns r))) (length-map (edges_of ns s) f)
 
 module _ {ns : List²} {edge_at₀ edge_n₀ byte₀ to₀ edge_at edge_n byte to : List ℕ} {k at : ℕ}
@@ -85,7 +89,8 @@ module _ {ns : List²} {edge_at₀ edge_n₀ byte₀ to₀ edge_at edge_n byte t
     laid-few l = omega (arith, sum-next, count-edges l.grown)
 
     pub laid-turn :
-        {edge_at' edge_n' byte' to' : List ℕ} {end : ℕ} → NodeDone ns s edge_at edge_n byte to edge_at' edge_n' byte' to' k at end
+        {edge_at' edge_n' byte' to' : List ℕ} {end : ℕ}
+        → NodeDone ns s edge_at edge_n byte to edge_at' edge_n' byte' to' k at end
         → LaidTo ns edge_at₀ edge_n₀ byte₀ to₀ edge_at' edge_n' byte' to' (k + 1) end
     laid-turn {end = end} d =
         let m = length (edges_of ns s) in
@@ -102,7 +107,8 @@ module _ {ns : List²} {edge_at₀ edge_n₀ byte₀ to₀ edge_at edge_n byte t
               ∙ ap (λ (i : ℕ). sets (set edge_n k m) i (counts_of ns r)) (sym (add-one k))
               ∙ ap (λ (l : List ℕ). sets l (k + 1) (counts_of ns r)) (sym d.counted);
           written =
-              laid.written ∙ ap (λ (x : List²). sets byte at (bytes_of (all_edges ns x))) cut ∙ next-edges (λ e. e.byte) ns s r byte at
+              laid.written ∙ ap (λ (x : List²). sets byte at (bytes_of (all_edges ns x))) cut
+              ∙ next-edges (λ e. e.byte) ns s r byte at
               ∙ ap (λ (i : ℕ). sets (sets byte at (bytes_of (edges_of ns s))) i (bytes_of (all_edges ns r))) stop
               ∙ ap (λ (l : List ℕ). sets l end (bytes_of (all_edges ns r))) (sym d.children.written);
           led =

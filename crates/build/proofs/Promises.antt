@@ -70,8 +70,10 @@ module _ {A : Type 0} (kind : Kind) (tab : List ℕ) (rows : List Row) (summary 
 
   -- what is told and left where the fault is known
   case-of :
-      (judged : Option Reason) (short : Bool) {o : Option Reason} {answer : Result A Reason} {after : Memory} → build_fault judged short ≡ o
-      → answer ≡ told_for o summary → after ≡ leaves o held (cleared m) m → Promised kind tab rows judged short summary m answer after
+      (judged : Option Reason) (short : Bool) {o : Option Reason} {answer : Result A Reason} {after : Memory}
+      → build_fault judged short ≡ o
+      → answer ≡ told_for o summary → after ≡ leaves o held (cleared m) m
+      → Promised kind tab rows judged short summary m answer after
   case-of judged short f t l =
       record {
         answered = t ∙ sym (ap (λ (o : Option Reason). told_for o summary) f);
@@ -92,32 +94,43 @@ module _ {A : Type 0} (kind : Kind) (tab : List ℕ) (rows : List Row) (summary 
   built-short {judged = judged} {short = short} e s a = case-of judged short (fault-left judged short e s) refl a
 
   pub built-held :
-      {judged : Option Reason} {short : Bool} {answer : Result A Reason} {after : Memory} → judged ≡ None → short ≡ false → answer ≡ Ok summary
-      → after ≡ holding (trie_in kind tab rows) (scores_in kind tab rows) m → Promised kind tab rows judged short summary m answer after
+      {judged : Option Reason} {short : Bool} {answer : Result A Reason} {after : Memory} → judged ≡ None → short ≡ false
+      → answer ≡ Ok summary
+      → after ≡ holding (trie_in kind tab rows) (scores_in kind tab rows) m
+      → Promised kind tab rows judged short summary m answer after
   unfolding told_for leaves refuse
   built-held {judged = judged} {short = short} e s t a = case-of judged short (fault-left judged short e s) t a
 
 -- ---- from what the core says
 
 -- a memory without its score column is zero, and so is that column
-pub cleared-with : (m : Memory) (xs : List Double) {after : Memory} {ys : List Double} → after ≡ cleared m → ys ≡ zero_scores xs → with_scores after ys ≡ cleared (with_scores m xs)
+pub cleared-with :
+    (m : Memory) (xs : List Double) {after : Memory} {ys : List Double} → after ≡ cleared m → ys ≡ zero_scores xs
+    → with_scores after ys ≡ cleared (with_scores m xs)
 unfolding cleared
 cleared-with m xs {ys = ys} a s = ap (λ (x : Memory). with_scores x ys) a ∙ ap (with_scores (cleared m)) s
 
-module _ {A : Type 0} (kind : Kind) (tab : List ℕ) (rows : List Row) (summary : A) (m after : Memory) (xs ys : List Double) {room : ℕ} {answer : Option ℕ}
+module _ {A : Type 0} (kind : Kind) (tab : List ℕ) (rows : List Row) (summary : A) (m after : Memory) (xs ys : List Double)
+    {room : ℕ} {answer : Option ℕ}
     {judged : Option Reason} {short : Bool} (d : BuiltOf kind tab rows room m after answer) (fine : judged ≡ None)
     (decides : short ≡ ltb room (nodes_of tab rows)) where
   left_is : {b : Bool} → ltb room (nodes_of tab rows) ≡ b → after ≡ cond b (cleared m) (holding (trie_in kind tab rows) [] m)
   left_is e = d.left ∙ ap (λ (b : Bool). cond b (cleared m) (holding (trie_in kind tab rows) [] m)) e
 
-  pub core-short : answer ≡ None → ys ≡ zero_scores xs → Promised kind tab rows judged short summary (with_scores m xs) (Err (reason.Call fault.Room)) (with_scores after ys)
+  pub core-short :
+      answer ≡ None → ys ≡ zero_scores xs
+      → Promised kind tab rows judged short summary (with_scores m xs) (Err (reason.Call fault.Room)) (with_scores after ys)
   core-short e s =
-      let full = core-full d e in built-short kind tab rows summary (with_scores m xs) fine (decides ∙ full) (cleared-with m xs (left_is full) s)
+      let full = core-full d e in
+      built-short kind tab rows summary (with_scores m xs) fine (decides ∙ full) (cleared-with m xs (left_is full) s)
 
   pub core-left : {n : ℕ} → answer ≡ Some n → after ≡ holding (trie_in kind tab rows) [] m
   core-left e = left_is (core-fits d e).0
 
-  pub core-held : {n : ℕ} {told : Result A Reason} → answer ≡ Some n → told ≡ Ok summary → ys ≡ filled plus_zero (scores_in kind tab rows) xs → Promised kind tab rows judged short summary (with_scores m xs) told (with_scores after ys)
+  pub core-held :
+      {n : ℕ} {told : Result A Reason} → answer ≡ Some n → told ≡ Ok summary
+      → ys ≡ filled plus_zero (scores_in kind tab rows) xs
+      → Promised kind tab rows judged short summary (with_scores m xs) told (with_scores after ys)
   unfolding holding
   core-held e t s =
       built-held kind tab rows summary (with_scores m xs) fine (decides ∙ (core-fits d e).0) t
@@ -127,21 +140,30 @@ module _ {A : Type 0} (kind : Kind) (tab : List ℕ) (rows : List Row) (summary 
 
 -- a refusal looks at no rows: it is that of any other build that is refused so
 pub refused-moved :
-    {A : Type 0} {kind : Kind} {tab : List ℕ} {rows : List Row} {judged : Option Reason} {short : Bool} {summary : A} {m : Memory} {answer : Result A Reason} {after : Memory}
-    (rows' : List Row) (judged' : Option Reason) (short' : Bool) (summary' : A) {r : Reason} → build_fault judged short ≡ Some r → build_fault judged' short' ≡ Some r
-    → Promised kind tab rows judged short summary m answer after → Promised kind tab rows' judged' short' summary' m answer after
+    {A : Type 0} {kind : Kind} {tab : List ℕ} {rows : List Row} {judged : Option Reason} {short : Bool}
+    {summary : A} {m : Memory} {answer : Result A Reason} {after : Memory}
+    (rows' : List Row) (judged' : Option Reason) (short' : Bool) (summary' : A) {r : Reason} → build_fault judged short ≡ Some r
+    → build_fault judged' short' ≡ Some r
+    → Promised kind tab rows judged short summary m answer after
+    → Promised kind tab rows' judged' short' summary' m answer after
 unfolding told_for leaves
 refused-moved {kind = kind} {tab = tab} {rows = rows} {summary = summary} {m = m} rows' judged' short' summary' f g p =
     record {
-      answered = p.answered ∙ ap (λ (o : Option Reason). told_for o summary) f ∙ sym (ap (λ (o : Option Reason). told_for o summary') g);
+      answered = p.answered ∙ ap (λ (o : Option Reason). told_for o summary) f
+          ∙ sym (ap (λ (o : Option Reason). told_for o summary') g);
       left =
-          p.left ∙ ap (λ (o : Option Reason). leaves o (holding (trie_in kind tab rows) (scores_in kind tab rows) m) (cleared m) m) f
-          ∙ sym (ap (λ (o : Option Reason). leaves o (holding (trie_in kind tab rows') (scores_in kind tab rows') m) (cleared m) m) g);
+          p.left ∙ ap (λ (o : Option Reason). leaves o (holding (trie_in kind tab rows) (scores_in kind tab rows) m)
+          (cleared m) m) f
+          ∙ sym (ap (λ (o : Option Reason). leaves o (holding (trie_in kind tab rows') (scores_in kind tab rows') m)
+          (cleared m) m) g);
     }
 
-module _ {A : Type 0} {kind : Kind} {tab : List ℕ} {rows : List Row} {judged : Option Reason} {short : Bool} {summary : A} {m : Memory} where
+module _ {A : Type 0} {kind : Kind} {tab : List ℕ} {rows : List Row} {judged : Option Reason} {short : Bool} {summary : A}
+    {m : Memory} where
   -- one outcome
-  pub promised-once : {a b : Result A Reason} {m₁ m₂ : Memory} → Promised kind tab rows judged short summary m a m₁ → Promised kind tab rows judged short summary m b m₂ → (a ≡ b) × (m₁ ≡ m₂)
+  pub promised-once :
+      {a b : Result A Reason} {m₁ m₂ : Memory} → Promised kind tab rows judged short summary m a m₁
+      → Promised kind tab rows judged short summary m b m₂ → (a ≡ b) × (m₁ ≡ m₂)
   promised-once p q = (p.answered ∙ sym q.answered, p.left ∙ sym q.left)
 
   module _ {answer : Result A Reason} {after : Memory} (p : Promised kind tab rows judged short summary m answer after) where
@@ -158,11 +180,19 @@ module _ {A : Type 0} {kind : Kind} {tab : List ℕ} {rows : List Row} {judged :
     -- refused with r exactly when r is the fault, and accepted exactly when there is none
     pub refused-exactly : (r : Reason) → (answer ≡ Err r) ↔ (build_fault judged short ≡ Some r)
     unfolding told_for
-    refused-exactly r = (λ q. says-refused (build_fault judged short) (sym p.answered ∙ q), λ e. p.answered ∙ ap (λ (o : Option Reason). told_for o summary) e)
+    refused-exactly r = (
+      λ q. says-refused (build_fault judged short) (sym p.answered ∙ q),
+      λ e. p.answered
+          ∙ ap (λ (o : Option Reason). told_for o summary) e,
+    )
 
     pub accepted-exactly : (answer ≡ Ok summary) ↔ (build_fault judged short ≡ None)
     unfolding told_for
-    accepted-exactly = (λ q. (says-built (build_fault judged short) (sym p.answered ∙ q)).0, λ e. p.answered ∙ ap (λ (o : Option Reason). told_for o summary) e)
+    accepted-exactly = (
+      λ q. (says-built (build_fault judged short) (sym p.answered ∙ q)).0,
+      λ e. p.answered
+          ∙ ap (λ (o : Option Reason). told_for o summary) e,
+    )
 
     -- of what was built: nothing was found before the room, no column is too short, and what is told is what was to be
     module _ {s : A} (e : answer ≡ Ok s) where
@@ -180,4 +210,6 @@ module _ {A : Type 0} {kind : Kind} {tab : List ℕ} {rows : List Row} {judged :
 
       pub built-left : after ≡ holding (trie_in kind tab rows) (scores_in kind tab rows) m
       unfolding leaves
-      built-left = p.left ∙ ap (λ (o : Option Reason). leaves o (holding (trie_in kind tab rows) (scores_in kind tab rows) m) (cleared m) m) no-fault.0
+      built-left =
+          p.left ∙ ap (λ (o : Option Reason). leaves o (holding (trie_in kind tab rows) (scores_in kind tab rows) m)
+          (cleared m) m) no-fault.0

@@ -4,7 +4,7 @@ use Rattle.std.specs.Prelude.{None}
 use mathlib.Core.Path.{◌≡◌, refl, sym, ap, ◌∙◌}
 use mathlib.Core.Bool.{Bool, true, false, ◌||◌}
 use mathlib.Core.List.{List, [], ◌∷◌}
-use Prim.Native.Nat.{ℕ, ◌+◌, ◌-◌, ◌*◌, ◌/◌, ◌≤◌, ◌<◌, min}
+use Prim.Native.Nat.{ℕ, ◌+◌, ◌-◌, ◌*◌, ◌≤◌, ◌<◌, min}
 use native.Mathlib.Omega.{arith}
 use native.Mathlib.Decide.{dec_lt}
 use borrow.Author.Tests.{lt-ltb, le-ltb, ltb-false}
@@ -27,15 +27,6 @@ use Rattle.build.proofs.Lookups.{no_row, token-at, length-tokens}
 
 -- ---- the least of all
 
-min-left : (a b n : ℕ) → n ≤ min a b → n ≤ a
-min-left a b n h = omega arith
-
-min-right : (a b n : ℕ) → n ≤ min a b → n ≤ b
-min-right a b n h = omega arith
-
-min-both : (a b n : ℕ) → n ≤ a → n ≤ b → n ≤ min a b
-min-both a b n p q = omega arith
-
 -- every lent column has room for `room` nodes
 pub record RoomFor (room : ℕ) (m : Memory) : Type 0 where
   pub starts : room ≤ length m.parts.edge_at
@@ -46,40 +37,16 @@ pub record RoomFor (room : ℕ) (m : Memory) : Type 0 where
 -- what fits fits every column
 pub room_for : (m : Memory) (n : ℕ) → n ≤ room_of m → RoomFor n m
 room_for m n h =
-    let at = length m.parts.edge_at in
-    let en = length m.parts.edge_n in
-    let im = length m.parts.id in
-    let by = length m.parts.byte + 1 in
-    let tt' = length m.parts.to + 1 in
-    let wo = length m.work / 2 in
-    let nodes = min-left (min (min at en) (min im by)) (min (min tt' wo) 4_294_967_295) n h in
-    let edges = min-right (min (min at en) (min im by)) (min (min tt' wo) 4_294_967_295) n h in
-    let starts = min-left (min at en) (min im by) n nodes in
-    let ids = min-right (min at en) (min im by) n nodes in
-    let links = min-left (min tt' wo) 4_294_967_295 n edges in
-    let half = min-right tt' wo n links in
     record {
-      starts = min-left at en n starts;
-      bytes = min-right im by n ids;
-      targets = min-left tt' wo n links;
-      roomy = record {
-        nodes = min-right at en n starts;
-        ids = min-left im by n ids;
-        links = omega arith;
-        small = min-right (min tt' wo) 4_294_967_295 n edges;
-      };
+      starts = omega (arith, h);
+      bytes = omega (arith, h);
+      targets = omega (arith, h);
+      roomy = record { nodes = omega (arith, h); ids = omega (arith, h); links = omega (arith, h); small = omega (arith, h) };
     }
 
 -- and what fits every column fits
 pub for-room : (m : Memory) (n : ℕ) → RoomFor n m → n ≤ room_of m
-for-room m n r =
-    min-both (min (min (length m.parts.edge_at) (length m.parts.edge_n)) (min (length m.parts.id) (length m.parts.byte + 1)))
-    (min (min (length m.parts.to + 1) (length m.work / 2)) 4_294_967_295) n
-    (min-both (min (length m.parts.edge_at) (length m.parts.edge_n)) (min (length m.parts.id) (length m.parts.byte + 1)) n
-    (min-both (length m.parts.edge_at) (length m.parts.edge_n) n r.starts r.roomy.nodes)
-    (min-both (length m.parts.id) (length m.parts.byte + 1) n r.roomy.ids r.bytes))
-    (min-both (min (length m.parts.to + 1) (length m.work / 2)) 4_294_967_295 n
-    (min-both (length m.parts.to + 1) (length m.work / 2) n r.targets (omega (arith, r.roomy.links))) r.roomy.small)
+for-room m n r = omega (arith, r.starts, r.bytes, r.targets, r.roomy.nodes, r.roomy.ids, r.roomy.links, r.roomy.small)
 
 -- ---- 7
 
@@ -109,7 +76,8 @@ all_fit m n some-node small e =
     let work = ltb (length m.work) (2 * n) in
     let p = neither-says (nodes || edges) work e in
     let q = neither-says nodes edges p.0 in
-    let s = neither-says (ltb (length m.parts.edge_at) n) (ltb (length m.parts.edge_n) n || (ltb (length m.parts.id) n || false)) q.0 in
+    let s = neither-says (ltb (length m.parts.edge_at) n)
+    (ltb (length m.parts.edge_n) n || (ltb (length m.parts.id) n || false)) q.0 in
     let t = none_below n (length m.parts.edge_n) (length m.parts.id) s.1 in
     let u = none_below (n - 1) (length m.parts.byte) (length m.parts.to) q.1 in
     record {
@@ -146,21 +114,16 @@ pub no-scored-room :
     (m : Memory) (n : ℕ) → 1 ≤ n → n ≤ 4_294_967_295 → no_scored_room n m ≡ ltb (min (room_of m) (length m.score)) n
 unfolding no_scored_room
 no-scored-room m n some-node small =
-    ap (λ (t : Bool). t || ltb (length m.score) n) (no_room_by m n some-node small) ∙ lesser-below (room_of m) (length m.score) n
-
-lesser-left : (a b : ℕ) {r : ℕ} → r ≡ min a b → r ≤ a
-lesser-left a b e = omega (arith, e)
-
-lesser-right : (a b : ℕ) {r : ℕ} → r ≡ min a b → r ≤ b
-lesser-right a b e = omega (arith, e)
+    ap (λ (t : Bool). t || ltb (length m.score) n) (no_room_by m n some-node small)
+    ∙ lesser-below (room_of m) (length m.score) n
 
 -- of a memory with this score column, whose room is that lesser one
 module _ (m : Memory) (xs : List Double) {room : ℕ} (e : room ≡ min (room_of m) (length xs)) where
   pub scored-room : room ≤ room_of m
-  scored-room = lesser-left (room_of m) (length xs) e
+  scored-room = omega (arith, e)
 
   pub scores-roomy : room ≤ length xs
-  scores-roomy = lesser-right (room_of m) (length xs) e
+  scores-roomy = omega (arith, e)
 
   pub scored-decides : (n : ℕ) → 1 ≤ n → n ≤ 4_294_967_295 → no_scored_room n (with_scores m xs) ≡ ltb room n
   scored-decides n some-node small = no-scored-room (with_scores m xs) n some-node small ∙ ap (λ (k : ℕ). ltb k n) (sym e)
@@ -172,7 +135,8 @@ nodes-some tab rows = omega (arith, ap length (names-are (tokens_of tab rows)), 
 
 -- at most 1,048,576 rows of 1,024 bytes: 1,073,741,825 nodes
 pub nodes-few :
-    (kind : Kind) (tab : List ℕ) (rows : List Row) → length rows ≤ max_rows → first_bad kind tab 0 rows ≡ None → nodes_of tab rows ≤ 1_073_741_825
+    (kind : Kind) (tab : List ℕ) (rows : List Row) → length rows ≤ max_rows → first_bad kind tab 0 rows ≡ None
+    → nodes_of tab rows ≤ 1_073_741_825
 nodes-few kind tab rows few fine =
     let tokens = tokens_of tab rows in
     let each = bytes-few tokens max_token

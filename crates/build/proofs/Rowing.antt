@@ -22,7 +22,7 @@ use Rattle.build.specs.Names.{place, prefixes, enter, names}
 use Rattle.build.specs.Grown.{root}
 use Rattle.build.specs.Rules.{id_of_worth, tokens_of}
 use Rattle.build.specs.Given.{given, value_of, kept, marked, rules_from, no_rule}
-use Rattle.build.specs.Held.{ZeroFrom, Held, Roomy, Enterable, RowDone, RowEntered}
+use Rattle.build.specs.Held.{ZeroFrom, Held, Roomy, Enterable, Stands, RowEntered}
 use Rattle.build.proofs.Zeros.{zero-from, length-zeroed}
 use Rattle.build.proofs.Strings.{snoc-nil, equal?}
 use Rattle.build.proofs.Places.{place-empty, place_other, place-below, place_at}
@@ -72,16 +72,18 @@ held-root edge_n id work he hi hw ze zi =
 
 -- in columns made zero, where there is room for it
 pub root-done :
-    {room : ℕ} {edge_n id work edge_n₁ id₁ id' work' : List ℕ} → Roomy room edge_n id work → 1 ≤ room → edge_n₁ ≡ zeroed 0 edge_n → id₁ ≡ zeroed 0 id
-    → id' ≡ set id₁ 0 no_id → work' ≡ set work 0 0 → RowDone ([] ∷ []) no_rule room edge_n₁ id' work' 1
+    {room : ℕ} {edge_n id work edge_n₁ id₁ id' work' : List ℕ} → Roomy room edge_n id work → 1 ≤ room
+    → edge_n₁ ≡ zeroed 0 edge_n → id₁ ≡ zeroed 0 id
+    → id' ≡ set id₁ 0 no_id → work' ≡ set work 0 0 → Stands ([] ∷ []) no_rule room edge_n₁ id' work' 1
 root-done {edge_n = edge_n} {id = id} {work = work} {edge_n₁ = edge_n₁} {id₁ = id₁} r h ze zi p q =
     record {
-      full = λ z. absurd (omega arith);
-      count = λ z. refl;
-      held = λ z.
+      fits = h;
+      count = refl;
+      held =
           rw (p, q)
           (held-root edge_n₁ id₁ work (omega (arith, length-zeroed edge_n edge_n₁ ze, r.nodes))
-          (omega (arith, length-zeroed id id₁ zi, r.ids)) (omega (arith, r.links)) (zero-from edge_n edge_n₁ 0 ze) (zero-from id id₁ 0 zi));
+          (omega (arith, length-zeroed id id₁ zi, r.ids)) (omega (arith, r.links)) (zero-from edge_n edge_n₁ 0 ze)
+          (zero-from id id₁ 0 zi));
     }
 
 -- ---- after i of the rows, the rest being still to be entered: the columns keep their lengths
@@ -90,7 +92,7 @@ pub record Rowed (kind : Kind) (tab : List ℕ) (rows : List Row) (room : ℕ) (
     (rest : List Row) (i : ℕ) (edge_n id work : List ℕ) (n : ℕ) : Type 0 where
   pub nodes : List²
   pub rule : List ℕ → Option ℕ
-  pub done : RowDone nodes rule room edge_n id work n
+  pub stands : Stands nodes rule room edge_n id work n
   pub lengths : Kept edge_n₀ id₀ work₀ edge_n id work
   pub low : kind ≡ Unigram → (s : List ℕ) (j : ℕ) → rule s ≡ Some j → j < i
   pub names-on : names (tokens_of tab rows) ≡ entered nodes (tokens_of tab rest)
@@ -116,19 +118,24 @@ value-first : (kind : Kind) (i own : ℕ) → kind ≡ Unigram → value_of kind
 value-first Unigram i own e = refl
 value-first WordPiece i own e = absurd (zero_one cc)
 
--- all rows are entered, or there is no room for their nodes
-abbrev AllDone : Kind → List ℕ → List Row → ℕ → List ℕ → List ℕ → List ℕ → ℕ → Type 0
-AllDone kind tab rows = RowDone (names (tokens_of tab rows)) (rules_from kind tab no_rule 0 rows)
+-- where there is no room for the root, there is none for all nodes
+pub bare-full :
+    (tokens : List²) {room : ℕ} → room < 1 → room < length (names tokens)
+bare-full tokens full = omega (arith, full, ap length (names-are tokens), entered-grows tokens ([] ∷ []))
+
+-- all rows are entered
+abbrev AllStand : Kind → List ℕ → List Row → ℕ → List ℕ → List ℕ → List ℕ → ℕ → Type 0
+AllStand kind tab rows = Stands (names (tokens_of tab rows)) (rules_from kind tab no_rule 0 rows)
 
 module _ {kind : Kind} {tab : List ℕ} {rows : List Row} {room : ℕ} where
   pub rowed-start :
-      {edge_n id work : List ℕ} {rest : List Row} {n : ℕ} → RowDone ([] ∷ []) no_rule room edge_n id work n → rows ≡ rest
+      {edge_n id work : List ℕ} {rest : List Row} {n : ℕ} → Stands ([] ∷ []) no_rule room edge_n id work n → rows ≡ rest
       → Rowed kind tab rows room edge_n id work rest 0 edge_n id work n
-  rowed-start d e =
+  rowed-start all e =
       record {
         nodes = [] ∷ [];
         rule = no_rule;
-        done = d;
+        stands = all;
         lengths = record { nodes = refl; ids = refl; links = refl };
         low = λ e s j p. none-some p;
         names-on = names-are (tokens_of tab rows) ∙ ap (λ (x : List Row). entered ([] ∷ []) (tokens_of tab x)) e;
@@ -137,26 +144,17 @@ module _ {kind : Kind} {tab : List ℕ} {rows : List Row} {room : ℕ} where
 
   module _ {edge_n₀ id₀ work₀ : List ℕ} {rest : List Row} {i : ℕ} {edge_n id work : List ℕ} {n : ℕ}
       (r : Rowed kind tab rows room edge_n₀ id₀ work₀ rest i edge_n id work n) where
-    pub rowed-enterable : n ≤ room → Roomy room edge_n₀ id₀ work₀ → Enterable edge_n id work room 0 n
-    rowed-enterable fits roomy =
+    pub rowed-enterable : Roomy room edge_n₀ id₀ work₀ → Enterable edge_n id work room 0 n
+    rowed-enterable roomy =
         record {
           names = r.nodes;
           rule = r.rule;
           string = [];
-          held = r.done.held fits;
-          count = r.done.count fits;
-          here = grown-root (r.done.held fits).links.grown;
+          held = r.stands.held;
+          count = r.stands.count;
+          here = grown-root r.stands.held.links.grown;
           roomy = roomy-kept r.lengths roomy;
-          fits = fits;
-        }
-
-    -- there was no room
-    pub rowed-full : room < n → AllDone kind tab rows room edge_n id work n
-    rowed-full z =
-        record {
-          full = λ y. omega (arith, r.done.full z, ap length r.names-on, entered-grows (tokens_of tab rest) r.nodes);
-          count = λ y. absurd (omega arith);
-          held = λ y. absurd (omega arith);
+          fits = r.stands.fits;
         }
 
     -- the next row is `row`, and what is left after it is `more`
@@ -179,7 +177,8 @@ module _ {kind : Kind} {tab : List ℕ} {rows : List Row} {room : ℕ} where
       rules-next : rules_from kind tab no_rule 0 rows ≡ rules_from kind tab rule-then (i + 1) more
       unfolding rules_from
       rules-next =
-          r.rules-on ∙ ap (rules_from kind tab r.rule i) next ∙ ap (λ (k : ℕ). rules_from kind tab rule-then k more) (sym (add-one i))
+          r.rules-on ∙ ap (rules_from kind tab r.rule i) next
+          ∙ ap (λ (k : ℕ). rules_from kind tab rule-then k more) (sym (add-one i))
 
       low-next : kind ≡ Unigram → (s : List ℕ) (j : ℕ) → rule-then s ≡ Some j → j < i + 1
       low-next e s j p =
@@ -187,32 +186,38 @@ module _ {kind : Kind} {tab : List ℕ} {rows : List Row} {room : ℕ} where
           (sym (ap (λ (k : Kind). marked k token value r.rule s) e
           ∙ ap (λ (v : ℕ). marked Unigram token v r.rule s) (value-first kind i (id_of_worth row.worth) e)) ∙ p)
 
-      module _ {edge_n' id' work' : List ℕ} {n' : ℕ} (few : i < max_rows) (fits : n ≤ room)
-          (one : RowEntered edge_n id work edge_n' id' work' kind room n token value n') where
-        done : RowDone (enter r.nodes (prefixes [] token)) rule-then room edge_n' id' work' n'
-        done = one.entered r.nodes r.rule (r.done.held fits) (r.done.count fits) (λ e s j p. omega (arith, r.low e s j p))
+      module _ {edge_n' id' work' : List ℕ} (few : i < max_rows) where
+        -- there was no room for it
+        pub rowed-full :
+            RowEntered edge_n id work edge_n' id' work' kind room n token value None
+            → room < length (names (tokens_of tab rows))
+        rowed-full one =
+            let full : room < length (enter r.nodes (prefixes [] token)) =
+            one.entered r.nodes r.rule r.stands.held r.stands.count (λ e s j p. omega (arith, r.low e s j p)) in
+            omega (arith, full, ap length names-next, entered-grows (tokens_of tab more) (enter r.nodes (prefixes [] token)))
 
         pub rowed-turn :
-            length edge_n' ≡ length edge_n → length id' ≡ length id → length work' ≡ length work
+            {n' : ℕ} → RowEntered edge_n id work edge_n' id' work' kind room n token value (Some n')
+            → length edge_n' ≡ length edge_n → length id' ≡ length id → length work' ≡ length work
             → Rowed kind tab rows room edge_n₀ id₀ work₀ more (i + 1) edge_n' id' work' n'
-        rowed-turn ke ki kw =
+        rowed-turn one ke ki kw =
             record {
               nodes = enter r.nodes (prefixes [] token);
               rule = rule-then;
-              done = done;
+              stands = one.entered r.nodes r.rule r.stands.held r.stands.count (λ e s j p. omega (arith, r.low e s j p));
               lengths = kept_on r.lengths ke ki kw;
               low = low-next;
               names-on = names-next;
               rules-on = rules-next;
             }
 
-    pub rowed-end : rest ≡ [] → AllDone kind tab rows room edge_n id work n
+    pub rowed-end : rest ≡ [] → AllStand kind tab rows room edge_n id work n
     unfolding rules_from tokens_of
     rowed-end e =
         let all : names (tokens_of tab rows) ≡ r.nodes =
         r.names-on ∙ ap (λ (x : List Row). entered r.nodes (map (token_of tab) x)) e ∙ entered-none r.nodes in
         let rules : rules_from kind tab no_rule 0 rows ≡ r.rule = r.rules-on ∙ ap (rules_from kind tab r.rule i) e in
-        rw (all, rules) r.done
+        rw (all, rules) r.stands
 
 -- ---- the rest of the rows that are given as columns
 
@@ -224,7 +229,8 @@ unfolding rows_of
 rest_all off len ids = ap (rows_from (columns off len [] [] ids) 0) (omega arith)
 
 pub rest-next :
-    (off len ids : List ℕ) (i : ℕ) → i < length off → rest_of off len ids i ≡ row_at (columns off len [] [] ids) i ∷ rest_of off len ids (i + 1)
+    (off len ids : List ℕ) (i : ℕ) → i < length off
+    → rest_of off len ids i ≡ row_at (columns off len [] [] ids) i ∷ rest_of off len ids (i + 1)
 unfolding rows_from
 rest-next off len ids i h =
     let c = columns off len [] [] ids in
@@ -237,9 +243,11 @@ rest-none off len ids i h = let e : length off - i ≡ 0 = omega arith in ap (ro
 
 -- row i, from its places
 pub row-given :
-    {edge_n id work edge_n' id' work' : List ℕ} {kind : Kind} {room n n' : ℕ} (tab off len ids : List ℕ) (i : ℕ)
-    → RowEntered edge_n id work edge_n' id' work' kind room n (span_of tab (get_or off i 0) (get_or len i 0)) (value_of kind i (get_or ids i 0)) n'
+    {edge_n id work edge_n' id' work' : List ℕ} {kind : Kind} {room n : ℕ} {answer : Option ℕ} (tab off len ids : List ℕ)
+    (i : ℕ)
+    → RowEntered edge_n id work edge_n' id' work' kind room n (span_of tab (get_or off i 0) (get_or len i 0))
+    (value_of kind i (get_or ids i 0)) answer
     → let r = row_at (columns off len [] [] ids) i in
-    RowEntered edge_n id work edge_n' id' work' kind room n (token_of tab r) (value_of kind i (id_of_worth r.worth)) n'
+    RowEntered edge_n id work edge_n' id' work' kind room n (token_of tab r) (value_of kind i (id_of_worth r.worth)) answer
 unfolding row_at id_of_worth
 row-given tab off len ids i r = r

@@ -27,7 +27,8 @@ unfolding marked
 marked-nil kind v rule s = refl
 
 pub marked-self :
-    (kind : Kind) (b : ℕ) (t : List ℕ) (v : ℕ) (rule : List ℕ → Option ℕ) → marked kind (b ∷ t) v rule (b ∷ t) ≡ kept kind (rule (b ∷ t)) v
+    (kind : Kind) (b : ℕ) (t : List ℕ) (v : ℕ) (rule : List ℕ → Option ℕ)
+    → marked kind (b ∷ t) v rule (b ∷ t) ≡ kept kind (rule (b ∷ t)) v
 unfolding marked
 marked-self kind b t v rule = rw (same_refl (b ∷ t))
 
@@ -144,14 +145,16 @@ unfolding marked same
 marked_empty kind [] v rule = refl
 marked_empty kind (b ∷ t) v rule = refl
 
-rules-empty : (kind : Kind) (tab : List ℕ) (rs : List Row) (rule : List ℕ → Option ℕ) (i : ℕ) → rules_from kind tab rule i rs [] ≡ rule []
+rules-empty :
+    (kind : Kind) (tab : List ℕ) (rs : List Row) (rule : List ℕ → Option ℕ) (i : ℕ) → rules_from kind tab rule i rs [] ≡ rule []
 unfolding rules_from
 rules-empty kind tab [] rule i = refl
 rules-empty kind tab (r ∷ rs) rule i =
     rules-empty kind tab rs (marked kind (token_of tab r) (value_of kind i (id_of_worth r.worth)) rule) (suc i)
     ∙ marked_empty kind (token_of tab r) (value_of kind i (id_of_worth r.worth)) rule
 
-pub rule-first : (tab : List ℕ) (rows : List Row) (s : List ℕ) → rules_from Unigram tab no_rule 0 rows s ≡ first_row (tokens_of tab rows) s
+pub rule-first :
+    (tab : List ℕ) (rows : List Row) (s : List ℕ) → rules_from Unigram tab no_rule 0 rows s ≡ first_row (tokens_of tab rows) s
 unfolding first_row tokens_of
 rule-first tab rows [] = rules-empty Unigram tab rows no_rule 0
 rule-first tab rows (b ∷ s) = rules-first tab rows no_rule 0 b s ∙ first-from-zero (place (map (token_of tab) rows) (b ∷ s))
@@ -163,12 +166,16 @@ rule-last tab rows (b ∷ s) = rules-last tab rows no_rule 0 b s ∙ last_none (
 
 -- ---- the trie of the rows
 
-lay-same : (rule rule' : List ℕ → Option ℕ) (tokens : List²) → ((s : List ℕ) → rule s ≡ rule' s) → trie_of rule tokens ≡ trie_of rule' tokens
+lay-same :
+    (rule rule' : List ℕ → Option ℕ) (tokens : List²) → ((s : List ℕ) → rule s ≡ rule' s)
+    → trie_of rule tokens ≡ trie_of rule' tokens
 lay-same rule rule' tokens h = ap (λ (f : List ℕ → Option ℕ). trie_of f tokens) (fun_ext h)
 
 pub trie-given :
     (kind : Kind) (tab : List ℕ) (rows : List Row)
     → trie_of (rules_from kind tab no_rule 0 rows) (tokens_of tab rows) ≡ trie_in kind tab rows
 unfolding trie_in unigram_trie wordpiece_trie
-trie-given Unigram tab rows = lay-same (rules_from Unigram tab no_rule 0 rows) (first_row (tokens_of tab rows)) (tokens_of tab rows) (rule-first tab rows)
-trie-given WordPiece tab rows = lay-same (rules_from WordPiece tab no_rule 0 rows) (last_id tab rows) (tokens_of tab rows) (rule-last tab rows)
+trie-given Unigram tab rows =
+    lay-same (rules_from Unigram tab no_rule 0 rows) (first_row (tokens_of tab rows)) (tokens_of tab rows) (rule-first tab rows)
+trie-given WordPiece tab rows =
+    lay-same (rules_from WordPiece tab no_rule 0 rows) (last_id tab rows) (tokens_of tab rows) (rule-last tab rows)

@@ -13,6 +13,7 @@ use lib.Dec.{eqb}
 use lib.ListN.{length, get_or}
 use Rattle.build.specs.Names.{place}
 use Rattle.build.specs.Links.{Clear, Least, First, Slot, of-first, of-next, Linked, Spelled}
+use Rattle.build.specs.Held.{Chained, Sought}
 use Rattle.build.proofs.Places.{place-below, place_same}
 use Rattle.build.proofs.Grown.{List², grown-parent}
 use Rattle.build.proofs.Linking.{slot-first}
@@ -129,3 +130,43 @@ module _ {ns : List²} {edge_n work : List ℕ} {s : List ℕ} {node : ℕ} (l :
 
     pub seek-end : (b : ℕ) → low ≤ b → b < 256 → get_or work at 0 ≡ 0 → Slot ns s b at
     seek-end b p q z = slot-extend ns s low b at p (λ a u v. seek-none z a u (omega arith)) slot
+
+-- ---- the same, whichever names the columns hold
+
+-- the walk has come to `at`, past children by bytes below b
+pub record Walked (edge_n work : List ℕ) (node b at : ℕ) : Type 0 where
+  pub inside : at < length work
+  pub slot : (c : Chained edge_n work 0 node) → (low : ℕ) × (low ≤ b) × Slot c.names c.string low at
+
+pub node-inside : {edge_n work : List ℕ} {node : ℕ} → Chained edge_n work 0 node → 2 * node < length work
+node-inside {node = node} c = omega (arith, c.links.room, place-below c.names c.string node c.here)
+
+pub walk-start : {edge_n work : List ℕ} {node : ℕ} (b : ℕ) → Chained edge_n work 0 node → Walked edge_n work node b (2 * node)
+walk-start b c = record { inside = node-inside c; slot = λ c. (0, omega arith, seek-start c.links c.bytes c.here) }
+
+module _ {edge_n work : List ℕ} {node b at : ℕ} (w : Walked edge_n work node b at) where
+  pub walk-end : b < 256 → get_or work at 0 ≡ 0 → Sought edge_n work node b at
+  walk-end h z = record { slot = λ c. let s = w.slot c in seek-end c.links c.bytes c.here s.2 b s.1 h z }
+
+  module _ (some-child : get_or work at 0 ≡ 0 → ⊥) where
+    abbrev k : ℕ
+    k = get_or work at 0
+
+    pub walk-inside : Chained edge_n work 0 node → (k < length edge_n) × (2 * k + 1 < length work)
+    walk-inside c =
+        let below = seek-below c.links c.bytes c.here (w.slot c).2 some-child in
+        (omega (arith, below, c.bytes.room), omega (arith, below, c.links.room))
+
+    pub walk-falls : Chained edge_n work 0 node → left edge_n node (2 * k + 1) < left edge_n node at
+    walk-falls c = seek-falls c.links c.bytes c.here (w.slot c).2 some-child
+
+    pub walk-on : Chained edge_n work 0 node → get_or edge_n k 0 < b → Walked edge_n work node b (2 * k + 1)
+    walk-on c h =
+        record {
+          inside = (walk-inside c).1;
+          slot = λ c. (suc (get_or edge_n k 0), h, seek-on c.links c.bytes c.here (w.slot c).2 some-child);
+        }
+
+    pub walk_stop : b ≤ get_or edge_n k 0 → Sought edge_n work node b at
+    walk_stop h =
+        record { slot = λ c. let s = w.slot c in seek_stop c.links c.bytes c.here s.2 some-child b s.1 h }

@@ -37,7 +37,8 @@ no_edge = record { byte = 0; to = 0 }
 -- ---- a node's edges
 
 rising_step :
-    {n b : ℕ} {es : List Edge} → Rising n b es → (i : ℕ) → suc i < length es → (get_or es i no_edge).byte < (get_or es (suc i) no_edge).byte
+    {n b : ℕ} {es : List Edge} → Rising n b es → (i : ℕ) → suc i < length es
+    → (get_or es i no_edge).byte < (get_or es (suc i) no_edge).byte
 rising_step end i h = absurd (omega arith)
 rising_step (next e p q end) zero h = absurd (omega arith)
 rising_step (next e p q (next f r s t)) zero h = r
@@ -50,7 +51,8 @@ rising-to (next e p q r) (suc i) h = rising-to r i (omega arith)
 
 -- the i-th of the edges that stand at `at`
 edge-at :
-    (f : Edge → ℕ) (es l post : List Edge) (at i : ℕ) → drop at l ≡ es ++ post → i < length es → get_or (map f l) (at + i) 0 ≡ f (get_or es i no_edge)
+    (f : Edge → ℕ) (es l post : List Edge) (at i : ℕ) → drop at l ≡ es ++ post → i < length es
+    → get_or (map f l) (at + i) 0 ≡ f (get_or es i no_edge)
 edge-at f [] l post at i h k = absurd (omega arith)
 edge-at f (e ∷ es) l post at zero h k =
     let z : at + 0 ≡ at = omega arith in
@@ -66,7 +68,8 @@ starts-inside :
 unfolding starts flatten
 starts-inside [] a k h = absurd (omega arith)
 starts-inside (p ∷ ps) a zero h = omega (arith, length-append p (flatten ps))
-starts-inside (p ∷ ps) a (suc k) h = omega (arith, length-append p (flatten ps), starts-inside ps (a + length p) k (omega arith))
+starts-inside (p ∷ ps) a (suc k) h =
+    omega (arith, length-append p (flatten ps), starts-inside ps (a + length p) k (omega arith))
 
 -- ---- all edges
 
@@ -88,7 +91,8 @@ to-all : (ns ms : List²) → ToNodes (length ns) (flatten (map (edges_of ns) ms
 unfolding flatten edges_of
 to-all ns [] i h = absurd (omega arith)
 to-all ns (m ∷ ms) i h =
-    to-append (length ns) (edges_of ns m) (flatten (map (edges_of ns) ms)) (rising-to (rising-edges 256 ns m 0)) (to-all ns ms) i h
+    to-append (length ns) (edges_of ns m) (flatten (map (edges_of ns) ms)) (rising-to (rising-edges 256 ns m 0))
+    (to-all ns ms) i h
 
 -- ---- sound
 
@@ -138,19 +142,28 @@ module _ (rule : List ℕ → Option ℕ) (ns : List²) where
       rw (
         le-leb 1 nodes (omega (arith, level-at, grown-some g)),
         le-leb nodes 4_294_967_295 (omega (arith, level-at)),
-        eq-eqb (length (map length parts)) nodes (omega (arith, level-at, length-map parts length, length-map ns (edges_of ns))),
-        eq-eqb (length (map (λ s. unwrap_or (rule s) no_id) ns)) nodes (omega (arith, level-at, length-map ns (λ s. unwrap_or (rule s) no_id))),
+        eq-eqb (length (map length parts)) nodes
+            (omega (arith, level-at, length-map parts length, length-map ns (edges_of ns))),
+        eq-eqb (length (map (λ s. unwrap_or (rule s) no_id) ns)) nodes
+            (omega (arith, level-at, length-map ns (λ s. unwrap_or (rule s) no_id))),
         eq-eqb (length (map (λ e. e.to) edges)) m (omega (arith, level-m, length-map edges (λ e. e.to))),
         every_true nodes (sound_node (lay rule ns)) (λ k l. node-sound k (omega (arith, level-at))),
         every_true m (λ e. ltb (get_or (map (λ e. e.to) edges) e 0) nodes)
             (λ k l.
             lt-ltb (get_or (map (λ e. e.to) edges) k 0) nodes
-            (omega (arith, level-at, get_or-map-of (λ e. e.to) edges k no_edge 0 (omega (arith, level-m)), to-all ns ns k (omega (arith, level-m))))),
+            (omega (
+              arith,
+              level-at,
+              get_or-map-of (λ e. e.to) edges k no_edge 0 (omega (arith, level-m)),
+              to-all ns ns k
+                  (omega (arith, level-m)),
+            ))),
       )
 
 -- the trie of tokens is sound
 pub sound-built :
-    (rule : List ℕ → Option ℕ) (tokens : List²) → AllBytes tokens → length (names tokens) ≤ 4_294_967_295 → sound (trie_of rule tokens) ≡ true
+    (rule : List ℕ → Option ℕ) (tokens : List²) → AllBytes tokens → length (names tokens) ≤ 4_294_967_295
+    → sound (trie_of rule tokens) ≡ true
 unfolding trie_of
 sound-built rule tokens h few = sound-laid rule (names tokens) (grown-names tokens h) few
 

@@ -2,7 +2,7 @@
 -- Assumes nothing.
 use mathlib.Core.Path.{◌≡◌, refl, sym, ap, ◌∙◌}
 use mathlib.Core.Bool.{Bool, true, false, ◌&&◌}
-use mathlib.Core.List.{List, [], ◌∷◌, ◌++◌, append_assoc}
+use mathlib.Core.List.{List, [], ◌∷◌, ◌++◌}
 use mathlib.Core.Logic.{◌⊎◌, inl, inr}
 use Prim.Native.Nat.{ℕ, suc}
 use native.Mathlib.Omega.{arith}
@@ -82,6 +82,3 @@ snoc-last (x ∷ s) (y ∷ t) a b e = snoc-last s t a b (cc)
 -- a string is not one byte longer than itself
 pub snoc-longer : {A : Type 0} (s : List ℕ) (b : ℕ) → s ++ (b ∷ []) ≡ s → A
 snoc-longer s b e = absurd (omega (arith, ap length e, length-snoc s b))
-
-pub snoc-append : (s : List ℕ) (b : ℕ) (t : List ℕ) → s ++ (b ∷ []) ++ t ≡ s ++ (b ∷ t)
-snoc-append s b t = append_assoc s (b ∷ []) t

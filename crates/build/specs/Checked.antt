@@ -34,17 +34,18 @@ pub record BuiltOf (kind : Kind) (tab : List ℕ) (rows : List Row) (room : ℕ)
 
 -- ---- the last step
 
--- rows were entered and made n nodes, and every lent column has room for `room`
-pub record Finishable (room : ℕ) (m : Memory) (n : ℕ) : Type 0 where
+-- rows were entered and made so many nodes, or found no room for them; every lent column has room for `room`
+pub record Finishable (m : Memory) (made : Option ℕ) : Type 0 where
   pub nodes : List (List ℕ)
   pub rule : List ℕ → Option ℕ
-  pub done : RowDone nodes rule room m.parts.edge_n m.parts.id m.work n
+  pub room : ℕ
+  pub done : RowDone nodes rule room m.parts.edge_n m.parts.id m.work made
   pub roomy : room ≤ room_of m
 
 -- whichever rows these were, their build is done
-pub record Finished (room : ℕ) (before after : Memory) (n : ℕ) (answer : Option ℕ) : Type 0 where
+pub record Finished (before after : Memory) (made answer : Option ℕ) : Type 0 where
   pub built :
-      (kind : Kind) (tab : List ℕ) (rows : List Row)
+      (kind : Kind) (tab : List ℕ) (rows : List Row) (room : ℕ)
       → RowDone (names (tokens_of tab rows)) (rules_from kind tab no_rule 0 rows) room before.parts.edge_n before.parts.id
-      before.work n
+      before.work made
       → BuiltOf kind tab rows room before after answer

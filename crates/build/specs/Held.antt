@@ -1,9 +1,11 @@
 -- What the lent columns hold while tokens are entered, and what each step of entering promises. A step speaks of the names and
 -- ids that the columns hold: it asks that there are some, and says of any what they become. Definitions only; assumes nothing.
-use Rattle.std.specs.Prelude.{◌≡◌, cond, List, [], ◌∷◌, ◌++◌, ℕ, ◌+◌, ◌*◌, ◌≤◌, ◌<◌, eqb, length, get_or, set, Option, None, Some, unwrap_or}
+use Rattle.std.specs.Prelude.{◌≡◌, cond, List, [], ◌∷◌, ◌++◌, ℕ, ◌+◌, ◌*◌, ◌≤◌, ◌<◌, eqb, length, get_or, set, Option}
+use Rattle.std.specs.Prelude.{None, Some, unwrap_or, MatchOption}
 use Rattle.refusal.specs.Sizes.{no_id, max_rows}
 use Rattle.rows.specs.declared.Kind.{Kind}
 use Rattle.rows.specs.declared.Kind.TheVariants.{Unigram, WordPiece}
+use Rattle.build.specs.declared.links.Reached.{Reached}
 use Rattle.build.specs.Names.{place, prefixes, add, enter}
 use Rattle.build.specs.Given.{marked}
 use Rattle.build.specs.Links.{Slot, Linked, Spelled}
@@ -60,27 +62,37 @@ pub record Enterable (edge_n id work : List ℕ) (room node n : ℕ) : Type 0 wh
   pub roomy : Roomy room edge_n id work
   pub fits : n ≤ room
 
--- The nodes are now ms, and the string t has come to `node`, one of n. The node is `room` where there is no room for t.
-pub record Done (ms : List (List ℕ)) (rule : List ℕ → Option ℕ) (t : List ℕ) (room : ℕ) (edge_n id work : List ℕ)
-    (node n : ℕ) : Type 0 where
-  pub full : node ≡ room → room < length ms
-  pub fits : (node ≡ room → ⊥) → n ≤ room
-  pub count : (node ≡ room → ⊥) → n ≡ length ms
-  pub here : (node ≡ room → ⊥) → place ms t ≡ Some node
-  pub held : (node ≡ room → ⊥) → Held ms rule edge_n id work
+-- the nodes ms stand in the columns, n of them, with these ids, and there is room for them
+pub record Stands (ms : List (List ℕ)) (rule : List ℕ → Option ℕ) (room : ℕ) (edge_n id work : List ℕ) (n : ℕ) : Type 0 where
+  pub fits : n ≤ room
+  pub count : n ≡ length ms
+  pub held : Held ms rule edge_n id work
 
-pub record ByteEntered (edge_n id work edge_n' id' work' : List ℕ) (room node n b node' n' : ℕ) : Type 0 where
+-- they do, and the string t has come to `node`
+pub record Comes (ms : List (List ℕ)) (rule : List ℕ → Option ℕ) (t : List ℕ) (room : ℕ) (edge_n id work : List ℕ)
+    (node n : ℕ) : Type 0 where
+  pub stands : Stands ms rule room edge_n id work n
+  pub here : place ms t ≡ Some node
+
+-- The nodes are now ms, and the string t has come to the node that is answered. None is answered where there is no room for t.
+abbrev pub Done :
+    List (List ℕ) → (List ℕ → Option ℕ) → List ℕ → ℕ → List ℕ → List ℕ → List ℕ → Option Reached → Type 0
+Done ms rule t room edge_n id work answer =
+    MatchOption answer (room < length ms) (λ at. Comes ms rule t room edge_n id work at.node at.n)
+
+pub record ByteEntered (edge_n id work edge_n' id' work' : List ℕ) (room node n b : ℕ) (answer : Option Reached) : Type 0 where
   pub entered :
       (ns : List (List ℕ)) (rule : List ℕ → Option ℕ) (s : List ℕ) → Held ns rule edge_n id work → n ≡ length ns
       → place ns s ≡ Some node
-      → Done (add ns (s ++ (b ∷ []))) rule (s ++ (b ∷ [])) room edge_n' id' work' node' n'
+      → Done (add ns (s ++ (b ∷ []))) rule (s ++ (b ∷ [])) room edge_n' id' work' answer
 
 -- ---- one token more
 
-pub record TokenEntered (edge_n id work edge_n' id' work' : List ℕ) (room n : ℕ) (t : List ℕ) (node' n' : ℕ) : Type 0 where
+pub record TokenEntered (edge_n id work edge_n' id' work' : List ℕ) (room n : ℕ) (t : List ℕ)
+    (answer : Option Reached) : Type 0 where
   pub entered :
       (ns : List (List ℕ)) (rule : List ℕ → Option ℕ) → Held ns rule edge_n id work → n ≡ length ns
-      → Done (enter ns (prefixes [] t)) rule t room edge_n' id' work' node' n'
+      → Done (enter ns (prefixes [] t)) rule t room edge_n' id' work' answer
 
 -- ---- one row more
 
@@ -93,17 +105,15 @@ marked_ids WordPiece id node v = set id node v
 abbrev pub Unmarked : Kind → (List ℕ → Option ℕ) → Type 0
 Unmarked kind rule = kind ≡ Unigram → (s : List ℕ) (i : ℕ) → rule s ≡ Some i → i < no_id
 
--- The nodes are now ms, n of them, with these ids; or n is above `room`, and so are they.
-pub record RowDone (ms : List (List ℕ)) (rule : List ℕ → Option ℕ) (room : ℕ) (edge_n id work : List ℕ) (n : ℕ) : Type 0 where
-  pub full : room < n → room < length ms
-  pub count : n ≤ room → n ≡ length ms
-  pub held : n ≤ room → Held ms rule edge_n id work
+-- The nodes are now ms, as many as is answered, with these ids. None is answered where there is no room for them.
+abbrev pub RowDone : List (List ℕ) → (List ℕ → Option ℕ) → ℕ → List ℕ → List ℕ → List ℕ → Option ℕ → Type 0
+RowDone ms rule room edge_n id work answer = MatchOption answer (room < length ms) (Stands ms rule room edge_n id work)
 
 pub record RowEntered (edge_n id work edge_n' id' work' : List ℕ) (kind : Kind) (room n : ℕ) (t : List ℕ)
-    (v n' : ℕ) : Type 0 where
+    (v : ℕ) (answer : Option ℕ) : Type 0 where
   pub entered :
       (ns : List (List ℕ)) (rule : List ℕ → Option ℕ) → Held ns rule edge_n id work → n ≡ length ns → Unmarked kind rule
-      → RowDone (enter ns (prefixes [] t)) (marked kind t v rule) room edge_n' id' work' n'
+      → RowDone (enter ns (prefixes [] t)) (marked kind t v rule) room edge_n' id' work' answer
 
 -- ---- all rows
 

@@ -56,6 +56,6 @@ pub fn build(
     ensures { BuiltOf kind (was tab) (given (was off) (was len) (was ids)) room
         (memory_was edge_at edge_n id byte to work) (memory_is edge_at edge_n id byte to work) result }
 {
-    let n = enter_rows(kind, tab, off, len, ids, edge_n, id, work, room);
-    finish(edge_at, edge_n, id, byte, to, work, room, n)
+    let made = enter_rows(kind, tab, off, len, ids, edge_n, id, work, room);
+    finish(edge_at, edge_n, id, byte, to, work, made)
 }

@@ -3,9 +3,8 @@
 ghost use Rattle.build.specs.Laying.{ChildrenReady, ChildrenLaid, NodeReady, NodeLaid, AllReady, AllLaid};
 ghost use Rattle.refusal.specs.Lent.{was};
 
-use crate::zero::{zero8, zero32};
-
-// The edges of `node`, from edge number `from` on: the edge number after them.
+// The edges of `node`, from edge number `from` on: the edge number after them. The walk follows the links from child to child,
+// and no iterator over the columns goes that way.
 fn lay_children(
     edge_n: &[u16],
     byte: &mut [u8],
@@ -61,14 +60,12 @@ pub fn lay_out(
     ensures { AllLaid edge_at.old edge_n.old byte.old to.old work.old edge_at.new edge_n.new byte.new
         to.new work.new n }
 {
-    zero32(edge_at);
-    zero8(byte);
-    zero32(to);
+    edge_at.fill(0);
+    byte.fill(0);
+    to.fill(0);
     let mut at: usize = 0;
-    let mut k: usize = 0;
-    while k < n {
+    for k in 0..n {
         at = lay_node(edge_at, edge_n, byte, to, work, k, at);
-        k += 1;
     }
-    zero32(work);
+    work.fill(0);
 }

@@ -9,7 +9,7 @@ ghost use Rattle.refusal.specs.Lent.{was};
 use refusal::NO_ID;
 
 // The work place whose link leads to the first child of `node` by b or a later byte: the node's own, or that of the child
-// before. Bytes rise along the links, so the walk ends.
+// before. Bytes rise along the links, so the walk ends. It follows links and counts nothing, so no iterator says it plainer.
 pub fn seek(edge_n: &[u16], work: &[u32], node: usize, b: u8) -> usize
     requires { Chained edge_n.now work.now 0 node }
     ensures { Sought (was edge_n) (was work) node b result }
@@ -48,8 +48,8 @@ pub struct Reached {
     pub n: usize,
 }
 
-// The child by the byte b of the node reached: the one that is there, or else the next node, which is made. Its number is
-// `room` where it is not there and no room is left.
+// The child by the byte b of the node reached: the one that is there, or else the next node, which is made. None where it is
+// not there and no room is left.
 pub fn child(
     edge_n: &mut [u16],
     id: &mut [u32],
@@ -57,22 +57,20 @@ pub fn child(
     room: usize,
     from: Reached,
     b: u8,
-) -> Reached
+) -> Option<Reached>
     requires { Enterable edge_n.old id.old work.old room from.node from.n }
     ensures { ByteEntered edge_n.old id.old work.old edge_n.new id.new work.new room from.node from.n b
-        result.node result.n }
+        result }
 {
     let n = from.n;
     let at = seek(edge_n, work, from.node, b);
     let k = work[at] as usize;
-    if k != 0 {
-        if edge_n[k] == b as u16 {
-            return Reached { node: k, n };
-        }
+    if k != 0 && edge_n[k] == b as u16 {
+        return Some(Reached { node: k, n });
     }
     if n == room {
-        return Reached { node: room, n };
+        return None;
     }
     link(edge_n, id, work, at, n, b);
-    Reached { node: n, n: n + 1 }
+    Some(Reached { node: n, n: n + 1 })
 }

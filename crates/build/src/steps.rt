@@ -8,7 +8,7 @@ ghost use Rattle.build.specs.Memory.{memory_is, memory_now, memory_was};
 ghost use Rattle.build.specs.Checked.{Finishable, Finished};
 
 use crate::lay::lay_out;
-use crate::zero::{clear, zero16, zero32};
+use crate::zero::clear;
 use refusal::NO_ID;
 
 // The root, alone: it has no id and no child.
@@ -20,22 +20,22 @@ fn plant(id: &mut [u32], work: &mut [u32])
     work[0] = 0;
 }
 
-// The root, alone, in columns that may hold anything: how many nodes there are, 1. That is more than `room` where there is none
-// for it.
-pub fn start(edge_n: &mut [u16], id: &mut [u32], work: &mut [u32], room: usize) -> usize
+// The root, alone, in columns that may hold anything: how many nodes there are, 1, or None where there is no room for it.
+pub fn start(edge_n: &mut [u16], id: &mut [u32], work: &mut [u32], room: usize) -> Option<usize>
     requires { Roomy room edge_n.old id.old work.old }
-    ensures { (result ≡ 1) × RowDone ([] ∷ []) no_rule room edge_n.new id.new work.new result }
+    ensures { RowDone ([] ∷ []) no_rule room edge_n.new id.new work.new result }
 {
-    zero16(edge_n);
-    zero32(id);
+    edge_n.fill(0);
+    id.fill(0);
     if room == 0 {
-        return 1;
+        return None;
     }
     plant(id, work);
-    1
+    Some(1)
 }
 
-// The n nodes that the rows made, laid out as parts. Where they are more than `room`, every lent place is zero afterwards.
+// The nodes that the rows made, `made` of them, laid out as parts. Where there was no room for them, it is None, and every lent
+// place is zero afterwards.
 pub fn finish(
     edge_at: &mut [u32],
     edge_n: &mut [u16],
@@ -43,17 +43,20 @@ pub fn finish(
     byte: &mut [u8],
     to: &mut [u32],
     work: &mut [u32],
-    room: usize,
-    n: usize,
+    made: Option<usize>,
 ) -> Option<usize>
-    requires { Finishable room (memory_now edge_at edge_n id byte to work) n }
-    ensures { Finished room (memory_was edge_at edge_n id byte to work) (memory_is edge_at edge_n id byte to work) n
+    requires { Finishable (memory_now edge_at edge_n id byte to work) made }
+    ensures { Finished (memory_was edge_at edge_n id byte to work) (memory_is edge_at edge_n id byte to work) made
         result }
 {
-    if room < n {
-        clear(edge_at, edge_n, id, byte, to, work);
-        return None;
+    match made {
+        None => {
+            clear(edge_at, edge_n, id, byte, to, work);
+            None
+        }
+        Some(n) => {
+            lay_out(edge_at, edge_n, byte, to, work, n);
+            Some(n)
+        }
     }
-    lay_out(edge_at, edge_n, byte, to, work, n);
-    Some(n)
 }

@@ -7,7 +7,7 @@ use crate::links::{Reached, child};
 use refusal::NO_ID;
 use rows::Kind;
 
-// The token from the root on: its last node, and how many nodes there are. The node is `room` where no room is left.
+// The token from the root on: its last node, and how many nodes there are. None where no room is left.
 fn enter(
     token: &[u8],
     edge_n: &mut [u16],
@@ -15,21 +15,15 @@ fn enter(
     work: &mut [u32],
     room: usize,
     n: usize,
-) -> Reached
+) -> Option<Reached>
     requires { Enterable edge_n.old id.old work.old room 0 n }
-    ensures { TokenEntered edge_n.old id.old work.old edge_n.new id.new work.new room n (was token) result.node
-        result.n }
+    ensures { TokenEntered edge_n.old id.old work.old edge_n.new id.new work.new room n (was token) result }
 {
     let mut at = Reached { node: 0, n };
-    let mut i: usize = 0;
-    while i < token.len() {
-        at = child(edge_n, id, work, room, at, token[i]);
-        if at.node == room {
-            return at;
-        }
-        i += 1;
+    for b in token {
+        at = child(edge_n, id, work, room, at, *b)?;
     }
-    at
+    Some(at)
 }
 
 // The id v for `node`: for Unigram only if it has none yet.
@@ -45,8 +39,7 @@ fn mark(id: &mut [u32], node: usize, kind: Kind, v: u32)
     id[node] = v;
 }
 
-// A token that is given the id v: how many nodes there are then, more than `room` where no room is left. An empty token does
-// nothing.
+// A token that is given the id v: how many nodes there are then, None where no room is left. An empty token does nothing.
 pub fn enter_token(
     token: &[u8],
     kind: Kind,
@@ -56,18 +49,14 @@ pub fn enter_token(
     work: &mut [u32],
     room: usize,
     n: usize,
-) -> usize
+) -> Option<usize>
     requires { Enterable edge_n.old id.old work.old room 0 n }
     ensures { RowEntered edge_n.old id.old work.old edge_n.new id.new work.new kind room n (was token) v result }
 {
-    if token.len() == 0 {
-        return n;
+    if token.is_empty() {
+        return Some(n);
     }
-    let end = enter(token, edge_n, id, work, room, n);
-    let node = end.node;
-    if node == room {
-        return room + 1;
-    }
-    mark(id, node, kind, v);
-    end.n
+    let end = enter(token, edge_n, id, work, room, n)?;
+    mark(id, end.node, kind, v);
+    Some(end.n)
 }

@@ -25,7 +25,7 @@ fn value(kind: Kind, ids: &[u32], i: usize) -> u32
     }
 }
 
-// Row i: how many nodes there are then, more than `room` where no room is left.
+// Row i: how many nodes there are then, None where no room is left.
 fn enter_row(
     kind: Kind,
     tab: &[u8],
@@ -38,7 +38,7 @@ fn enter_row(
     work: &mut [u32],
     room: usize,
     n: usize,
-) -> usize
+) -> Option<usize>
     requires { LevelRows kind tab.now off.now len.now ids.now × (i < length off.now) ×
         Enterable edge_n.old id.old work.old room 0 n }
     ensures { RowEntered edge_n.old id.old work.old edge_n.new id.new work.new kind room n
@@ -49,8 +49,8 @@ fn enter_row(
     enter_token(token, kind, v, edge_n, id, work, room, n)
 }
 
-// All rows, from the root on, in columns that may hold anything: how many nodes there are, more than `room` where no room is
-// left. The root needs room too.
+// All rows, from the root on, in columns that may hold anything: how many nodes there are, None where no room is left. The root
+// needs room too.
 pub fn enter_rows(
     kind: Kind,
     tab: &[u8],
@@ -61,19 +61,14 @@ pub fn enter_rows(
     id: &mut [u32],
     work: &mut [u32],
     room: usize,
-) -> usize
+) -> Option<usize>
     requires { LevelRows kind tab.now off.now len.now ids.now × Roomy room edge_n.old id.old work.old }
     ensures { RowDone (names (tokens_of (was tab) (given (was off) (was len) (was ids)))) (rules_from kind (was tab) no_rule 0
         (given (was off) (was len) (was ids))) room edge_n.new id.new work.new result }
 {
-    let mut n = start(edge_n, id, work, room);
-    let mut i: usize = 0;
-    while i < off.len() {
-        if room < n {
-            return n;
-        }
-        n = enter_row(kind, tab, off, len, ids, i, edge_n, id, work, room, n);
-        i += 1;
+    let mut n = start(edge_n, id, work, room)?;
+    for i in 0..off.len() {
+        n = enter_row(kind, tab, off, len, ids, i, edge_n, id, work, room, n)?;
     }
-    n
+    Some(n)
 }

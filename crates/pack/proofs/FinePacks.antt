@@ -1,6 +1,6 @@
 -- A pack in which nothing is wrong: its rows are fine, its strings are the rest of the file, and what its header gives is
 -- answered. Assumes nothing.
-use Rattle.std.specs.Prelude.{ℕ, Ok}
+use Rattle.std.specs.Prelude.{ℕ}
 use mathlib.Core.Path.{◌≡◌, refl, sym, ap, ◌∙◌, subst}
 use mathlib.Core.List.{List}
 use Prim.Native.Nat.{ℕ, ◌-◌, ◌≤◌}

@@ -1,7 +1,7 @@
 -- What the code's header, layout and rows stand for, and what is known of a pack whose rows are read. Definitions only; assumes
 -- nothing.
 use Rattle.refusal.specs.declared.Reason.{Reason}
-use Rattle.std.specs.Prelude.{◌≡◌, true, false, List, ℕ, ◌+◌, ◌*◌, ◌^◌, ◌≤◌, ◌<◌, length, take, Option, None, Some, Result, Err, Ok}
+use Rattle.std.specs.Prelude.{◌≡◌, true, false, List, ℕ, ◌+◌, ◌*◌, ◌^◌, ◌≤◌, ◌<◌, length, take, None, Some, Result, Err, Ok}
 use Rattle.doubles.specs.Double.{Double, is_finite, of_pattern}
 use Rattle.refusal.specs.Sizes.{max_rows}
 use Rattle.rows.specs.declared.Kind.{Kind}

@@ -25,7 +25,7 @@ fn fill_scores(
 {
     match kind {
         Kind::Unigram => crate::scores::fill(bytes, h.rows as usize, node_id, n, node_score),
-        Kind::WordPiece => scored::scores::zero(node_score),
+        Kind::WordPiece => node_score.fill(0.0),
     }
 }
 
@@ -84,7 +84,7 @@ pub fn build_fine(
     );
     match built {
         None => {
-            scored::scores::zero(node_score);
+            node_score.fill(0.0);
             Err(Reason::Call(Fault::Room))
         }
         Some(n) => {

@@ -29,7 +29,7 @@ fn value(worth: Worth, i: usize) -> u32
     }
 }
 
-// Row i: how many nodes there are then, more than `room` where no room is left.
+// Row i: how many nodes there are then, None where no room is left.
 fn enter_row(
     kind: Kind,
     bytes: &[u8],
@@ -40,7 +40,7 @@ fn enter_row(
     work: &mut [u32],
     room: usize,
     n: usize,
-) -> usize
+) -> Option<usize>
     requires { RowReady kind bytes.now strings.now edge_n.old id.old work.old room n i }
     ensures { RowEntered edge_n.old id.old work.old edge_n.new id.new work.new kind room n
         (token_of (was strings) (row_at kind (was bytes) (row_start i)))
@@ -53,8 +53,8 @@ fn enter_row(
     enter_token(token, kind, v, edge_n, id, work, room, n)
 }
 
-// All rows, from the root on, in columns that may hold anything: how many nodes there are, more than `room` where no room is
-// left. The root needs room too.
+// All rows, from the root on, in columns that may hold anything: how many nodes there are, None where no room is left. The root
+// needs room too.
 fn enter_rows(
     kind: Kind,
     bytes: &[u8],
@@ -64,21 +64,16 @@ fn enter_rows(
     id: &mut [u32],
     work: &mut [u32],
     room: usize,
-) -> usize
+) -> Option<usize>
     requires { FineRows kind bytes.now strings.now rows × Roomy room edge_n.old id.old work.old }
     ensures { RowDone (names (tokens_of (was strings) (rows_from kind (was bytes) 36 rows))) (rules_from kind (was strings)
         no_rule 0 (rows_from kind (was bytes) 36 rows)) room edge_n.new id.new work.new result }
 {
-    let mut n = start(edge_n, id, work, room);
-    let mut i: usize = 0;
-    while i < rows {
-        if room < n {
-            return n;
-        }
-        n = enter_row(kind, bytes, strings, i, edge_n, id, work, room, n);
-        i += 1;
+    let mut n = start(edge_n, id, work, room)?;
+    for i in 0..rows {
+        n = enter_row(kind, bytes, strings, i, edge_n, id, work, room, n)?;
     }
-    n
+    Some(n)
 }
 
 // The trie of the rows in the lent columns, where `room` nodes fit. Where it needs more nodes, every lent place is zero
@@ -101,6 +96,6 @@ pub fn build_rows(
     ensures { BuiltOf kind (was strings) (rows_from kind (was bytes) 36 rows) room
         (memory_was edge_at edge_n id byte to work) (memory_is edge_at edge_n id byte to work) result }
 {
-    let n = enter_rows(kind, bytes, strings, rows, edge_n, id, work, room);
-    finish(edge_at, edge_n, id, byte, to, work, room, n)
+    let made = enter_rows(kind, bytes, strings, rows, edge_n, id, work, room);
+    finish(edge_at, edge_n, id, byte, to, work, made)
 }

@@ -27,8 +27,10 @@ fn lowest(bytes: &[u8], rows: usize) -> f64
     ensures { units result ≡ lowest (double_at (was bytes) 44) (scores_of (rows_from Unigram (was bytes) 52 (rows - 1))) }
 {
     let mut low = score_at(bytes, HEADER + 8);
-    for i in 1..rows {
+    let mut i: usize = 1;
+    while i < rows {
         low = doubles::lower(low, score_at(bytes, HEADER + ROW * i + 8));
+        i += 1;
     }
     low
 }
@@ -69,7 +71,7 @@ pub fn fill(bytes: &[u8], rows: usize, node_id: &[u32], n: usize, node_score: &m
     ensures { scores_is node_score ≡ filled_scores (scores_of (rows_from Unigram (was bytes) 36 rows))
         (take n (was node_id)) (scores_had node_score) }
 {
-    scored::scores::zero(node_score);
+    node_score.fill(0.0);
     for k in 0..n {
         node_score[k] = score_of(bytes, rows, node_id[k]);
     }

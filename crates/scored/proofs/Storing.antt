@@ -1,11 +1,12 @@
--- A score column stored from the front: the places below k hold what a rule gives them, the others what they held. One law for
--- the zeros and for the nodes' scores. Assumes nothing.
+-- A score column stored from the front: the places below k hold what a rule gives them, the others what they held. And a column
+-- filled with zeros. Assumes nothing.
 use mathlib.Core.Path.{◌≡◌, sym, ap, ◌∙◌}
 use mathlib.Core.List.{List, ◌++◌, map}
 use mathlib.Core.Logic.{⊎_elim}
 use Prim.Native.Nat.{ℕ, ◌+◌, ◌-◌, ◌≤◌, ◌<◌}
 use native.Mathlib.Omega.{arith}
-use lib.Ieee.{Float}
+use lib.Ieee.{Float, of_bits, binary64}
+use lib.LanesLaws.{map-replicate}
 use lib.ListN.{
   length,
   get_or,
@@ -23,6 +24,7 @@ use lib.ListN.{
 use lib.Seq.{length-take-le, get_or-take, get_or-append-add, get_or-set_same, get_or-set_other, ext_get_or}
 use Rattle.doubles.specs.Double.{Double, plus_zero}
 use Rattle.doubles.specs.Units.{units}
+use Rattle.doubles.proofs.Patterns.{zero-units}
 use Rattle.refusal.specs.Places.{zeroed}
 use Rattle.scored.specs.NodeScores.{row_score, filled_scores}
 use Rattle.refusal.proofs.Lists.{below_or}
@@ -65,15 +67,13 @@ module _ {f : ℕ → Double} {before : List Double} {k : ℕ} {xs : List Float}
           ∙ e
           ∙ ap f (sym p)
 
--- all places zero
-pub stored-zeros :
-    {before : List Double} {k : ℕ} {xs : List Float} → Stored (λ j. plus_zero) before k xs → length xs ≤ k → map units xs ≡ zeroed plus_zero before
-stored-zeros {before} {k} {xs} s h =
-    let l = length-map xs units in
-    ext_get_or plus_zero (map units xs) (zeroed plus_zero before) (l ∙ s.kept ∙ sym (length-replicate (length before) plus_zero))
-    (λ j p.
-    s.front j (omega arith)
-    ∙ sym (get_or-replicate (length before) j plus_zero plus_zero (omega (arith, s.kept))))
+-- a column filled with 0.0
+pub filled-zeros :
+    (xs : List Float) {ys : List Float} → ys ≡ replicate (length xs) (of_bits binary64 0)
+    → map units ys ≡ zeroed plus_zero (map units xs)
+filled-zeros xs e =
+    ap (map units) e ∙ map-replicate units (length xs) (of_bits binary64 0)
+    ∙ ap (replicate (length xs)) zero-units ∙ ap (λ (n : ℕ). replicate n plus_zero) (sym (length-map xs units))
 
 -- the nodes' scores, over zeros
 module _ (scores : List Double) (ids : List ℕ) (n : ℕ) (ys : List Double) where

@@ -70,7 +70,7 @@ pub fn build_rows(
     );
     match built {
         None => {
-            crate::scores::zero(node_score);
+            node_score.fill(0.0);
             Err(Reason::Call(Fault::Room))
         }
         Some(n) => {

@@ -1,8 +1,6 @@
 // The scores of a built trie's nodes, in their lent column.
 ghost use Rattle.std.specs.Prelude.{◌≡◌, ◌≤◌, length, take};
-ghost use Rattle.doubles.specs.Double.{plus_zero};
 ghost use Rattle.doubles.specs.Units.{units, scores_is, scores_was, scores_had};
-ghost use Rattle.refusal.specs.Places.{zeroed};
 ghost use Rattle.scored.specs.NodeScores.{row_score, filled_scores};
 ghost use Rattle.refusal.specs.Lent.{was};
 
@@ -17,26 +15,13 @@ fn score_of(score: &[f64], row: u32) -> f64
     }
 }
 
-// Every place zero.
-pub fn zero(s: &mut [f64])
-    ensures { scores_is s ≡ zeroed plus_zero (scores_had s) }
-{
-    let mut i: usize = 0;
-    while i < s.len() {
-        s[i] = 0.0;
-        i += 1;
-    }
-}
-
 // The first n places are given the scores of the first n nodes, whose rows are given; the others are zero.
 pub(crate) fn fill(score: &[f64], node_id: &[u32], n: usize, node_score: &mut [f64])
     requires { (n ≤ length node_id.now) × (n ≤ length node_score.old) }
     ensures { scores_is node_score ≡ filled_scores (scores_was score) (take n (was node_id)) (scores_had node_score) }
 {
-    zero(node_score);
-    let mut k: usize = 0;
-    while k < n {
+    node_score.fill(0.0);
+    for k in 0..n {
         node_score[k] = score_of(score, node_id[k]);
-        k += 1;
     }
 }

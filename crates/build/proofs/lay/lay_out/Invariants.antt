@@ -1,6 +1,6 @@
 use mathlib.Core.Path.{◌≡◌}
 use mathlib.Core.List.{List}
-use Prim.Native.Nat.{ℕ, ◌-◌, ◌≤◌}
+use Prim.Native.Nat.{ℕ}
 use lib.ListN.{length}
 use Rattle.build.specs.Links.{Linked, Spelled}
 use Rattle.build.proofs.Out.{LaidTo}
@@ -14,9 +14,6 @@ pub record Kept (edge_at₀ edge_n₀ byte₀ to₀ edge_at edge_n byte to : Lis
   pub targets : length to ≡ length to₀
 
 abbrev pub invariant-loop-k : goal.invariant-loop-k
-invariant-loop-k l = (l.k ≤ l.n) × Kept l.initial.edge_at l.initial.edge_n l.initial.byte l.initial.to l.edge_at l.edge_n l.byte l.to
+invariant-loop-k l = Kept l.initial.edge_at l.initial.edge_n l.initial.byte l.initial.to l.edge_at l.edge_n l.byte l.to
     × ((ns : List (List ℕ)) → Linked ns l.work → Spelled ns 0 l.initial.edge_n → l.n ≡ length ns
     → LaidTo ns l.initial.edge_at l.initial.edge_n l.initial.byte l.initial.to l.edge_at l.edge_n l.byte l.to l.k l.at)
-
-abbrev pub decreases-loop-k : goal.decreases-loop-k
-decreases-loop-k l = l.n - l.k

@@ -1,9 +1,11 @@
 -- `build::steps::start` meets its contract: in columns made zero the root is planted, where there is room for it. Assumes
 -- nothing.
-use mathlib.Core.Path.{refl}
 use native.Mathlib.Omega.{arith}
 use Rattle.build.proofs.Rowing.{root-done}
 use Rattle.build.proofs.steps.start.Goals as goal
 
 pub returns : goal.returns
-returns c = (refl, root-done c.requires (omega (arith, c.if-room-eq0.false)) c.zero16.ensures c.zero32.ensures c.plant.ensures.0 c.plant.ensures.1)
+returns c =
+    root-done c.requires (omega (arith, c.if-room-eq0.false)) (c.fill.ensures.after (λ y e. e))
+    (c.fill-2.ensures.after (λ y e. e))
+    c.plant.ensures.0 c.plant.ensures.1

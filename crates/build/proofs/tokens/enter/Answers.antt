@@ -1,35 +1,28 @@
--- `build::tokens::enter` meets its contract. The loop's invariant: the first i bytes are entered. The measure is what is left
--- of the token. Assumes nothing.
+-- `build::tokens::enter` meets its contract. The loop's invariant: the first bytes are entered. Assumes nothing.
 use mathlib.Core.Path.{refl}
 use native.Mathlib.Omega.{arith}
-use Rattle.build.proofs.Entering.{roomy-kept, kept_on, along-start, along-fits, along-turn}
+use Rattle.build.proofs.Entering.{roomy-kept, kept_on, along-start, along-turn}
 use Rattle.build.proofs.Entering.{along-full, along-end, along-enterable}
 use Rattle.build.proofs.tokens.enter.Goals as goal
 
-pub loop-i-init : goal.loop-i-init
-loop-i-init c = (omega arith, c.requires.fits, record { nodes = refl; ids = refl; links = refl }, λ ns rule h e. along-start h e)
+pub loop-b-init : goal.loop-b-init
+loop-b-init c = (record { nodes = refl; ids = refl; links = refl }, λ ns rule h e. along-start h e c.requires.fits)
 
-pub child-at-requires : goal.child-at-requires
-child-at-requires c = along-enterable (c.loop-i.invariant.3 c.requires.names c.requires.rule c.requires.held c.requires.count) (roomy-kept c.loop-i.invariant.2 c.requires.roomy)
-    c.loop-i.invariant.1
+pub child-requires : goal.child-requires
+child-requires c =
+    let p = c.requires in
+    along-enterable (c.loop-b.invariant.1 p.names p.rule p.held p.count) (roomy-kept c.loop-b.invariant.0 p.roomy)
 
-pub returns-then-at-room : goal.returns-then-at-room
-returns-then-at-room c = record {
-  entered = λ ns rule g e.
-      along-full (c.loop-i.invariant.3 ns rule g e) c.loop-i-test.true c.child-at.ensures c.if-at-room.true;
-}
+pub returns-in_err-at : goal.returns-in_err-at
+returns-in_err-at c =
+    rw c.from_residual.ensures
+    (record { entered = λ ns rule g e. along-full (c.loop-b.invariant.1 ns rule g e) (omega arith) c.in_err-at.ensures })
 
-pub loop-i-preserved : goal.loop-i-preserved
-loop-i-preserved c = (
-  omega (arith, c.loop-i-test.true),
-  along-fits (c.loop-i.invariant.3 c.requires.names c.requires.rule c.requires.held c.requires.count) c.loop-i-test.true c.child-at.ensures
-      c.if-at-room.false,
-  kept_on c.loop-i.invariant.2 c.child-at.auto.edge_n c.child-at.auto.id c.child-at.auto.work,
-  λ ns rule g e. along-turn (c.loop-i.invariant.3 ns rule g e) c.loop-i-test.true c.child-at.ensures c.if-at-room.false,
+pub loop-b-preserved : goal.loop-b-preserved
+loop-b-preserved c = (
+  kept_on c.loop-b.invariant.0 c.child.auto.edge_n c.child.auto.id c.child.auto.work,
+  λ ns rule g e. along-turn (c.loop-b.invariant.1 ns rule g e) (omega arith) c.in_ok-at.ensures,
 )
 
 pub returns : goal.returns
-returns c = record {
-  entered = λ ns rule g e.
-      along-end (c.loop-i.invariant.3 ns rule g e) c.loop-i.invariant.1 (omega (arith, c.loop-i-test.false, c.loop-i.invariant.0));
-}
+returns c = record { entered = λ ns rule g e. along-end (c.loop-b.invariant.1 ns rule g e) (omega arith) }

@@ -1,31 +1,29 @@
 -- `build::tokens::enter_token` meets its contract: the token's last node takes the id, unless the token is empty or there was
 -- no room. Assumes nothing.
-use mathlib.Core.List.{[]}
 use native.Mathlib.Omega.{arith}
-use Rattle.build.specs.Names.{prefixes, enter}
-use Rattle.build.proofs.Places.{place-below}
-use Rattle.build.proofs.Entering.{length-zero}
-use Rattle.build.proofs.Marking.{row-empty, row-full, row-marked}
+use Rattle.std.proofs.lemmas.List.{nil_from_length}
+use Rattle.build.proofs.Marking.{row-empty, node-below, row-marked}
 use Rattle.build.proofs.tokens.enter_token.Goals as goal
 
-pub returns-then-token-eq0 : goal.returns-then-token-eq0
-returns-then-token-eq0 c = let bare = length-zero c.args.token.now c.if-token-eq0.true in
-    record { entered = λ ns rule h e small. row-empty c.args.kind c.args.v bare h e c.requires.fits }
+pub returns-then-is_empty : goal.returns-then-is_empty
+returns-then-is_empty c = let e = nil_from_length c.args.token.now (grind (arith, c.is_empty.ensures, c.if-is_empty.true)) in
+    record { entered = λ ns rule h n small. row-empty c.args.kind c.args.v e h n c.requires.fits }
 
-pub returns-then-node-room : goal.returns-then-node-room
-returns-then-node-room c = record { entered = λ ns rule h e small. row-full (c.enter-end.ensures.entered ns rule h e) c.if-node-room.true }
+pub returns-in_err-end : goal.returns-in_err-end
+returns-in_err-end c =
+    let full = c.in_err-end.ensures in
+    rw c.from_residual.ensures (record { entered = λ ns rule h n small. full.entered ns rule h n })
 
 pub mark-requires : goal.mark-requires
-mark-requires c = let d = c.enter-end.ensures.entered c.requires.names c.requires.rule c.requires.held c.requires.count in
-    omega (
-      arith,
-      (d.held c.if-node-room.false).marks.room,
-      place-below (enter c.requires.names (prefixes [] c.args.token.now)) c.args.token.now c.enter-end.result.node (d.here c.if-node-room.false),
-    )
+mark-requires c =
+    let p = c.requires in
+    let end = c.in_ok-end.ensures in
+    node-below (end.entered p.names p.rule p.held p.count)
 
 pub returns : goal.returns
-returns c = record {
-  entered = λ ns rule h e small.
-      row-marked (c.enter-end.ensures.entered ns rule h e) c.args.v c.if-node-room.false
-      (omega (arith, c.if-token-eq0.false)) small c.mark.ensures;
-}
+returns c =
+    let end = c.in_ok-end.ensures in
+    record {
+      entered = λ ns rule h n small. row-marked (end.entered ns rule h n) c.args.v
+          (grind (arith, c.is_empty.ensures, c.if-is_empty.false)) small c.mark.ensures;
+    }

@@ -3,5 +3,7 @@ use Rattle.build.proofs.Zeros.{cleared-is}
 use Rattle.build.proofs.zero.clear.Goals as goal
 
 pub returns : goal.returns
-returns c = cleared-is c.args.edge_at.now c.args.edge_n.now c.args.id.now c.args.byte.now c.args.to.now c.args.work.now c.zero32.ensures c.zero16.ensures c.zero32-2.ensures c.zero8.ensures
-    c.zero32-3.ensures c.zero32-4.ensures
+returns c =
+    cleared-is c.args.edge_at.now c.args.edge_n.now c.args.id.now c.args.byte.now c.args.to.now c.args.work.now
+    (c.fill.ensures.after (λ y e. e)) (c.fill-2.ensures.after (λ y e. e)) (c.fill-3.ensures.after (λ y e. e))
+    (c.fill-4.ensures.after (λ y e. e)) (c.fill-5.ensures.after (λ y e. e)) (c.fill-6.ensures.after (λ y e. e))

@@ -1,34 +1,41 @@
--- `pack::enter::enter_rows` meets its contract. The loop's invariant: the first i rows are entered, or there was no room for
--- them. The measure is what is left of them. Assumes nothing.
+-- `pack::enter::enter_rows` meets its contract. The loop's invariant: the first i rows are entered. Assumes nothing.
 use native.Mathlib.Omega.{arith}
-use Rattle.build.specs.Held.{Roomy}
-use Rattle.build.proofs.Entering.{roomy-kept}
-use Rattle.build.proofs.Rowing.{rowed-start, rowed-turn, rowed-full, rowed-end, rowed-enterable}
-use Rattle.pack.proofs.Resting.{rest_all, rest-next, rest-none}
+use Rattle.build.specs.Rules.{tokens_of}
+use Rattle.build.proofs.Entering.{Kept, roomy-kept}
+use Rattle.build.proofs.Rowing.{bare-full, rowed-start, rowed-turn, rowed-full, rowed-end, rowed-enterable}
+use Rattle.pack.proofs.Resting.{all, rest_all, rest-next, rest-none}
 use Rattle.pack.proofs.enter.enter_rows.Goals as goal
 
+pub returns-in_err-n : goal.returns-in_err-n
+returns-in_err-n c =
+    let a = c.args in
+    rw c.from_residual.ensures (bare-full (tokens_of a.strings.now (all a.kind a.bytes.now a.rows)) c.in_err-n.ensures)
+
 pub loop-i-init : goal.loop-i-init
-loop-i-init c = (omega arith, rowed-start c.start-n.ensures.1 (rest_all c.args.kind c.args.bytes.now c.args.rows))
+loop-i-init c = rowed-start c.in_ok-n.ensures (rest_all c.args.kind c.args.bytes.now c.args.rows)
 
-pub returns-then-room-n : goal.returns-then-room-n
-returns-then-room-n c = rowed-full c.loop-i.invariant.1 c.if-room-n.true
-
-pub enter_row-n-requires : goal.enter_row-n-requires
-enter_row-n-requires c =
-    let roomy : Roomy c.args.room c.start-n.new.edge_n c.start-n.new.id c.start-n.new.work = roomy-kept (record { nodes = c.start-n.auto.edge_n; ids = c.start-n.auto.id; links = c.start-n.auto.work }) c.requires.1 in
+pub enter_row-requires : goal.enter_row-requires
+enter_row-requires c =
+    let start = c.start.auto in
+    let kept : Kept c.args.edge_n.now c.args.id.now c.args.work.now c.start.new.edge_n c.start.new.id c.start.new.work =
+    record { nodes = start.edge_n; ids = start.id; links = start.work } in
     record {
-      small = omega (arith, c.loop-i-test.true, c.requires.0.few);
-      inside = omega (arith, c.loop-i-test.true, c.requires.0.inside);
-      fine = c.requires.0.fine c.loop-i.i c.loop-i-test.true;
-      enterable = rowed-enterable c.loop-i.invariant.1 c.if-room-n.false (roomy);
+      small = omega (arith, c.requires.0.few);
+      inside = omega (arith, c.requires.0.inside);
+      fine = c.requires.0.fine c.loop-i.i (omega arith);
+      enterable = rowed-enterable c.loop-i.invariant (roomy-kept kept c.requires.1);
     }
 
+pub returns-in_err-n-2 : goal.returns-in_err-n-2
+returns-in_err-n-2 c =
+    rw c.from_residual-in_err-n-2.ensures
+    (rowed-full c.loop-i.invariant (rest-next c.args.kind c.args.bytes.now c.args.rows c.loop-i.i (omega arith))
+    (omega (arith, c.requires.0.few)) c.in_err-n-2.ensures)
+
 pub loop-i-preserved : goal.loop-i-preserved
-loop-i-preserved c = (
-  omega (arith, c.loop-i-test.true),
-  rowed-turn c.loop-i.invariant.1 (rest-next c.args.kind c.args.bytes.now c.args.rows c.loop-i.i c.loop-i-test.true)
-      (omega (arith, c.loop-i-test.true, c.requires.0.few)) c.if-room-n.false c.enter_row-n.ensures c.enter_row-n.auto.edge_n c.enter_row-n.auto.id c.enter_row-n.auto.work,
-)
+loop-i-preserved c =
+    rowed-turn c.loop-i.invariant (rest-next c.args.kind c.args.bytes.now c.args.rows c.loop-i.i (omega arith))
+    (omega (arith, c.requires.0.few)) c.in_ok-n-2.ensures c.enter_row.auto.edge_n c.enter_row.auto.id c.enter_row.auto.work
 
 pub returns : goal.returns
-returns c = rowed-end c.loop-i.invariant.1 (rest-none c.args.kind c.args.bytes.now c.args.rows c.loop-i.i c.loop-i-test.false)
+returns c = rowed-end c.loop-i.invariant (rest-none c.args.kind c.args.bytes.now c.args.rows c.loop-i.i c.loop-i-test.false)

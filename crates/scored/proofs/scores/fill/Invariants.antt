@@ -1,5 +1,5 @@
 use mathlib.Core.List.{List, map}
-use Prim.Native.Nat.{ℕ, ◌-◌, ◌≤◌}
+use Prim.Native.Nat.{ℕ}
 use lib.ListN.{get_or}
 use Rattle.doubles.specs.Double.{Double}
 use Rattle.doubles.specs.Units.{units}
@@ -12,7 +12,4 @@ abbrev pub score_at : List Double → List ℕ → ℕ → Double
 score_at scores ids j = row_score scores (get_or ids j 0)
 
 abbrev pub invariant-loop-k : goal.invariant-loop-k
-invariant-loop-k l = (l.k ≤ l.n) × Stored (score_at (map units l.score) l.node_id) (map units l.initial.node_score) l.k l.node_score
-
-abbrev pub decreases-loop-k : goal.decreases-loop-k
-decreases-loop-k l = l.n - l.k
+invariant-loop-k l = Stored (score_at (map units l.score) l.node_id) (map units l.initial.node_score) l.k l.node_score
