@@ -107,7 +107,9 @@ module _ (m : Model) (s : List ℕ) (at : ℕ) where
   first-false : {a : Bool} (b : Bool) → a ≡ false → a && b ≡ false
   first-false b p = ap (λ (t : Bool). t && b) p
 
-  to-known : (j : ℕ) (t : Bool) → ltb at j && boundary s j ≡ t → known_to m s at j ≡ elim t [ true ↦ known m (part s at j) | false ↦ None ]
+  to-known :
+      (j : ℕ) (t : Bool) → ltb at j && boundary s j ≡ t
+      → known_to m s at j ≡ elim t [ true ↦ known m (part s at j) | false ↦ None ]
   unfolding known_to
   to-known j t e = ap (λ (b : Bool). elim b [ true ↦ known m (part s at j) | false ↦ None ]) e
 
@@ -130,7 +132,8 @@ module _ (m : Model) (s : List ℕ) (at : ℕ) where
 
   -- nor one where the walk has stopped
   pub known-stopped : (j : ℕ) → (at < j → walk m.trie 0 (part s at j) ≡ None) → known_to m s at j ≡ None
-  known-stopped j none-there = ⊎_elim (λ (l : at < j). by-test l (boundary s j) refl) (λ (l : j ≤ at). known-back j l) (below_or at j)
+  known-stopped j none-there =
+      ⊎_elim (λ (l : at < j). by-test l (boundary s j) refl) (λ (l : j ≤ at). known-back j l) (below_or at j)
     where
       by-test : at < j → (t : Bool) → boundary s j ≡ t → known_to m s at j ≡ None
       by-test l true e = known_on j l e ∙ known_is m (part s at j) (none-there l)
@@ -154,7 +157,8 @@ module _ (m : Model) (s : List ℕ) (at : ℕ) where
       ∙ ap (λ (b : ℕ). part s at i ++ (b ∷ [])) (get_or-drop at s (i - at) 0 ∙ ap (λ (n : ℕ). get_or s n 0) there)
 
   pub walk-none-yet : walk m.trie 0 (part s at at) ≡ Some 0
-  walk-none-yet = ap (λ (n : ℕ). walk m.trie 0 (take n (drop at s))) (let e : at - at ≡ 0 = omega arith in e) ∙ walk-nil m.trie 0
+  walk-none-yet =
+      ap (λ (n : ℕ). walk m.trie 0 (take n (drop at s))) (let e : at - at ≡ 0 = omega arith in e) ∙ walk-nil m.trie 0
 
   module _ (i k : ℕ) (l : at ≤ i) (h : i < length s) (w : walk m.trie 0 (part s at i) ≡ Some k) where
     stepped : walk m.trie 0 (part s at (i + 1)) ≡ step m.trie k (get_or s i 0)
@@ -189,7 +193,8 @@ spot f one i =
     ⊎_elim
     (λ (l : i < one).
     ⊎_elim
-    (λ (k : i + 1 < one). left false false (lt-leb one i l) (ne_eqb (i + 1) one (λ e. omega arith)) ∙ sym (right false (lt-leb one (i + 1) k)))
+    (λ (k : i + 1 < one).
+    left false false (lt-leb one i l) (ne_eqb (i + 1) one (λ e. omega arith)) ∙ sym (right false (lt-leb one (i + 1) k)))
     (λ (k : one ≤ i + 1).
     let e : i + 1 ≡ one = omega arith in
     left false true (lt-leb one i l) (eq-eqb (i + 1) one e) ∙ ap f e ∙ sym (right true (le-leb one (i + 1) k)))
@@ -200,8 +205,12 @@ spot f one i =
     ∙ sym (right true (le-leb one (i + 1) (omega arith))))
     (below_or i one)
   where
-    left : (u v : Bool) → leb one i ≡ u → eqb (i + 1) one ≡ v → ((leb one i && f one) || (eqb (i + 1) one && f (i + 1))) ≡ ((u && f one) || (v && f (i + 1)))
-    left u v p q = ap (λ (t : Bool). (t && f one) || (eqb (i + 1) one && f (i + 1))) p ∙ ap (λ (t : Bool). (u && f one) || (t && f (i + 1))) q
+    left :
+        (u v : Bool) → leb one i ≡ u → eqb (i + 1) one ≡ v
+        → ((leb one i && f one) || (eqb (i + 1) one && f (i + 1))) ≡ ((u && f one) || (v && f (i + 1)))
+    left u v p q =
+        ap (λ (t : Bool). (t && f one) || (eqb (i + 1) one && f (i + 1))) p
+        ∙ ap (λ (t : Bool). (u && f one) || (t && f (i + 1))) q
 
     right : (w : Bool) → leb one (i + 1) ≡ w → (leb one (i + 1) && f one) ≡ (w && f one)
     right w p = ap (λ (t : Bool). t && f one) p
@@ -226,7 +235,9 @@ module _ (m : Model) (s : List ℕ) (at one : ℕ) (x : Double) (b : Slots) wher
         seen = ap (λ (t : Bool). t && is_some (known_to m s at one)) (sym (lt-leb one at l));
       }
 
-  pub offered-more : {i node : ℕ} {now after : Slots} {single r : Bool} → at ≤ i → walk m.trie 0 (part s at (i + 1)) ≡ Some node → Offered i now single → Ended m s node (i + 1) one single at x now after r → Offered (i + 1) after r
+  pub offered-more :
+      {i node : ℕ} {now after : Slots} {single r : Bool} → at ≤ i → walk m.trie 0 (part s at (i + 1)) ≡ Some node
+      → Offered i now single → Ended m s node (i + 1) one single at x now after r → Offered (i + 1) after r
   offered-more {i} {node} {now} {after} {single} {r} l w o e =
       record {
         slots =
@@ -234,23 +245,36 @@ module _ (m : Model) (s : List ℕ) (at one : ℕ) (x : Double) (b : Slots) wher
             (put_as e.put
             (ap (λ (q : Slot). after_offer (ends_here m s node (i + 1)) x at q) (filled-above o.slots (i + 1) (omega arith))
             ∙ ap (λ (p : Option Piece). after_offer p x at (slot_at b (i + 1))) ends));
-        seen = e.seen ∙ ap (λ (p : Option Piece). single || (eqb (i + 1) one && is_some p)) ends ∙ ap (λ (t : Bool). t || (eqb (i + 1) one && is_some (known_to m s at (i + 1)))) o.seen ∙ spot (λ k. is_some (known_to m s at k)) one i;
+        seen =
+            e.seen ∙ ap (λ (p : Option Piece). single || (eqb (i + 1) one && is_some p)) ends
+            ∙ ap (λ (t : Bool). t || (eqb (i + 1) one && is_some (known_to m s at (i + 1)))) o.seen
+            ∙ spot (λ k. is_some (known_to m s at k)) one i;
       }
     where
       ends : ends_here m s node (i + 1) ≡ known_to m s at (i + 1)
       ends = ends-known m s at (i + 1) node (omega arith) w
 
-  pub offered-all : {i : ℕ} {now : Slots} {single : Bool} → Offered i now single → ((j : ℕ) → i < j → known_to m s at j ≡ None) → KnownOffered m s at one x b now single
+  pub offered-all :
+      {i : ℕ} {now : Slots} {single : Bool} → Offered i now single → ((j : ℕ) → i < j → known_to m s at j ≡ None)
+      → KnownOffered m s at one x b now single
   offered-all {i} {now} {single} o none-past =
       record {
         slots = λ k.
-            ⊎_elim (λ (l : k < i + 1). filled-below o.slots k l) (λ (l : i + 1 ≤ k). filled-above o.slots k l ∙ untouched k (none-past k (omega arith))) (below_or k (i + 1));
-        seen = o.seen ∙ ⊎_elim (λ (l : i < one). ap (λ (t : Bool). t && is_some (known_to m s at one)) (lt-leb one i l) ∙ ap is_some (sym (none-past one l))) (λ (l : one ≤ i). ap (λ (t : Bool). t && is_some (known_to m s at one)) (le-leb one i l)) (below_or i one);
+            ⊎_elim (λ (l : k < i + 1). filled-below o.slots k l)
+            (λ (l : i + 1 ≤ k). filled-above o.slots k l ∙ untouched k (none-past k (omega arith))) (below_or k (i + 1));
+        seen =
+            o.seen
+            ∙ ⊎_elim
+            (λ (l : i < one).
+            ap (λ (t : Bool). t && is_some (known_to m s at one)) (lt-leb one i l) ∙ ap is_some (sym (none-past one l)))
+            (λ (l : one ≤ i). ap (λ (t : Bool). t && is_some (known_to m s at one)) (le-leb one i l))
+            (below_or i one);
       }
 
--- The walk has come to `node` at i, and each string that ends by i has been offered. A walk in sound parts stands on a node, so a
--- further step may be made, and where that leads there are an id and a score.
-pub record Walked (m : Model) (s : List ℕ) (at one : ℕ) (x : Double) (b : Slots) (i node : ℕ) (now : Slots) (single : Bool) : Type 0 where
+-- The walk has come to `node` at i, and each string that ends by i has been offered. A walk in sound parts stands on a node, so
+-- a further step may be made, and where that leads there are an id and a score.
+pub record Walked (m : Model) (s : List ℕ) (at one : ℕ) (x : Double) (b : Slots) (i node : ℕ) (now : Slots) (single : Bool) :
+    Type 0 where
   pub here : walk m.trie 0 (part s at i) ≡ Some node
   pub offered : Offered m s at one x b i now single
 
@@ -284,7 +308,8 @@ module _ {m : Model} {s : List ℕ} {at one : ℕ} {x : Double} {b : Slots} (abl
             (id_there m.trie able.parts (part s at (i + 1)) on, omega (arith, inside, able.level-score))
 
         pub walked-more :
-            {after : Slots} {r : Bool} → Ended m s j (i + 1) one single at x now after r → Walked m s at one x b (i + 1) j after r
+            {after : Slots} {r : Bool} → Ended m s j (i + 1) one single at x now after r
+            → Walked m s at one x b (i + 1) j after r
         walked-more p = record { here = on; offered = offered-more m s at one x b from on w.offered p }
 
 -- ---- with the one character that has no id, that is every piece
@@ -316,7 +341,9 @@ is_none (Some p) e = absurd (true-false refl e)
 
 module _ (m : Model) (s : List ℕ) (at : ℕ) (on : boundary s at ≡ true) where
   absent-piece : (k : ℕ) → ((p : Piece) → piece_of m s at k ≡ Some p → ⊥) → piece_of m s at k ≡ None
-  absent-piece k no_such = ⊎_elim (λ (e : piece_of m s at k ≡ None). e) (λ (w : (p : Piece) × (piece_of m s at k ≡ Some p)). absurd (no_such w.0 w.1)) (looked (piece_of m s at k))
+  absent-piece k no_such =
+      ⊎_elim (λ (e : piece_of m s at k ≡ None). e)
+      (λ (w : (p : Piece) × (piece_of m s at k ≡ Some p)). absurd (no_such w.0 w.1)) (looked (piece_of m s at k))
 
   -- any other length
   pub piece-known : (k : ℕ) → (k ≡ next s at → ⊥) → piece_of m s at k ≡ known_to m s at k
@@ -343,28 +370,43 @@ module _ (m : Model) (s : List ℕ) (at : ℕ) (on : boundary s at ≡ true) whe
 
     module _ {x : Double} {before after : Slots} {r : Bool} (o : KnownOffered m s at (next s at) x before after r) where
       at_next : (k : ℕ) → (k ≡ next s at) ⊎ (k ≡ next s at → ⊥)
-      at_next k = ⊎_elim (λ (l : k < next s at). inr (λ e. omega arith)) (λ (l : next s at ≤ k). ⊎_elim (λ (h : next s at < k). inr (λ e. omega arith)) (λ (h : k ≤ next s at). inl (omega arith)) (below_or (next s at) k)) (below_or k (next s at))
+      at_next k =
+          ⊎_elim (λ (l : k < next s at). inr (λ e. omega arith))
+          (λ (l : next s at ≤ k).
+          ⊎_elim (λ (h : next s at < k). inr (λ e. omega arith)) (λ (h : k ≤ next s at). inl (omega arith))
+          (below_or (next s at) k))
+          (below_or k (next s at))
 
       -- a string of one character has an id
       pub all_known : r ≡ true → EachOffered m s at x before after
       all_known e =
           let w = is-some (known_to m s at (next s at)) (sym o.seen ∙ e) in
-          let here : piece_of m s at (next s at) ≡ known_to m s at (next s at) = one_char ∙ here-one (known_to m s at (next s at)) m.unknown w.0 w.1 ∙ sym w.1 in
+          let here : piece_of m s at (next s at) ≡ known_to m s at (next s at) =
+          one_char ∙ here-one (known_to m s at (next s at)) m.unknown w.0 w.1 ∙ sym w.1
+          in
           record {
             slots = λ k.
                 o.slots k
                 ∙ ap (λ (p : Option Piece). after_offer p x at (slot_at before k))
-                (sym (⊎_elim (λ (h : k ≡ next s at). subst (λ (n : ℕ). piece_of m s at n ≡ known_to m s at n) (sym h) here) (λ h. piece-known k h) (at_next k)));
+                (sym
+                (⊎_elim (λ (h : k ≡ next s at). subst (λ (n : ℕ). piece_of m s at n ≡ known_to m s at n) (sym h) here)
+                (λ h. piece-known k h)
+                (at_next k)));
           }
 
       -- none has, and the unknown piece is offered
-      pub all-unknown : {last : Slots} → r ≡ false → PutAt after (next s at) (taken (slot_at after (next s at)) (candidate x at m.unknown)) last → EachOffered m s at x before last
+      pub all-unknown :
+          {last : Slots} → r ≡ false
+          → PutAt after (next s at) (taken (slot_at after (next s at)) (candidate x at m.unknown)) last
+          → EachOffered m s at x before last
       unfolding after_offer
       all-unknown {last} e put =
           let n = next s at in
           let missing : known_to m s at n ≡ None = is_none (known_to m s at n) (sym o.seen ∙ e) in
           let here : piece_of m s at n ≡ Some m.unknown = one_char ∙ here-unknown (known_to m s at n) m.unknown missing in
-          let was : slot_at after n ≡ slot_at before n = o.slots n ∙ ap (λ (p : Option Piece). after_offer p x at (slot_at before n)) missing in
+          let was : slot_at after n ≡ slot_at before n =
+          o.slots n ∙ ap (λ (p : Option Piece). after_offer p x at (slot_at before n)) missing
+          in
           let now : slot_at last n ≡ after_offer (piece_of m s at n) x at (slot_at before n) =
           put.slots n
           ∙ ap (λ (t : Bool). cond t (taken (slot_at after n) (candidate x at m.unknown)) (slot_at after n)) (eq-eqb n n refl)
@@ -374,10 +416,12 @@ module _ (m : Model) (s : List ℕ) (at : ℕ) (on : boundary s at ≡ true) whe
           record {
             slots = λ k.
                 ⊎_elim
-                (λ (h : k ≡ n). subst (λ (i : ℕ). slot_at last i ≡ after_offer (piece_of m s at i) x at (slot_at before i)) (sym h) now)
+                (λ (h : k ≡ n).
+                subst (λ (i : ℕ). slot_at last i ≡ after_offer (piece_of m s at i) x at (slot_at before i)) (sym h) now)
                 (λ h.
                 put.slots k
-                ∙ ap (λ (t : Bool). cond t (taken (slot_at after n) (candidate x at m.unknown)) (slot_at after k)) (ne_eqb k n h)
+                ∙ ap (λ (t : Bool). cond t (taken (slot_at after n) (candidate x at m.unknown)) (slot_at after k))
+                (ne_eqb k n h)
                 ∙ o.slots k
                 ∙ ap (λ (p : Option Piece). after_offer p x at (slot_at before k)) (sym (piece-known k h)))
                 (at_next k);
@@ -386,18 +430,22 @@ module _ (m : Model) (s : List ℕ) (at : ℕ) (on : boundary s at ≡ true) whe
 -- ---- the slots hold the records of one start more
 
 -- as a list of at most one
-offer-listed : (o : Option Piece) (x : Double) (at : ℕ) (r : Slot) → ((p : Piece) → o ≡ Some p → is_number (sum x p.score) ≡ true) → after_offer o x at r ≡ after_offers is_number (option_to_list o) x at r
+offer-listed :
+    (o : Option Piece) (x : Double) (at : ℕ) (r : Slot) → ((p : Piece) → o ≡ Some p → is_number (sum x p.score) ≡ true)
+    → after_offer o x at r ≡ after_offers is_number (option_to_list o) x at r
 unfolding after_offer after_offers candidate
 offer-listed None x at r number = refl
 offer-listed (Some p) x at r number = ap (λ (t : Bool). cond t (taken r (candidate x at p)) r) (sym (number p refl))
 
 pub worked-all :
-    {m : Model} {s : List ℕ} (ready : Ready m s) (at : ℕ) (on : boundary s at ≡ true) (below : at < length s) {r : ℕ} {x : Double} {before after : Slots}
+    {m : Model} {s : List ℕ} (ready : Ready m s) (at : ℕ) (on : boundary s at ≡ true) (below : at < length s) {r : ℕ}
+    {x : Double} {before after : Slots}
     → r ≡ next s at → Holds (rule m s) (length s) at before → x ≡ (slot_at before at).score → EachOffered m s at x before after
     → Recorded m s r before after
 unfolding nth
 worked-all {m} {s} ready at on below {r} {x} {before} {after} there h e o =
-    recorded laws (boundary-stands m s well ready.sound) (sym there) (omega (arith, there, next-inside s well at on below)) held (offered-past laws all)
+    recorded laws (boundary-stands m s well ready.sound) (sym there) (omega (arith, there, next-inside s well at on below)) held
+    (offered-past laws all)
   where
     well : well_formed s ≡ true
     well = ready.well
@@ -416,7 +464,9 @@ worked-all {m} {s} ready at on below {r} {x} {before} {after} there h e o =
           slots = λ k.
               o.slots k
               ∙ offer-listed (piece_of m s at k) x at (slot_at before k)
-              (λ p q. is_true (is_number (sum x p.score)) (sum_number x p.score (stands-counts laws at x stands) (laws.finite at k 0 p (ap (λ (u : Option Piece). nth (option_to_list u) 0) q))));
+              (λ p q.
+              let finite = laws.finite at k 0 p (ap (λ (u : Option Piece). nth (option_to_list u) 0) q) in
+              is_true (is_number (sum x p.score)) (sum_number x p.score (stands-counts laws at x stands) finite));
         }
 
     held : Holds (rule m s) (length s) (next s at) after

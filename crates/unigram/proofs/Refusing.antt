@@ -7,7 +7,7 @@ use mathlib.Core.List.{List, [], ◌∷◌}
 use mathlib.Core.Logic.{⊎_elim}
 use Prim.Native.Nat.{ℕ, ◌+◌, ◌≤◌, ◌<◌}
 use native.Mathlib.Omega.{arith}
-use borrow.Author.Tests.{lt-ltb, le-ltb, eq-eqb, ltb-false}
+use borrow.Author.Tests.{lt-ltb, eq-eqb, ltb-false}
 use lib.Dec.{ltb}
 use lib.Ieee.{Float}
 use lib.ListN.{length, length-map}
@@ -17,9 +17,10 @@ use Rattle.refusal.specs.declared.Fault.{Fault}
 use Rattle.refusal.specs.declared.Fault.TheVariants as fault
 use Rattle.refusal.specs.Refusal.{refuse, first}
 use Rattle.refusal.specs.Sizes.{max_text}
-use Rattle.refusal.proofs.Tests.{found, not_found, found_first, none_first, passed, both-passed, Not, refused-so, first_so, nothing-so}
+use Rattle.refusal.proofs.Tests.{found, not_found, none_first, passed, both-passed, Not, refused-so, first_so}
+use Rattle.refusal.proofs.Tests.{nothing-so}
 use Rattle.refusal.proofs.Codings.{coded-refused, coded-ids}
-use Rattle.refusal.proofs.Lists.{zero_one, true-false, below_or}
+use Rattle.refusal.proofs.Lists.{zero_one, below_or}
 use Rattle.text.specs.Text.{text_fault, characters}
 use Rattle.text.proofs.Boundaries.{characters-le}
 use Rattle.trie.specs.Lookup.{lookup_fault}
@@ -27,7 +28,8 @@ use Rattle.trie.proofs.Lookups.{lookup-fine, sound-lookup}
 use Rattle.build.specs.Memory.{any_below}
 use Rattle.cutting.specs.Slots.{Slots, Inside}
 use Rattle.unigram.specs.Pieces.{Model, pieces_of, part_id, ids_of}
-use Rattle.unigram.specs.Segment.{Scratch, Lengths, lengths, lengths_of, short_scratch, segment_fault, sound_model, written, writes, Segmented}
+use Rattle.unigram.specs.Segment.{Scratch, Lengths, lengths, lengths_of, short_scratch, segment_fault, sound_model, written}
+use Rattle.unigram.specs.Segment.{writes, Segmented}
 use Rattle.unigram.specs.Work.{Ready, BestCutting}
 use Rattle.unigram.specs.Checked.{scratch_of}
 use Rattle.unigram.proofs.Merging.{merged-few}
@@ -76,7 +78,9 @@ module _ (parts : Bool) (s : List ℕ) (n : Lengths) where
 
   -- what is known where there is none
   module _ (none_found : segment_fault parts s n ≡ None) where
-    tests : (lookup_fault parts s ≡ None) × (refuse (short_scratch s n) fault.Scratch (refuse (ltb n.ids (characters s)) fault.Ids None) ≡ None)
+    tests :
+        (lookup_fault parts s ≡ None)
+        × (refuse (short_scratch s n) fault.Scratch (refuse (ltb n.ids (characters s)) fault.Ids None) ≡ None)
     unfolding segment_fault
     tests = both-passed _ _ none_found
 
@@ -127,7 +131,8 @@ enough-room n chars a b c p some_bytes e =
 -- the lent columns are as long as their lists
 pub lengths-are :
     (starts ids : List ℕ) (scores : List Float) (path places : List ℕ)
-    → lengths_of (scratch_of starts ids scores path places) ≡ lengths (length starts) (length ids) (length scores) (length path) (length places)
+    → lengths_of (scratch_of starts ids scores path places)
+    ≡ lengths (length starts) (length ids) (length scores) (length path) (length places)
 lengths-are starts ids scores path places =
     ap (λ (n : ℕ). lengths (length starts) (length ids) n (length path) (length places)) (length-map scores units)
 
@@ -150,7 +155,8 @@ pub record Prepared (m : Model) (s starts slot_ids : List ℕ) (scores : List Fl
 -- what the cutting rests on: an empty text asks for no slots, and has no characters
 pub prepared-for :
     (m : Model) (s starts ids : List ℕ) (scores : List Float) (path places : List ℕ)
-    → segment_fault (sound_model m) s (lengths_of (scratch_of starts ids scores path places)) ≡ None → Prepared m s starts ids scores path places
+    → segment_fault (sound_model m) s (lengths_of (scratch_of starts ids scores path places)) ≡ None
+    → Prepared m s starts ids scores path places
 unfolding short_scratch
 prepared-for m s starts ids scores path places none_found =
     let n = length s in
