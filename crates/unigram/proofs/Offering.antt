@@ -13,6 +13,7 @@ use lib.Dec.{eqb, ltb, leb}
 use lib.Ieee.{Float}
 use lib.ListN.{length, get_or, take, drop, length-drop}
 use lib.Seq.{take-suc, get_or-drop, take-add}
+use Rattle.std.proofs.lemmas.Bool.Decides.{nat_tests}
 use Rattle.doubles.specs.Double.{Double, plus_zero, sum, is_number}
 use Rattle.doubles.proofs.Sums.{sum_number}
 use Rattle.text.specs.Text.{well_formed, boundary, next, part}
@@ -43,13 +44,12 @@ module _ (m : Model) (k : ℕ) where
       {o : Option ℕ} → id_at m.trie k ≡ o
       → piece_at m k ≡ elim o [ None ↦ None | Some i ↦ Some (record { id = i; score = get_or m.score k plus_zero }) ]
   unfolding piece_at
-  piece_is e =
-      ap (λ (o : Option ℕ). elim o [ None ↦ None | Some i ↦ Some (record { id = i; score = get_or m.score k plus_zero }) ]) e
+  piece_is e = rw (e, piece_at)
 
   pub ends_is :
       (s : List ℕ) (i : ℕ) {t : Bool} → boundary s i ≡ t → ends_here m s k i ≡ elim t [ true ↦ piece_at m k | false ↦ None ]
   unfolding ends_here
-  ends_is s i e = ap (λ (t : Bool). elim t [ true ↦ piece_at m k | false ↦ None ]) e
+  ends_is s i e = rw (e, ends_here)
 
 or_nothing : (a b : Bool) → a ≡ (a || (b && false))
 or_nothing true b = refl
@@ -65,11 +65,7 @@ module _ (m : Model) (s : List ℕ) (node i one : ℕ) (single : Bool) (at : ℕ
   -- no piece ends here
   ended-none : ends_here m s node i ≡ None → Ended m s node i one single at x b b single
   unfolding after_offer
-  ended-none e =
-      record {
-        put = put_back b i (ap (λ (o : Option Piece). after_offer o x at (slot_at b i)) (sym e));
-        seen = or_nothing single (eqb i one) ∙ ap (λ (o : Option Piece). single || (eqb i one && is_some o)) (sym e);
-      }
+  ended-none e = record { put = put_back b i (rw e); seen = rw e (or_nothing single (eqb i one)) }
 
   -- the position is no boundary, or the node has no id
   pub ended-inside : boundary s i ≡ false → Ended m s node i one single at x b b single
@@ -89,11 +85,8 @@ module _ (m : Model) (s : List ℕ) (node i one : ℕ) (single : Bool) (at : ℕ
       let p : Piece = record { id = q.id; score = get_or m.score node plus_zero } in
       let ends : ends_here m s node i ≡ Some p = ends_is m node s i e ∙ piece_is m node h in
       record {
-        put =
-            put_as put
-            (ap (taken (slot_at b i)) (same-slot q (candidate x at p) start refl score)
-            ∙ ap (λ (o : Option Piece). after_offer o x at (slot_at b i)) (sym ends));
-        seen = seen ∙ or-that single (eqb i one) ∙ ap (λ (o : Option Piece). single || (eqb i one && is_some o)) (sym ends);
+        put = put_as put (rw ends (ap (taken (slot_at b i)) (same-slot q (candidate x at p) start refl score)));
+        seen = rw ends (seen ∙ or-that single (eqb i one));
       }
 
 -- ---- the string that a walk from `at` has come to
@@ -101,26 +94,20 @@ module _ (m : Model) (s : List ℕ) (node i one : ℕ) (single : Bool) (at : ℕ
 known_is :
     (m : Model) (s : List ℕ) {o : Option ℕ} → walk m.trie 0 s ≡ o → known m s ≡ elim o [ None ↦ None | Some k ↦ piece_at m k ]
 unfolding known
-known_is m s e = ap (λ (o : Option ℕ). elim o [ None ↦ None | Some k ↦ piece_at m k ]) e
+known_is m s e = rw (e, known)
 
 module _ (m : Model) (s : List ℕ) (at : ℕ) where
-  first-false : {a : Bool} (b : Bool) → a ≡ false → a && b ≡ false
-  first-false b p = ap (λ (t : Bool). t && b) p
-
-  to-known :
-      (j : ℕ) (t : Bool) → ltb at j && boundary s j ≡ t
-      → known_to m s at j ≡ elim t [ true ↦ known m (part s at j) | false ↦ None ]
-  unfolding known_to
-  to-known j t e = ap (λ (b : Bool). elim b [ true ↦ known m (part s at j) | false ↦ None ]) e
-
   pub known_on : (j : ℕ) → at < j → boundary s j ≡ true → known_to m s at j ≡ known m (part s at j)
-  known_on j l e = to-known j true (both (lt-ltb at j l) e)
+  unfolding known_to
+  known_on j l e = rw (both (lt-ltb at j l) e, known_to)
 
   pub known-off : (j : ℕ) → boundary s j ≡ false → known_to m s at j ≡ None
-  known-off j e = to-known j false (fails (ltb at j) (boundary s j) e)
+  unfolding known_to
+  known-off j e = rw (fails (ltb at j) (boundary s j) e, known_to)
 
   pub known-back : (j : ℕ) → j ≤ at → known_to m s at j ≡ None
-  known-back j l = to-known j false (first-false (boundary s j) (le-ltb at j l))
+  unfolding known_to
+  known-back j l = rw (le-ltb at j l, known_to)
 
   -- no string passes the end
   pub known_past : (j : ℕ) → length s < j → known_to m s at j ≡ None
@@ -157,15 +144,11 @@ module _ (m : Model) (s : List ℕ) (at : ℕ) where
       ∙ ap (λ (b : ℕ). part s at i ++ (b ∷ [])) (get_or-drop at s (i - at) 0 ∙ ap (λ (n : ℕ). get_or s n 0) there)
 
   pub walk-none-yet : walk m.trie 0 (part s at at) ≡ Some 0
-  walk-none-yet =
-      ap (λ (n : ℕ). walk m.trie 0 (take n (drop at s))) (let e : at - at ≡ 0 = omega arith in e) ∙ walk-nil m.trie 0
+  walk-none-yet = let e : at - at ≡ 0 = omega arith in rw e (walk-nil m.trie 0)
 
   module _ (i k : ℕ) (l : at ≤ i) (h : i < length s) (w : walk m.trie 0 (part s at i) ≡ Some k) where
     stepped : walk m.trie 0 (part s at (i + 1)) ≡ step m.trie k (get_or s i 0)
-    stepped =
-        ap (walk m.trie 0) (part-more i l h)
-        ∙ walk-snoc m.trie 0 (part s at i) (get_or s i 0)
-        ∙ ap (λ (o : Option ℕ). option_and_then (λ j. step m.trie j (get_or s i 0)) o) w
+    stepped = rw (part-more i l h) (walk-snoc m.trie 0 (part s at i) (get_or s i 0) ∙ rw w)
 
     pub walk-on : (j : ℕ) → step m.trie k (get_or s i 0) ≡ Some j → walk m.trie 0 (part s at (i + 1)) ≡ Some j
     walk-on j e = stepped ∙ e
@@ -183,37 +166,9 @@ module _ (m : Model) (s : List ℕ) (at : ℕ) where
 
 -- ---- the turns of the walk
 
-or_no : (a b : Bool) → (a || (false && b)) ≡ a
-or_no true b = refl
-or_no false b = refl
-
 -- a test passed at `one`, once the walk has come one byte further
 spot : (f : ℕ → Bool) (one i : ℕ) → ((leb one i && f one) || (eqb (i + 1) one && f (i + 1))) ≡ (leb one (i + 1) && f one)
-spot f one i =
-    ⊎_elim
-    (λ (l : i < one).
-    ⊎_elim
-    (λ (k : i + 1 < one).
-    left false false (lt-leb one i l) (ne_eqb (i + 1) one (λ e. omega arith)) ∙ sym (right false (lt-leb one (i + 1) k)))
-    (λ (k : one ≤ i + 1).
-    let e : i + 1 ≡ one = omega arith in
-    left false true (lt-leb one i l) (eq-eqb (i + 1) one e) ∙ ap f e ∙ sym (right true (le-leb one (i + 1) k)))
-    (below_or (i + 1) one))
-    (λ (l : one ≤ i).
-    left true false (le-leb one i l) (ne_eqb (i + 1) one (λ e. omega arith))
-    ∙ or_no (f one) (f (i + 1))
-    ∙ sym (right true (le-leb one (i + 1) (omega arith))))
-    (below_or i one)
-  where
-    left :
-        (u v : Bool) → leb one i ≡ u → eqb (i + 1) one ≡ v
-        → ((leb one i && f one) || (eqb (i + 1) one && f (i + 1))) ≡ ((u && f one) || (v && f (i + 1)))
-    left u v p q =
-        ap (λ (t : Bool). (t && f one) || (eqb (i + 1) one && f (i + 1))) p
-        ∙ ap (λ (t : Bool). (u && f one) || (t && f (i + 1))) q
-
-    right : (w : Bool) → leb one (i + 1) ≡ w → (leb one (i + 1) && f one) ≡ (w && f one)
-    right w p = ap (λ (t : Bool). t && f one) p
+spot f one i = grind (arith, nat_tests)
 
 module _ (m : Model) (s : List ℕ) (at one : ℕ) (x : Double) (b : Slots) where
   -- the slots, and whether a string of one character was seen, once the walk has come to i
@@ -226,13 +181,13 @@ module _ (m : Model) (s : List ℕ) (at one : ℕ) (x : Double) (b : Slots) wher
 
   untouched : (k : ℕ) → known_to m s at k ≡ None → slot_at b k ≡ goal k
   unfolding after_offer
-  untouched k e = ap (λ (o : Option Piece). after_offer o x at (slot_at b k)) (sym e)
+  untouched k e = rw e
 
   pub offered-none : at < one → Offered at b false
   offered-none l =
       record {
         slots = filled_of (at + 1) b (λ k h. untouched k (known-back m s at k (omega arith))) (λ k h. refl);
-        seen = ap (λ (t : Bool). t && is_some (known_to m s at one)) (sym (lt-leb one at l));
+        seen = rw (lt-leb one at l);
       }
 
   pub offered-more :
@@ -242,13 +197,8 @@ module _ (m : Model) (s : List ℕ) (at one : ℕ) (x : Double) (b : Slots) wher
       record {
         slots =
             filled_more o.slots
-            (put_as e.put
-            (ap (λ (q : Slot). after_offer (ends_here m s node (i + 1)) x at q) (filled-above o.slots (i + 1) (omega arith))
-            ∙ ap (λ (p : Option Piece). after_offer p x at (slot_at b (i + 1))) ends));
-        seen =
-            e.seen ∙ ap (λ (p : Option Piece). single || (eqb (i + 1) one && is_some p)) ends
-            ∙ ap (λ (t : Bool). t || (eqb (i + 1) one && is_some (known_to m s at (i + 1)))) o.seen
-            ∙ spot (λ k. is_some (known_to m s at k)) one i;
+            (put_as e.put (rw (ends, filled-above o.slots (i + 1) (omega arith))));
+        seen = e.seen ∙ rw (ends, o.seen) (spot (λ k. is_some (known_to m s at k)) one i);
       }
     where
       ends : ends_here m s node (i + 1) ≡ known_to m s at (i + 1)
@@ -264,10 +214,7 @@ module _ (m : Model) (s : List ℕ) (at one : ℕ) (x : Double) (b : Slots) wher
             (λ (l : i + 1 ≤ k). filled-above o.slots k l ∙ untouched k (none-past k (omega arith))) (below_or k (i + 1));
         seen =
             o.seen
-            ∙ ⊎_elim
-            (λ (l : i < one).
-            ap (λ (t : Bool). t && is_some (known_to m s at one)) (lt-leb one i l) ∙ ap is_some (sym (none-past one l)))
-            (λ (l : one ≤ i). ap (λ (t : Bool). t && is_some (known_to m s at one)) (le-leb one i l))
+            ∙ ⊎_elim (λ (l : i < one). rw (lt-leb one i l, none-past one l)) (λ (l : one ≤ i). rw (le-leb one i l))
             (below_or i one);
       }
 
@@ -325,11 +272,11 @@ here-other (Some p) u = refl
 
 here-one : (o : Option Piece) (u p : Piece) → o ≡ Some p → piece_here o true u ≡ Some p
 unfolding first
-here-one o u p e = ap (λ (q : Option Piece). piece_here q true u) e
+here-one o u p e = rw e
 
 here-unknown : (o : Option Piece) (u : Piece) → o ≡ None → piece_here o true u ≡ Some u
 unfolding first
-here-unknown o u e = ap (λ (q : Option Piece). piece_here q true u) e
+here-unknown o u e = rw e
 
 is-some : (o : Option Piece) → is_some o ≡ true → (p : Piece) × (o ≡ Some p)
 is-some None e = absurd (true-false e refl)
