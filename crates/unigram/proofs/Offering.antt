@@ -1,9 +1,9 @@
 -- The work at one boundary. A walk from it offers each string with an id at its end, byte by byte: what the walk has come to
 -- says which string that is, and where it stops no longer one has an id (`offered-all`). With the one character that has none,
 -- that is every piece (`worked-all`), so the slots hold the records of one start more. Assumes nothing.
-use Rattle.std.specs.Prelude.{Option, None, Some, option_and_then, option_to_list, is_some}
+use Rattle.std.specs.Prelude.{Option, None, Some, option_to_list, is_some}
 use mathlib.Core.Path.{◌≡◌, refl, sym, ap, subst, ◌∙◌}
-use mathlib.Core.Bool.{Bool, true, false, ◌&&◌, ◌||◌, cond}
+use mathlib.Core.Bool.{Bool, true, false, ◌&&◌, ◌||◌}
 use mathlib.Core.List.{List, [], ◌∷◌, ◌++◌}
 use mathlib.Core.Logic.{◌⊎◌, inl, inr, ⊎_elim}
 use Prim.Native.Nat.{ℕ, suc, ◌+◌, ◌-◌, ◌≤◌, ◌<◌}
@@ -299,9 +299,7 @@ module _ (m : Model) (s : List ℕ) (at : ℕ) (on : boundary s at ≡ true) whe
       by_tests : (t : Bool) → boundary s k ≡ t → (at < k) ⊎ (k ≤ at) → piece_of m s at k ≡ known_to m s at k
       by_tests true e (inl l) =
           piece-between m s at k l on e
-          ∙ ap (λ (t : Bool). piece_here (known m (part s at k)) t m.unknown) (ne_eqb k (next s at) other)
-          ∙ here-other (known m (part s at k)) m.unknown
-          ∙ sym (known_on m s at k l e)
+          ∙ rw (ne_eqb k (next s at) other, known_on m s at k l e) (here-other (known m (part s at k)) m.unknown)
       by_tests true e (inr l) =
           absent-piece k (λ p q. let h : at < k = (between m s at k p q).forward in omega arith) ∙ sym (known-back m s at k l)
       by_tests false e w = absent-piece k (λ p q. true-false (between m s at k p q).to e) ∙ sym (known-off m s at k e)
@@ -312,8 +310,7 @@ module _ (m : Model) (s : List ℕ) (at : ℕ) (on : boundary s at ≡ true) whe
         let l = next-above s well at on below in
         let e = next-boundary s well at on below in
         piece-between m s at (next s at) l on e
-        ∙ ap (λ (t : Bool). piece_here (known m (part s at (next s at))) t m.unknown) (eq-eqb (next s at) (next s at) refl)
-        ∙ ap (λ (o : Option Piece). piece_here o true m.unknown) (sym (known_on m s at (next s at) l e))
+        ∙ rw (eq-eqb (next s at) (next s at) refl, known_on m s at (next s at) l e)
 
     module _ {x : Double} {before after : Slots} {r : Bool} (o : KnownOffered m s at (next s at) x before after r) where
       at_next : (k : ℕ) → (k ≡ next s at) ⊎ (k ≡ next s at → ⊥)
@@ -331,15 +328,10 @@ module _ (m : Model) (s : List ℕ) (at : ℕ) (on : boundary s at ≡ true) whe
           let here : piece_of m s at (next s at) ≡ known_to m s at (next s at) =
           one_char ∙ here-one (known_to m s at (next s at)) m.unknown w.0 w.1 ∙ sym w.1
           in
-          record {
-            slots = λ k.
-                o.slots k
-                ∙ ap (λ (p : Option Piece). after_offer p x at (slot_at before k))
-                (sym
-                (⊎_elim (λ (h : k ≡ next s at). subst (λ (n : ℕ). piece_of m s at n ≡ known_to m s at n) (sym h) here)
-                (λ h. piece-known k h)
-                (at_next k)));
-          }
+          let each : (k : ℕ) → piece_of m s at k ≡ known_to m s at k =
+          λ k. ⊎_elim (λ (h : k ≡ next s at). rw h here) (λ h. piece-known k h) (at_next k)
+          in
+          record { slots = λ k. rw (each k) (o.slots k) }
 
       -- none has, and the unknown piece is offered
       pub all-unknown :
@@ -351,26 +343,14 @@ module _ (m : Model) (s : List ℕ) (at : ℕ) (on : boundary s at ≡ true) whe
           let n = next s at in
           let missing : known_to m s at n ≡ None = is_none (known_to m s at n) (sym o.seen ∙ e) in
           let here : piece_of m s at n ≡ Some m.unknown = one_char ∙ here-unknown (known_to m s at n) m.unknown missing in
-          let was : slot_at after n ≡ slot_at before n =
-          o.slots n ∙ ap (λ (p : Option Piece). after_offer p x at (slot_at before n)) missing
-          in
+          let stood : slot_at after n ≡ slot_at before n = rw missing at (o.slots n) in
           let now : slot_at last n ≡ after_offer (piece_of m s at n) x at (slot_at before n) =
-          put.slots n
-          ∙ ap (λ (t : Bool). cond t (taken (slot_at after n) (candidate x at m.unknown)) (slot_at after n)) (eq-eqb n n refl)
-          ∙ ap (λ (q : Slot). taken q (candidate x at m.unknown)) was
-          ∙ ap (λ (p : Option Piece). after_offer p x at (slot_at before n)) (sym here)
+          rw here (rw (eq-eqb n n refl, stood) at (put.slots n))
           in
           record {
             slots = λ k.
-                ⊎_elim
-                (λ (h : k ≡ n).
-                subst (λ (i : ℕ). slot_at last i ≡ after_offer (piece_of m s at i) x at (slot_at before i)) (sym h) now)
-                (λ h.
-                put.slots k
-                ∙ ap (λ (t : Bool). cond t (taken (slot_at after n) (candidate x at m.unknown)) (slot_at after k))
-                (ne_eqb k n h)
-                ∙ o.slots k
-                ∙ ap (λ (p : Option Piece). after_offer p x at (slot_at before k)) (sym (piece-known k h)))
+                ⊎_elim (λ (h : k ≡ n). rw h now)
+                (λ h. rw (piece-known k h) ((rw (ne_eqb k n h) at (put.slots k)) ∙ o.slots k))
                 (at_next k);
           }
 
@@ -382,7 +362,7 @@ offer-listed :
     → after_offer o x at r ≡ after_offers is_number (option_to_list o) x at r
 unfolding after_offer after_offers candidate
 offer-listed None x at r number = refl
-offer-listed (Some p) x at r number = ap (λ (t : Bool). cond t (taken r (candidate x at p)) r) (sym (number p refl))
+offer-listed (Some p) x at r number = rw (number p refl)
 
 pub worked-all :
     {m : Model} {s : List ℕ} (ready : Ready m s) (at : ℕ) (on : boundary s at ≡ true) (below : at < length s) {r : ℕ}

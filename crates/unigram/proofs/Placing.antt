@@ -85,28 +85,28 @@ run_of run at = cond (ltb run at) (Some run) None
 
 run-there : (run at : ℕ) → run < at → run_of run at ≡ Some run
 unfolding run_of
-run-there run at l = ap (λ (t : Bool). cond t (Some run) None) (lt-ltb run at l)
+run-there run at l = rw (lt-ltb run at l, run_of)
 
 run_none : (run at : ℕ) → at ≤ run → run_of run at ≡ None
 unfolding run_of
-run_none run at l = ap (λ (t : Bool). cond t (Some run) None) (le-ltb run at l)
+run_none run at l = rw (le-ltb run at l, run_of)
 
 module _ (id_of : ℕ → ℕ → Option ℕ) (unknown : ℕ) where
   pub ids-there : (run at : ℕ) → run < at → run_ids id_of unknown run at ≡ run_id id_of unknown run at ∷ []
   unfolding run_ids
-  ids-there run at l = ap (λ (t : Bool). cond t (run_id id_of unknown run at ∷ []) []) (lt-ltb run at l)
+  ids-there run at l = rw (lt-ltb run at l, run_ids)
 
   pub ids-none : (run at : ℕ) → at ≤ run → run_ids id_of unknown run at ≡ []
   unfolding run_ids
-  ids-none run at l = ap (λ (t : Bool). cond t (run_id id_of unknown run at ∷ []) []) (le-ltb run at l)
+  ids-none run at l = rw (le-ltb run at l, run_ids)
 
   pub closes-not : (run at x : ℕ) → x ≡ unknown → closing id_of unknown run at x ≡ []
   unfolding closing
-  closes-not run at x e = ap (λ (t : Bool). cond t [] (run_ids id_of unknown run at ++ (x ∷ []))) (eq-eqb x unknown e)
+  closes-not run at x e = rw (eq-eqb x unknown e, closing)
 
   pub closes : (run at x : ℕ) → (x ≡ unknown → ⊥) → closing id_of unknown run at x ≡ run_ids id_of unknown run at ++ (x ∷ [])
   unfolding closing
-  closes run at x e = ap (λ (t : Bool). cond t [] (run_ids id_of unknown run at ++ (x ∷ []))) (ne_eqb x unknown e)
+  closes run at x e = rw (ne_eqb x unknown e, closing)
 
   -- the run still to come, and where it begins
   owed-is : (run at : ℕ) → owed id_of unknown (run_of run at) at ≡ run_ids id_of unknown run at
@@ -119,10 +119,8 @@ module _ (id_of : ℕ → ℕ → Option ℕ) (unknown : ℕ) where
 
   begun-is : (run at : ℕ) → run ≤ at → begun id_of unknown (run_of run at) at ≡ run
   begun-is run at back =
-      ⊎_elim (λ (l : run < at). ap (λ (o : Option ℕ). begun id_of unknown o at) (run-there run at l))
-      (λ (l : at ≤ run).
-      let one : at ≡ run = omega arith in
-      ap (λ (o : Option ℕ). begun id_of unknown o at) (run_none run at l) ∙ one)
+      ⊎_elim (λ (l : run < at). rw (run-there run at l))
+      (λ (l : at ≤ run). let one : at ≡ run = omega arith in rw (run_none run at l) one)
       (below_or run at)
 
   -- at the end
