@@ -61,7 +61,8 @@ row_piece scores (Some i) = Some (record { id = i; score = get_or scores i plus_
 pub lent-doubles : (xs : List Float) → ((k : ℕ) → k < length xs → T (fits binary64 (get_or xs k nan))) → Doubles (map units xs)
 lent-doubles xs good k h =
     let inside : k < length xs = omega (arith, length-map xs units) in
-    subst (λ (x : Double). T (is_double x)) (sym (get_or-map-inside units xs k nan plus_zero inside)) (units-is-double (get_or xs k nan) (good k inside))
+    subst (λ (x : Double). T (is_double x)) (sym (get_or-map-inside units xs k nan plus_zero inside))
+    (units-is-double (get_or xs k nan) (good k inside))
 
 -- ---- the first row with a token
 
@@ -113,7 +114,9 @@ first-row-exactly tokens b s i = (
     only : IsFirst tokens (b ∷ s) i → (j : ℕ) → place tokens (b ∷ s) ≡ Some j → j ≡ i
     only f j e =
         ⊎_elim (λ (h : j < i). absurd (f.earlier j h (place_at tokens (b ∷ s) j e)))
-        (λ (h : i ≤ j). ⊎_elim (λ (l : i < j). absurd (place-earlier tokens (b ∷ s) j i e l f.token)) (λ (l : j ≤ i). omega arith) (below_or i j))
+        (λ (h : i ≤ j).
+        ⊎_elim (λ (l : i < j). absurd (place-earlier tokens (b ∷ s) j i e l f.token)) (λ (l : j ≤ i). omega arith)
+        (below_or i j))
         (below_or j i)
 
 -- ---- the pieces of the trie of some rows
@@ -130,10 +133,14 @@ module _ (tab : List ℕ) (rows : List Row) (bytes : Bytes tab) (few : length ro
   rows-lookup = unigram-lookup tab rows bytes (omega (arith, few))
 
   -- where its walk ends, its name stands
-  node-named : (s : List ℕ) (k : ℕ) → walk (unigram_trie tab rows) 0 s ≡ Some k → (k < nodes_of tab rows) × (get_or (names tokens) k [] ≡ s)
+  node-named :
+      (s : List ℕ) (k : ℕ) → walk (unigram_trie tab rows) 0 s ≡ Some k
+      → (k < nodes_of tab rows) × (get_or (names tokens) k [] ≡ s)
   unfolding unigram_trie trie_of
   node-named s k w =
-      let here : place (names tokens) s ≡ Some k = sym (walk-built rule (names tokens) (grown-names tokens (tokens-bytes tab rows bytes)) s) ∙ w in
+      let here : place (names tokens) s ≡ Some k =
+      sym (walk-built rule (names tokens) (grown-names tokens (tokens-bytes tab rows bytes)) s) ∙ w
+      in
       (place-below (names tokens) s k here, place_at (names tokens) s k here)
 
   -- and its piece is that row's
@@ -142,7 +149,9 @@ module _ (tab : List ℕ) (rows : List Row) (bytes : Bytes tab) (few : length ro
     model = record { trie = unigram_trie tab rows; score = unigram_scores tab rows; unknown = unknown }
 
     -- the rule, where the walk is known
-    rule-is : {o : Option ℕ} → walk (unigram_trie tab rows) 0 s ≡ o → rule s ≡ elim o [ None ↦ None | Some k ↦ id_at (unigram_trie tab rows) k ]
+    rule-is :
+        {o : Option ℕ} → walk (unigram_trie tab rows) 0 s ≡ o
+        → rule s ≡ elim o [ None ↦ None | Some k ↦ id_at (unigram_trie tab rows) k ]
     unfolding id_of id_from
     rule-is w = sym (rows-lookup s) ∙ ap (λ (o : Option ℕ). elim o [ None ↦ None | Some k ↦ id_at (unigram_trie tab rows) k ]) w
 
@@ -152,16 +161,19 @@ module _ (tab : List ℕ) (rows : List Row) (bytes : Bytes tab) (few : length ro
       where
         at-node :
             (k : ℕ) → walk model.trie 0 s ≡ Some k → (o : Option ℕ) → rule s ≡ o
-            → elim o [ None ↦ None | Some i ↦ Some (record { id = i; score = get_or model.score k plus_zero }) ] ≡ row_piece (scores_of rows) o
+            → elim o [ None ↦ None | Some i ↦ Some (record { id = i; score = get_or model.score k plus_zero }) ]
+            ≡ row_piece (scores_of rows) o
         at-node k w None r = refl
         at-node k w (Some i) r =
             let n = node-named s k w in
             ap (λ (x : Double). Some (record { id = i; score = x }))
-            (score-at tab rows k n.0 ∙ ap (λ (t : List ℕ). node_score_of (scores_of rows) (rule t)) n.1 ∙ ap (node_score_of (scores_of rows)) r)
+            (score-at tab rows k n.0 ∙ ap (λ (t : List ℕ). node_score_of (scores_of rows) (rule t)) n.1
+            ∙ ap (node_score_of (scores_of rows)) r)
 
         by-walk : (o : Option ℕ) → walk model.trie 0 s ≡ o → known model s ≡ row_piece (scores_of rows) (rule s)
         by-walk None w =
-            ap (λ (o : Option ℕ). elim o [ None ↦ None | Some k ↦ piece_at model k ]) w ∙ sym (ap (row_piece (scores_of rows)) (rule-is w))
+            ap (λ (o : Option ℕ). elim o [ None ↦ None | Some k ↦ piece_at model k ]) w
+            ∙ sym (ap (row_piece (scores_of rows)) (rule-is w))
         by-walk (Some k) w =
             ap (λ (o : Option ℕ). elim o [ None ↦ None | Some k ↦ piece_at model k ]) w
             ∙ at-node k w (id_at model.trie k) (rule-is w)
@@ -169,14 +181,16 @@ module _ (tab : List ℕ) (rows : List Row) (bytes : Bytes tab) (few : length ro
 
 -- ---- sound parts are not refused with 8
 
-pub sound-not-refused : (m : Model) → sound_model m ≡ true → (s : List ℕ) (n : Lengths) → segment_fault (sound_model m) s n ≡ Some fault.Trie → ⊥
+pub sound-not-refused :
+    (m : Model) → sound_model m ≡ true → (s : List ℕ) (n : Lengths) → segment_fault (sound_model m) s n ≡ Some fault.Trie → ⊥
 sound-not-refused m sound s n e =
     let z : true ≡ false = sound-fault (sound_model m) s n sound e in
     zero_one cc
 
 -- ---- after a build
 
-module _ (tab : List ℕ) (c : Columns) (m after : Memory) (s : Summary) (bytes : Bytes tab) (b : Built tab c m (Ok s) after) where
+module _ (tab : List ℕ) (c : Columns) (m after : Memory) (s : Summary) (bytes : Bytes tab)
+    (b : Built tab c m (Ok s) after) where
   -- a list that was built has no fault
   pub built-fine : columns_fault Unigram tab c ≡ None
   unfolding told
@@ -208,7 +222,9 @@ module _ (tab : List ℕ) (c : Columns) (m after : Memory) (s : Summary) (bytes 
   built-lookup t = ap (λ (x : Trie). id_of x t) built-parts ∙ rows-lookup tab (rows_of c) bytes few t
 
   -- and as a piece it has that row's score, so a repeated token keeps its first id and score
-  pub built-piece : (unknown : Piece) (t : List ℕ) → known (model_in s.nodes after unknown) t ≡ row_piece c.score (first_row (tokens_of tab (rows_of c)) t)
+  pub built-piece :
+      (unknown : Piece) (t : List ℕ)
+      → known (model_in s.nodes after unknown) t ≡ row_piece c.score (first_row (tokens_of tab (rows_of c)) t)
   built-piece unknown t =
       (λ i. known (record { trie = built-parts i; score = built-scores i; unknown = unknown }) t)
       ∙ rows-piece tab (rows_of c) bytes few unknown t
@@ -219,7 +235,8 @@ module _ (tab : List ℕ) (c : Columns) (m after : Memory) (s : Summary) (bytes 
     pub built-sound : sound_scored (parts_in s.nodes after) (take s.nodes after.score) (units s.unknown_score) ≡ true
     built-sound =
         (λ i. sound_scored (built-parts i) (built-scores i) (ap (λ (r : Report). r.unknown) report i))
-        ∙ rows-scored tab (rows_of c) (rows-fine Unigram tab c built-fine) bytes few (subst Doubles (sym (scores-are tab c built-fine)) doubles)
+        ∙ rows-scored tab (rows_of c) (rows-fine Unigram tab c built-fine) bytes few
+        (subst Doubles (sym (scores-are tab c built-fine)) doubles)
 
     -- so `segment` does not find 8 in it, whatever the unknown id, the text and the scratch
     module _ (unknown : ℕ) where
@@ -231,4 +248,5 @@ module _ (tab : List ℕ) (c : Columns) (m after : Memory) (s : Summary) (bytes 
 
       -- and never answers so
       pub built-not-answered : (t : List ℕ) (scratch left : Scratch) → Segmented parts t scratch (Err fault.Trie) left → ⊥
-      built-not-answered t scratch left p = built-not-refused t (lengths_of scratch) ((refused-exactly p.coded fault.Trie).0 refl)
+      built-not-answered t scratch left p =
+          built-not-refused t (lengths_of scratch) ((refused-exactly p.coded fault.Trie).0 refl)

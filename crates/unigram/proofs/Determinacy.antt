@@ -18,7 +18,8 @@ use Rattle.unigram.specs.Segment.{Scratch, lengths_of, segment_fault, sound_mode
 use Rattle.unigram.specs.Checked.{scratch_of}
 
 pub segmented-once :
-    {m : Model} {s : List ℕ} {b : Scratch} {a₁ a₂ : Result ℕ Fault} {b₁ b₂ : Scratch} → Segmented m s b a₁ b₁ → Segmented m s b a₂ b₂
+    {m : Model} {s : List ℕ} {b : Scratch} {a₁ a₂ : Result ℕ Fault} {b₁ b₂ : Scratch} → Segmented m s b a₁ b₁
+    → Segmented m s b a₂ b₂
     → (a₁ ≡ a₂) × (b₁ ≡ b₂)
 segmented-once p q = coded-once p.coded q.coded
 
@@ -45,7 +46,8 @@ module _ {a b c d a' b' c' d' : List ℕ} (x x' : List Float) (held : T (all_hel
 
 -- "exactly when", both ways: a call of `segment` is refused with f exactly when f is the first fault, and answers with ids
 -- exactly when there is none
-module _ {m : Model} {s : List ℕ} {before after : Scratch} {answer : Result ℕ Fault} (p : Segmented m s before answer after) where
+module _ {m : Model} {s : List ℕ} {before after : Scratch} {answer : Result ℕ Fault}
+    (p : Segmented m s before answer after) where
   pub refused-exactly : (f : Fault) → (answer ≡ Err f) ↔ (segment_fault (sound_model m) s (lengths_of before) ≡ Some f)
   refused-exactly = codings.refused-exactly p.coded
 

@@ -15,7 +15,8 @@ use lib.Seq.{take-add}
 use Rattle.doubles.specs.Double.{Double, not_a_number, infinite, finite, plus_zero, sum, is_number, is_finite}
 use Rattle.doubles.proofs.Order.{at-most-numbers}
 use Rattle.text.specs.Text.{well_formed, boundary, next, part, characters}
-use Rattle.text.proofs.Boundaries.{boundary-le, boundary-zero, next-above, next-boundary, next-first, characters-append, characters-next}
+use Rattle.text.proofs.Boundaries.{boundary-le, boundary-zero, next-above, next-boundary, next-first, characters-append}
+use Rattle.text.proofs.Boundaries.{characters-next}
 use Rattle.trie.specs.Trie.{walk, id_at}
 use Rattle.trie.proofs.SoundParts.{SoundScored, sound-of, scored-of}
 use Rattle.trie.proofs.Walking.{walk_inside}
@@ -38,7 +39,9 @@ piece_here o one unknown = first o (cond one (Some unknown) None)
 
 module _ (m : Model) (s : List ℕ) (i j : ℕ) where
   -- from boundary to boundary
-  pub piece-between : i < j → boundary s i ≡ true → boundary s j ≡ true → piece_of m s i j ≡ piece_here (known m (part s i j)) (eqb j (next s i)) m.unknown
+  pub piece-between :
+      i < j → boundary s i ≡ true → boundary s j ≡ true
+      → piece_of m s i j ≡ piece_here (known m (part s i j)) (eqb j (next s i)) m.unknown
   unfolding piece_of
   piece-between l p q =
       ap (λ (t : Bool). cond t (piece_here (known m (part s i j)) (eqb j (next s i)) m.unknown) None)
@@ -63,22 +66,31 @@ module _ (m : Model) (s : List ℕ) (i j : ℕ) where
       by_tests false b' c' a b c e = none-some e
 
 -- what a piece is where it is
-pub here-known : (o : Option Piece) (one : Bool) (u p : Piece) → piece_here o one u ≡ Some p → (o ≡ Some p) ⊎ ((o ≡ None) × (one ≡ true) × (u ≡ p))
+pub here-known :
+    (o : Option Piece) (one : Bool) (u p : Piece) → piece_here o one u ≡ Some p
+    → (o ≡ Some p) ⊎ ((o ≡ None) × (one ≡ true) × (u ≡ p))
 unfolding first
 here-known (Some q) one u p e = inl e
 here-known None true u p e = inr (refl, refl, let same : u ≡ p = cc in same)
 here-known None false u p e = none-some e
 
 -- a known piece is that of the node where its walk ends
-pub known-node : (m : Model) (s : List ℕ) (p : Piece) → known m s ≡ Some p → (k : ℕ) × (walk m.trie 0 s ≡ Some k) × (p.score ≡ get_or m.score k plus_zero)
+pub known-node :
+    (m : Model) (s : List ℕ) (p : Piece) → known m s ≡ Some p
+    → (k : ℕ) × (walk m.trie 0 s ≡ Some k) × (p.score ≡ get_or m.score k plus_zero)
 unfolding known piece_at
 known-node m s p = by-walk (walk m.trie 0 s) refl
   where
-    at-node : (k : ℕ) (o : Option ℕ) → walk m.trie 0 s ≡ Some k → elim o [ None ↦ None | Some i ↦ Some (record { id = i; score = get_or m.score k plus_zero }) ] ≡ Some p → (n : ℕ) × (walk m.trie 0 s ≡ Some n) × (p.score ≡ get_or m.score n plus_zero)
+    at-node :
+        (k : ℕ) (o : Option ℕ) → walk m.trie 0 s ≡ Some k
+        → elim o [ None ↦ None | Some i ↦ Some (record { id = i; score = get_or m.score k plus_zero }) ] ≡ Some p
+        → (n : ℕ) × (walk m.trie 0 s ≡ Some n) × (p.score ≡ get_or m.score n plus_zero)
     at-node k None w e = none-some e
     at-node k (Some i) w e = (k, w, ap (λ (x : Option Piece). elim x [ None ↦ p.score | Some q ↦ q.score ]) (sym e))
 
-    by-walk : (o : Option ℕ) → walk m.trie 0 s ≡ o → elim o [ None ↦ None | Some k ↦ piece_at m k ] ≡ Some p → (k : ℕ) × (walk m.trie 0 s ≡ Some k) × (p.score ≡ get_or m.score k plus_zero)
+    by-walk :
+        (o : Option ℕ) → walk m.trie 0 s ≡ o → elim o [ None ↦ None | Some k ↦ piece_at m k ] ≡ Some p
+        → (k : ℕ) × (walk m.trie 0 s ≡ Some k) × (p.score ≡ get_or m.score k plus_zero)
     by-walk None w e = none-some e
     by-walk (Some k) w e = at-node k (id_at m.trie k) w e
 
@@ -156,9 +168,11 @@ module _ (m : Model) (s : List ℕ) (well : well_formed s ≡ true) (tested : so
   boundary-stands = all-stand given reach (λ j c. total-number given c)
 
   -- where no piece ends the record stays empty: at 0, and inside characters
-  ends-empty : (from j : ℕ) → ((i k : ℕ) (p : Piece) → nth ((rule m s).pieces i j) k ≡ Some p → ⊥) → best (rule m s) from j ≡ None
+  ends-empty :
+      (from j : ℕ) → ((i k : ℕ) (p : Piece) → nth ((rule m s).pieces i j) k ≡ Some p → ⊥) → best (rule m s) from j ≡ None
   ends-empty from j no_such =
-      unchanged (rule m s) 0 from j (omega arith) (λ i l h. absent ((rule m s).pieces i j) (no_such i)) ∙ none_before (rule m s) j
+      unchanged (rule m s) 0 from j (omega arith) (λ i l h. absent ((rule m s).pieces i j) (no_such i))
+      ∙ none_before (rule m s) j
 
   pub first-empty : (from : ℕ) → best (rule m s) from 0 ≡ None
   first-empty from = ends-empty from 0 (λ i k p e. omega (arith, given.forward i 0 k p e))
@@ -171,14 +185,21 @@ module _ (m : Model) (s : List ℕ) (well : well_formed s ≡ true) (tested : so
   starts-on i j k p e = (between m s i j p (listed_has (piece_of m s i j) k p e)).from
 
   -- a piece takes at least one character
-  pub piece-rises : (i j k : ℕ) (p : Piece) → nth ((rule m s).pieces i j) k ≡ Some p → characters (take i s) < characters (take j s)
+  pub piece-rises :
+      (i j k : ℕ) (p : Piece) → nth ((rule m s).pieces i j) k ≡ Some p → characters (take i s) < characters (take j s)
   piece-rises i j place p e =
       let b = between m s i j p (listed_has (piece_of m s i j) place p e) in
       let below : i < length s = omega (arith, b.forward, boundary-le s j b.to) in
       let reach : next s i ≤ j =
-      ⊎_elim (λ (h : j < next s i). absurd (true-false b.to (next-first s well i b.from below j b.forward h))) (λ (h : next s i ≤ j). h) (below_or j (next s i))
+      ⊎_elim (λ (h : j < next s i). absurd (true-false b.to (next-first s well i b.from below j b.forward h)))
+      (λ (h : next s i ≤ j). h) (below_or j (next s i))
       in
       let k = next s i in
       let there : k + (j - k) ≡ j = omega arith in
-      omega
-      (arith, characters-next s well i b.from below, ap (λ (n : ℕ). characters (take n s)) there, ap characters (take-add k (j - k) s), characters-append (take k s) (take (j - k) (drop k s)))
+      omega (
+        arith,
+        characters-next s well i b.from below,
+        ap (λ (n : ℕ). characters (take n s)) there,
+        ap characters (take-add k (j - k) s),
+        characters-append (take k s) (take (j - k) (drop k s)),
+      )

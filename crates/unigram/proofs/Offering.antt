@@ -1,9 +1,9 @@
 -- The work at one boundary. A walk from it offers each string with an id at its end, byte by byte: what the walk has come to
 -- says which string that is, and where it stops no longer one has an id (`offered-all`). With the one character that has none,
 -- that is every piece (`worked-all`), so the slots hold the records of one start more. Assumes nothing.
-use Rattle.std.specs.Prelude.{Option, None, Some, option_and_then, option_to_list, is_some}
+use Rattle.std.specs.Prelude.{Option, None, Some, option_to_list, is_some}
 use mathlib.Core.Path.{◌≡◌, refl, sym, ap, subst, ◌∙◌}
-use mathlib.Core.Bool.{Bool, true, false, ◌&&◌, ◌||◌, cond}
+use mathlib.Core.Bool.{Bool, true, false, ◌&&◌, ◌||◌}
 use mathlib.Core.List.{List, [], ◌∷◌, ◌++◌}
 use mathlib.Core.Logic.{◌⊎◌, inl, inr, ⊎_elim}
 use Prim.Native.Nat.{ℕ, suc, ◌+◌, ◌-◌, ◌≤◌, ◌<◌}
@@ -13,6 +13,7 @@ use lib.Dec.{eqb, ltb, leb}
 use lib.Ieee.{Float}
 use lib.ListN.{length, get_or, take, drop, length-drop}
 use lib.Seq.{take-suc, get_or-drop, take-add}
+use Rattle.std.proofs.lemmas.Bool.Decides.{nat_tests}
 use Rattle.doubles.specs.Double.{Double, plus_zero, sum, is_number}
 use Rattle.doubles.proofs.Sums.{sum_number}
 use Rattle.text.specs.Text.{well_formed, boundary, next, part}
@@ -43,13 +44,12 @@ module _ (m : Model) (k : ℕ) where
       {o : Option ℕ} → id_at m.trie k ≡ o
       → piece_at m k ≡ elim o [ None ↦ None | Some i ↦ Some (record { id = i; score = get_or m.score k plus_zero }) ]
   unfolding piece_at
-  piece_is e =
-      ap (λ (o : Option ℕ). elim o [ None ↦ None | Some i ↦ Some (record { id = i; score = get_or m.score k plus_zero }) ]) e
+  piece_is e = rw (e, piece_at)
 
   pub ends_is :
       (s : List ℕ) (i : ℕ) {t : Bool} → boundary s i ≡ t → ends_here m s k i ≡ elim t [ true ↦ piece_at m k | false ↦ None ]
   unfolding ends_here
-  ends_is s i e = ap (λ (t : Bool). elim t [ true ↦ piece_at m k | false ↦ None ]) e
+  ends_is s i e = rw (e, ends_here)
 
 or_nothing : (a b : Bool) → a ≡ (a || (b && false))
 or_nothing true b = refl
@@ -65,11 +65,7 @@ module _ (m : Model) (s : List ℕ) (node i one : ℕ) (single : Bool) (at : ℕ
   -- no piece ends here
   ended-none : ends_here m s node i ≡ None → Ended m s node i one single at x b b single
   unfolding after_offer
-  ended-none e =
-      record {
-        put = put_back b i (ap (λ (o : Option Piece). after_offer o x at (slot_at b i)) (sym e));
-        seen = or_nothing single (eqb i one) ∙ ap (λ (o : Option Piece). single || (eqb i one && is_some o)) (sym e);
-      }
+  ended-none e = record { put = put_back b i (rw e); seen = rw e (or_nothing single (eqb i one)) }
 
   -- the position is no boundary, or the node has no id
   pub ended-inside : boundary s i ≡ false → Ended m s node i one single at x b b single
@@ -89,11 +85,8 @@ module _ (m : Model) (s : List ℕ) (node i one : ℕ) (single : Bool) (at : ℕ
       let p : Piece = record { id = q.id; score = get_or m.score node plus_zero } in
       let ends : ends_here m s node i ≡ Some p = ends_is m node s i e ∙ piece_is m node h in
       record {
-        put =
-            put_as put
-            (ap (taken (slot_at b i)) (same-slot q (candidate x at p) start refl score)
-            ∙ ap (λ (o : Option Piece). after_offer o x at (slot_at b i)) (sym ends));
-        seen = seen ∙ or-that single (eqb i one) ∙ ap (λ (o : Option Piece). single || (eqb i one && is_some o)) (sym ends);
+        put = put_as put (rw ends (ap (taken (slot_at b i)) (same-slot q (candidate x at p) start refl score)));
+        seen = rw ends (seen ∙ or-that single (eqb i one));
       }
 
 -- ---- the string that a walk from `at` has come to
@@ -101,24 +94,20 @@ module _ (m : Model) (s : List ℕ) (node i one : ℕ) (single : Bool) (at : ℕ
 known_is :
     (m : Model) (s : List ℕ) {o : Option ℕ} → walk m.trie 0 s ≡ o → known m s ≡ elim o [ None ↦ None | Some k ↦ piece_at m k ]
 unfolding known
-known_is m s e = ap (λ (o : Option ℕ). elim o [ None ↦ None | Some k ↦ piece_at m k ]) e
+known_is m s e = rw (e, known)
 
 module _ (m : Model) (s : List ℕ) (at : ℕ) where
-  first-false : {a : Bool} (b : Bool) → a ≡ false → a && b ≡ false
-  first-false b p = ap (λ (t : Bool). t && b) p
-
-  to-known : (j : ℕ) (t : Bool) → ltb at j && boundary s j ≡ t → known_to m s at j ≡ elim t [ true ↦ known m (part s at j) | false ↦ None ]
-  unfolding known_to
-  to-known j t e = ap (λ (b : Bool). elim b [ true ↦ known m (part s at j) | false ↦ None ]) e
-
   pub known_on : (j : ℕ) → at < j → boundary s j ≡ true → known_to m s at j ≡ known m (part s at j)
-  known_on j l e = to-known j true (both (lt-ltb at j l) e)
+  unfolding known_to
+  known_on j l e = rw (both (lt-ltb at j l) e, known_to)
 
   pub known-off : (j : ℕ) → boundary s j ≡ false → known_to m s at j ≡ None
-  known-off j e = to-known j false (fails (ltb at j) (boundary s j) e)
+  unfolding known_to
+  known-off j e = rw (fails (ltb at j) (boundary s j) e, known_to)
 
   pub known-back : (j : ℕ) → j ≤ at → known_to m s at j ≡ None
-  known-back j l = to-known j false (first-false (boundary s j) (le-ltb at j l))
+  unfolding known_to
+  known-back j l = rw (le-ltb at j l, known_to)
 
   -- no string passes the end
   pub known_past : (j : ℕ) → length s < j → known_to m s at j ≡ None
@@ -130,7 +119,8 @@ module _ (m : Model) (s : List ℕ) (at : ℕ) where
 
   -- nor one where the walk has stopped
   pub known-stopped : (j : ℕ) → (at < j → walk m.trie 0 (part s at j) ≡ None) → known_to m s at j ≡ None
-  known-stopped j none-there = ⊎_elim (λ (l : at < j). by-test l (boundary s j) refl) (λ (l : j ≤ at). known-back j l) (below_or at j)
+  known-stopped j none-there =
+      ⊎_elim (λ (l : at < j). by-test l (boundary s j) refl) (λ (l : j ≤ at). known-back j l) (below_or at j)
     where
       by-test : at < j → (t : Bool) → boundary s j ≡ t → known_to m s at j ≡ None
       by-test l true e = known_on j l e ∙ known_is m (part s at j) (none-there l)
@@ -154,14 +144,11 @@ module _ (m : Model) (s : List ℕ) (at : ℕ) where
       ∙ ap (λ (b : ℕ). part s at i ++ (b ∷ [])) (get_or-drop at s (i - at) 0 ∙ ap (λ (n : ℕ). get_or s n 0) there)
 
   pub walk-none-yet : walk m.trie 0 (part s at at) ≡ Some 0
-  walk-none-yet = ap (λ (n : ℕ). walk m.trie 0 (take n (drop at s))) (let e : at - at ≡ 0 = omega arith in e) ∙ walk-nil m.trie 0
+  walk-none-yet = let e : at - at ≡ 0 = omega arith in rw e (walk-nil m.trie 0)
 
   module _ (i k : ℕ) (l : at ≤ i) (h : i < length s) (w : walk m.trie 0 (part s at i) ≡ Some k) where
     stepped : walk m.trie 0 (part s at (i + 1)) ≡ step m.trie k (get_or s i 0)
-    stepped =
-        ap (walk m.trie 0) (part-more i l h)
-        ∙ walk-snoc m.trie 0 (part s at i) (get_or s i 0)
-        ∙ ap (λ (o : Option ℕ). option_and_then (λ j. step m.trie j (get_or s i 0)) o) w
+    stepped = rw (part-more i l h) (walk-snoc m.trie 0 (part s at i) (get_or s i 0) ∙ rw w)
 
     pub walk-on : (j : ℕ) → step m.trie k (get_or s i 0) ≡ Some j → walk m.trie 0 (part s at (i + 1)) ≡ Some j
     walk-on j e = stepped ∙ e
@@ -179,32 +166,9 @@ module _ (m : Model) (s : List ℕ) (at : ℕ) where
 
 -- ---- the turns of the walk
 
-or_no : (a b : Bool) → (a || (false && b)) ≡ a
-or_no true b = refl
-or_no false b = refl
-
 -- a test passed at `one`, once the walk has come one byte further
 spot : (f : ℕ → Bool) (one i : ℕ) → ((leb one i && f one) || (eqb (i + 1) one && f (i + 1))) ≡ (leb one (i + 1) && f one)
-spot f one i =
-    ⊎_elim
-    (λ (l : i < one).
-    ⊎_elim
-    (λ (k : i + 1 < one). left false false (lt-leb one i l) (ne_eqb (i + 1) one (λ e. omega arith)) ∙ sym (right false (lt-leb one (i + 1) k)))
-    (λ (k : one ≤ i + 1).
-    let e : i + 1 ≡ one = omega arith in
-    left false true (lt-leb one i l) (eq-eqb (i + 1) one e) ∙ ap f e ∙ sym (right true (le-leb one (i + 1) k)))
-    (below_or (i + 1) one))
-    (λ (l : one ≤ i).
-    left true false (le-leb one i l) (ne_eqb (i + 1) one (λ e. omega arith))
-    ∙ or_no (f one) (f (i + 1))
-    ∙ sym (right true (le-leb one (i + 1) (omega arith))))
-    (below_or i one)
-  where
-    left : (u v : Bool) → leb one i ≡ u → eqb (i + 1) one ≡ v → ((leb one i && f one) || (eqb (i + 1) one && f (i + 1))) ≡ ((u && f one) || (v && f (i + 1)))
-    left u v p q = ap (λ (t : Bool). (t && f one) || (eqb (i + 1) one && f (i + 1))) p ∙ ap (λ (t : Bool). (u && f one) || (t && f (i + 1))) q
-
-    right : (w : Bool) → leb one (i + 1) ≡ w → (leb one (i + 1) && f one) ≡ (w && f one)
-    right w p = ap (λ (t : Bool). t && f one) p
+spot f one i = grind (arith, nat_tests)
 
 module _ (m : Model) (s : List ℕ) (at one : ℕ) (x : Double) (b : Slots) where
   -- the slots, and whether a string of one character was seen, once the walk has come to i
@@ -217,40 +181,47 @@ module _ (m : Model) (s : List ℕ) (at one : ℕ) (x : Double) (b : Slots) wher
 
   untouched : (k : ℕ) → known_to m s at k ≡ None → slot_at b k ≡ goal k
   unfolding after_offer
-  untouched k e = ap (λ (o : Option Piece). after_offer o x at (slot_at b k)) (sym e)
+  untouched k e = rw e
 
   pub offered-none : at < one → Offered at b false
   offered-none l =
       record {
         slots = filled_of (at + 1) b (λ k h. untouched k (known-back m s at k (omega arith))) (λ k h. refl);
-        seen = ap (λ (t : Bool). t && is_some (known_to m s at one)) (sym (lt-leb one at l));
+        seen = rw (lt-leb one at l);
       }
 
-  pub offered-more : {i node : ℕ} {now after : Slots} {single r : Bool} → at ≤ i → walk m.trie 0 (part s at (i + 1)) ≡ Some node → Offered i now single → Ended m s node (i + 1) one single at x now after r → Offered (i + 1) after r
+  pub offered-more :
+      {i node : ℕ} {now after : Slots} {single r : Bool} → at ≤ i → walk m.trie 0 (part s at (i + 1)) ≡ Some node
+      → Offered i now single → Ended m s node (i + 1) one single at x now after r → Offered (i + 1) after r
   offered-more {i} {node} {now} {after} {single} {r} l w o e =
       record {
         slots =
             filled_more o.slots
-            (put_as e.put
-            (ap (λ (q : Slot). after_offer (ends_here m s node (i + 1)) x at q) (filled-above o.slots (i + 1) (omega arith))
-            ∙ ap (λ (p : Option Piece). after_offer p x at (slot_at b (i + 1))) ends));
-        seen = e.seen ∙ ap (λ (p : Option Piece). single || (eqb (i + 1) one && is_some p)) ends ∙ ap (λ (t : Bool). t || (eqb (i + 1) one && is_some (known_to m s at (i + 1)))) o.seen ∙ spot (λ k. is_some (known_to m s at k)) one i;
+            (put_as e.put (rw (ends, filled-above o.slots (i + 1) (omega arith))));
+        seen = e.seen ∙ rw (ends, o.seen) (spot (λ k. is_some (known_to m s at k)) one i);
       }
     where
       ends : ends_here m s node (i + 1) ≡ known_to m s at (i + 1)
       ends = ends-known m s at (i + 1) node (omega arith) w
 
-  pub offered-all : {i : ℕ} {now : Slots} {single : Bool} → Offered i now single → ((j : ℕ) → i < j → known_to m s at j ≡ None) → KnownOffered m s at one x b now single
+  pub offered-all :
+      {i : ℕ} {now : Slots} {single : Bool} → Offered i now single → ((j : ℕ) → i < j → known_to m s at j ≡ None)
+      → KnownOffered m s at one x b now single
   offered-all {i} {now} {single} o none-past =
       record {
         slots = λ k.
-            ⊎_elim (λ (l : k < i + 1). filled-below o.slots k l) (λ (l : i + 1 ≤ k). filled-above o.slots k l ∙ untouched k (none-past k (omega arith))) (below_or k (i + 1));
-        seen = o.seen ∙ ⊎_elim (λ (l : i < one). ap (λ (t : Bool). t && is_some (known_to m s at one)) (lt-leb one i l) ∙ ap is_some (sym (none-past one l))) (λ (l : one ≤ i). ap (λ (t : Bool). t && is_some (known_to m s at one)) (le-leb one i l)) (below_or i one);
+            ⊎_elim (λ (l : k < i + 1). filled-below o.slots k l)
+            (λ (l : i + 1 ≤ k). filled-above o.slots k l ∙ untouched k (none-past k (omega arith))) (below_or k (i + 1));
+        seen =
+            o.seen
+            ∙ ⊎_elim (λ (l : i < one). rw (lt-leb one i l, none-past one l)) (λ (l : one ≤ i). rw (le-leb one i l))
+            (below_or i one);
       }
 
--- The walk has come to `node` at i, and each string that ends by i has been offered. A walk in sound parts stands on a node, so a
--- further step may be made, and where that leads there are an id and a score.
-pub record Walked (m : Model) (s : List ℕ) (at one : ℕ) (x : Double) (b : Slots) (i node : ℕ) (now : Slots) (single : Bool) : Type 0 where
+-- The walk has come to `node` at i, and each string that ends by i has been offered. A walk in sound parts stands on a node, so
+-- a further step may be made, and where that leads there are an id and a score.
+pub record Walked (m : Model) (s : List ℕ) (at one : ℕ) (x : Double) (b : Slots) (i node : ℕ) (now : Slots) (single : Bool) :
+    Type 0 where
   pub here : walk m.trie 0 (part s at i) ≡ Some node
   pub offered : Offered m s at one x b i now single
 
@@ -284,7 +255,8 @@ module _ {m : Model} {s : List ℕ} {at one : ℕ} {x : Double} {b : Slots} (abl
             (id_there m.trie able.parts (part s at (i + 1)) on, omega (arith, inside, able.level-score))
 
         pub walked-more :
-            {after : Slots} {r : Bool} → Ended m s j (i + 1) one single at x now after r → Walked m s at one x b (i + 1) j after r
+            {after : Slots} {r : Bool} → Ended m s j (i + 1) one single at x now after r
+            → Walked m s at one x b (i + 1) j after r
         walked-more p = record { here = on; offered = offered-more m s at one x b from on w.offered p }
 
 -- ---- with the one character that has no id, that is every piece
@@ -300,11 +272,11 @@ here-other (Some p) u = refl
 
 here-one : (o : Option Piece) (u p : Piece) → o ≡ Some p → piece_here o true u ≡ Some p
 unfolding first
-here-one o u p e = ap (λ (q : Option Piece). piece_here q true u) e
+here-one o u p e = rw e
 
 here-unknown : (o : Option Piece) (u : Piece) → o ≡ None → piece_here o true u ≡ Some u
 unfolding first
-here-unknown o u e = ap (λ (q : Option Piece). piece_here q true u) e
+here-unknown o u e = rw e
 
 is-some : (o : Option Piece) → is_some o ≡ true → (p : Piece) × (o ≡ Some p)
 is-some None e = absurd (true-false e refl)
@@ -316,7 +288,9 @@ is_none (Some p) e = absurd (true-false refl e)
 
 module _ (m : Model) (s : List ℕ) (at : ℕ) (on : boundary s at ≡ true) where
   absent-piece : (k : ℕ) → ((p : Piece) → piece_of m s at k ≡ Some p → ⊥) → piece_of m s at k ≡ None
-  absent-piece k no_such = ⊎_elim (λ (e : piece_of m s at k ≡ None). e) (λ (w : (p : Piece) × (piece_of m s at k ≡ Some p)). absurd (no_such w.0 w.1)) (looked (piece_of m s at k))
+  absent-piece k no_such =
+      ⊎_elim (λ (e : piece_of m s at k ≡ None). e)
+      (λ (w : (p : Piece) × (piece_of m s at k ≡ Some p)). absurd (no_such w.0 w.1)) (looked (piece_of m s at k))
 
   -- any other length
   pub piece-known : (k : ℕ) → (k ≡ next s at → ⊥) → piece_of m s at k ≡ known_to m s at k
@@ -325,9 +299,7 @@ module _ (m : Model) (s : List ℕ) (at : ℕ) (on : boundary s at ≡ true) whe
       by_tests : (t : Bool) → boundary s k ≡ t → (at < k) ⊎ (k ≤ at) → piece_of m s at k ≡ known_to m s at k
       by_tests true e (inl l) =
           piece-between m s at k l on e
-          ∙ ap (λ (t : Bool). piece_here (known m (part s at k)) t m.unknown) (ne_eqb k (next s at) other)
-          ∙ here-other (known m (part s at k)) m.unknown
-          ∙ sym (known_on m s at k l e)
+          ∙ rw (ne_eqb k (next s at) other, known_on m s at k l e) (here-other (known m (part s at k)) m.unknown)
       by_tests true e (inr l) =
           absent-piece k (λ p q. let h : at < k = (between m s at k p q).forward in omega arith) ∙ sym (known-back m s at k l)
       by_tests false e w = absent-piece k (λ p q. true-false (between m s at k p q).to e) ∙ sym (known-off m s at k e)
@@ -338,66 +310,69 @@ module _ (m : Model) (s : List ℕ) (at : ℕ) (on : boundary s at ≡ true) whe
         let l = next-above s well at on below in
         let e = next-boundary s well at on below in
         piece-between m s at (next s at) l on e
-        ∙ ap (λ (t : Bool). piece_here (known m (part s at (next s at))) t m.unknown) (eq-eqb (next s at) (next s at) refl)
-        ∙ ap (λ (o : Option Piece). piece_here o true m.unknown) (sym (known_on m s at (next s at) l e))
+        ∙ rw (eq-eqb (next s at) (next s at) refl, known_on m s at (next s at) l e)
 
     module _ {x : Double} {before after : Slots} {r : Bool} (o : KnownOffered m s at (next s at) x before after r) where
       at_next : (k : ℕ) → (k ≡ next s at) ⊎ (k ≡ next s at → ⊥)
-      at_next k = ⊎_elim (λ (l : k < next s at). inr (λ e. omega arith)) (λ (l : next s at ≤ k). ⊎_elim (λ (h : next s at < k). inr (λ e. omega arith)) (λ (h : k ≤ next s at). inl (omega arith)) (below_or (next s at) k)) (below_or k (next s at))
+      at_next k =
+          ⊎_elim (λ (l : k < next s at). inr (λ e. omega arith))
+          (λ (l : next s at ≤ k).
+          ⊎_elim (λ (h : next s at < k). inr (λ e. omega arith)) (λ (h : k ≤ next s at). inl (omega arith))
+          (below_or (next s at) k))
+          (below_or k (next s at))
 
       -- a string of one character has an id
       pub all_known : r ≡ true → EachOffered m s at x before after
       all_known e =
           let w = is-some (known_to m s at (next s at)) (sym o.seen ∙ e) in
-          let here : piece_of m s at (next s at) ≡ known_to m s at (next s at) = one_char ∙ here-one (known_to m s at (next s at)) m.unknown w.0 w.1 ∙ sym w.1 in
-          record {
-            slots = λ k.
-                o.slots k
-                ∙ ap (λ (p : Option Piece). after_offer p x at (slot_at before k))
-                (sym (⊎_elim (λ (h : k ≡ next s at). subst (λ (n : ℕ). piece_of m s at n ≡ known_to m s at n) (sym h) here) (λ h. piece-known k h) (at_next k)));
-          }
+          let here : piece_of m s at (next s at) ≡ known_to m s at (next s at) =
+          one_char ∙ here-one (known_to m s at (next s at)) m.unknown w.0 w.1 ∙ sym w.1
+          in
+          let each : (k : ℕ) → piece_of m s at k ≡ known_to m s at k =
+          λ k. ⊎_elim (λ (h : k ≡ next s at). rw h here) (λ h. piece-known k h) (at_next k)
+          in
+          record { slots = λ k. rw (each k) (o.slots k) }
 
       -- none has, and the unknown piece is offered
-      pub all-unknown : {last : Slots} → r ≡ false → PutAt after (next s at) (taken (slot_at after (next s at)) (candidate x at m.unknown)) last → EachOffered m s at x before last
+      pub all-unknown :
+          {last : Slots} → r ≡ false
+          → PutAt after (next s at) (taken (slot_at after (next s at)) (candidate x at m.unknown)) last
+          → EachOffered m s at x before last
       unfolding after_offer
       all-unknown {last} e put =
           let n = next s at in
           let missing : known_to m s at n ≡ None = is_none (known_to m s at n) (sym o.seen ∙ e) in
           let here : piece_of m s at n ≡ Some m.unknown = one_char ∙ here-unknown (known_to m s at n) m.unknown missing in
-          let was : slot_at after n ≡ slot_at before n = o.slots n ∙ ap (λ (p : Option Piece). after_offer p x at (slot_at before n)) missing in
+          let stood : slot_at after n ≡ slot_at before n = rw missing at (o.slots n) in
           let now : slot_at last n ≡ after_offer (piece_of m s at n) x at (slot_at before n) =
-          put.slots n
-          ∙ ap (λ (t : Bool). cond t (taken (slot_at after n) (candidate x at m.unknown)) (slot_at after n)) (eq-eqb n n refl)
-          ∙ ap (λ (q : Slot). taken q (candidate x at m.unknown)) was
-          ∙ ap (λ (p : Option Piece). after_offer p x at (slot_at before n)) (sym here)
+          rw here (rw (eq-eqb n n refl, stood) at (put.slots n))
           in
           record {
             slots = λ k.
-                ⊎_elim
-                (λ (h : k ≡ n). subst (λ (i : ℕ). slot_at last i ≡ after_offer (piece_of m s at i) x at (slot_at before i)) (sym h) now)
-                (λ h.
-                put.slots k
-                ∙ ap (λ (t : Bool). cond t (taken (slot_at after n) (candidate x at m.unknown)) (slot_at after k)) (ne_eqb k n h)
-                ∙ o.slots k
-                ∙ ap (λ (p : Option Piece). after_offer p x at (slot_at before k)) (sym (piece-known k h)))
+                ⊎_elim (λ (h : k ≡ n). rw h now)
+                (λ h. rw (piece-known k h) ((rw (ne_eqb k n h) at (put.slots k)) ∙ o.slots k))
                 (at_next k);
           }
 
 -- ---- the slots hold the records of one start more
 
 -- as a list of at most one
-offer-listed : (o : Option Piece) (x : Double) (at : ℕ) (r : Slot) → ((p : Piece) → o ≡ Some p → is_number (sum x p.score) ≡ true) → after_offer o x at r ≡ after_offers is_number (option_to_list o) x at r
+offer-listed :
+    (o : Option Piece) (x : Double) (at : ℕ) (r : Slot) → ((p : Piece) → o ≡ Some p → is_number (sum x p.score) ≡ true)
+    → after_offer o x at r ≡ after_offers is_number (option_to_list o) x at r
 unfolding after_offer after_offers candidate
 offer-listed None x at r number = refl
-offer-listed (Some p) x at r number = ap (λ (t : Bool). cond t (taken r (candidate x at p)) r) (sym (number p refl))
+offer-listed (Some p) x at r number = rw (number p refl)
 
 pub worked-all :
-    {m : Model} {s : List ℕ} (ready : Ready m s) (at : ℕ) (on : boundary s at ≡ true) (below : at < length s) {r : ℕ} {x : Double} {before after : Slots}
+    {m : Model} {s : List ℕ} (ready : Ready m s) (at : ℕ) (on : boundary s at ≡ true) (below : at < length s) {r : ℕ}
+    {x : Double} {before after : Slots}
     → r ≡ next s at → Holds (rule m s) (length s) at before → x ≡ (slot_at before at).score → EachOffered m s at x before after
     → Recorded m s r before after
 unfolding nth
 worked-all {m} {s} ready at on below {r} {x} {before} {after} there h e o =
-    recorded laws (boundary-stands m s well ready.sound) (sym there) (omega (arith, there, next-inside s well at on below)) held (offered-past laws all)
+    recorded laws (boundary-stands m s well ready.sound) (sym there) (omega (arith, there, next-inside s well at on below)) held
+    (offered-past laws all)
   where
     well : well_formed s ≡ true
     well = ready.well
@@ -416,7 +391,9 @@ worked-all {m} {s} ready at on below {r} {x} {before} {after} there h e o =
           slots = λ k.
               o.slots k
               ∙ offer-listed (piece_of m s at k) x at (slot_at before k)
-              (λ p q. is_true (is_number (sum x p.score)) (sum_number x p.score (stands-counts laws at x stands) (laws.finite at k 0 p (ap (λ (u : Option Piece). nth (option_to_list u) 0) q))));
+              (λ p q.
+              let finite = laws.finite at k 0 p (ap (λ (u : Option Piece). nth (option_to_list u) 0) q) in
+              is_true (is_number (sum x p.score)) (sum_number x p.score (stands-counts laws at x stands) finite));
         }
 
     held : Holds (rule m s) (length s) (next s at) after

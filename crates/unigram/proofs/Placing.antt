@@ -74,7 +74,8 @@ placed-more {ws} {ids} {after} {n} {r} x l p =
 pub rest_more : (a b : List ℕ) (n r : ℕ) → n ≤ r → drop n a ≡ drop n b → drop r a ≡ drop r b
 rest_more a b n r l e =
     let there : n + (r - n) ≡ r = omega arith in
-    ap (λ (k : ℕ). drop k a) (sym there) ∙ sym (drop-drop (r - n) n a) ∙ ap (drop (r - n)) e ∙ drop-drop (r - n) n b ∙ ap (λ (k : ℕ). drop k b) there
+    ap (λ (k : ℕ). drop k a) (sym there) ∙ sym (drop-drop (r - n) n a) ∙ ap (drop (r - n)) e ∙ drop-drop (r - n) n b
+    ∙ ap (λ (k : ℕ). drop k b) there
 
 -- ---- the turns
 
@@ -84,28 +85,28 @@ run_of run at = cond (ltb run at) (Some run) None
 
 run-there : (run at : ℕ) → run < at → run_of run at ≡ Some run
 unfolding run_of
-run-there run at l = ap (λ (t : Bool). cond t (Some run) None) (lt-ltb run at l)
+run-there run at l = rw (lt-ltb run at l, run_of)
 
 run_none : (run at : ℕ) → at ≤ run → run_of run at ≡ None
 unfolding run_of
-run_none run at l = ap (λ (t : Bool). cond t (Some run) None) (le-ltb run at l)
+run_none run at l = rw (le-ltb run at l, run_of)
 
 module _ (id_of : ℕ → ℕ → Option ℕ) (unknown : ℕ) where
   pub ids-there : (run at : ℕ) → run < at → run_ids id_of unknown run at ≡ run_id id_of unknown run at ∷ []
   unfolding run_ids
-  ids-there run at l = ap (λ (t : Bool). cond t (run_id id_of unknown run at ∷ []) []) (lt-ltb run at l)
+  ids-there run at l = rw (lt-ltb run at l, run_ids)
 
   pub ids-none : (run at : ℕ) → at ≤ run → run_ids id_of unknown run at ≡ []
   unfolding run_ids
-  ids-none run at l = ap (λ (t : Bool). cond t (run_id id_of unknown run at ∷ []) []) (le-ltb run at l)
+  ids-none run at l = rw (le-ltb run at l, run_ids)
 
   pub closes-not : (run at x : ℕ) → x ≡ unknown → closing id_of unknown run at x ≡ []
   unfolding closing
-  closes-not run at x e = ap (λ (t : Bool). cond t [] (run_ids id_of unknown run at ++ (x ∷ []))) (eq-eqb x unknown e)
+  closes-not run at x e = rw (eq-eqb x unknown e, closing)
 
   pub closes : (run at x : ℕ) → (x ≡ unknown → ⊥) → closing id_of unknown run at x ≡ run_ids id_of unknown run at ++ (x ∷ [])
   unfolding closing
-  closes run at x e = ap (λ (t : Bool). cond t [] (run_ids id_of unknown run at ++ (x ∷ []))) (ne_eqb x unknown e)
+  closes run at x e = rw (ne_eqb x unknown e, closing)
 
   -- the run still to come, and where it begins
   owed-is : (run at : ℕ) → owed id_of unknown (run_of run at) at ≡ run_ids id_of unknown run at
@@ -118,10 +119,8 @@ module _ (id_of : ℕ → ℕ → Option ℕ) (unknown : ℕ) where
 
   begun-is : (run at : ℕ) → run ≤ at → begun id_of unknown (run_of run at) at ≡ run
   begun-is run at back =
-      ⊎_elim (λ (l : run < at). ap (λ (o : Option ℕ). begun id_of unknown o at) (run-there run at l))
-      (λ (l : at ≤ run).
-      let one : at ≡ run = omega arith in
-      ap (λ (o : Option ℕ). begun id_of unknown o at) (run_none run at l) ∙ one)
+      ⊎_elim (λ (l : run < at). rw (run-there run at l))
+      (λ (l : at ≤ run). let one : at ≡ run = omega arith in rw (run_none run at l) one)
       (below_or run at)
 
   -- at the end
@@ -133,33 +132,55 @@ module _ (id_of : ℕ → ℕ → Option ℕ) (unknown : ℕ) where
   next-run x run e = cond (eqb x unknown) run e
 
   module _ (run at e x : ℕ) (es : List Step) (back : run ≤ at) (ahead : at < e) where
-    pub merged-turn : merged id_of unknown (run_of run at) at (piece-to e x ∷ es) ≡ closing id_of unknown run at x ++ merged id_of unknown (run_of (next-run x run e) e) e es
+    pub merged-turn :
+        merged id_of unknown (run_of run at) at (piece-to e x ∷ es)
+        ≡ closing id_of unknown run at x ++ merged id_of unknown (run_of (next-run x run e) e) e es
     merged-turn = by-test (eqb x unknown) refl
       where
-        by-test : (t : Bool) → eqb x unknown ≡ t → merged id_of unknown (run_of run at) at (piece-to e x ∷ es) ≡ closing id_of unknown run at x ++ merged id_of unknown (run_of (next-run x run e) e) e es
+        by-test :
+            (t : Bool) → eqb x unknown ≡ t
+            → merged id_of unknown (run_of run at) at (piece-to e x ∷ es)
+            ≡ closing id_of unknown run at x ++ merged id_of unknown (run_of (next-run x run e) e) e es
         by-test true h =
             let same : x ≡ unknown = eqb-true x unknown h in
             merged-more id_of unknown (run_of run at) at (piece-to e x) es h
             ∙ ap (λ (i : ℕ). merged id_of unknown (Some i) e es) (begun-is run at back)
-            ∙ ap (λ (o : Option ℕ). merged id_of unknown o e es) (sym (run-there run e (omega arith)) ∙ ap (λ (t : Bool). run_of (cond t run e) e) (sym h))
+            ∙ ap (λ (o : Option ℕ). merged id_of unknown o e es)
+            (sym (run-there run e (omega arith)) ∙ ap (λ (t : Bool). run_of (cond t run e) e) (sym h))
             ∙ ap (λ (u : List ℕ). u ++ merged id_of unknown (run_of (next-run x run e) e) e es) (sym (closes-not run at x same))
         by-test false h =
             let other : x ≡ unknown → ⊥ = eqb-false x unknown h in
             merged-more id_of unknown (run_of run at) at (piece-to e x) es h
             ∙ ap (λ (u : List ℕ). u ++ (x ∷ merged id_of unknown None e es)) (owed-is run at)
             ∙ sym (append_assoc (run_ids id_of unknown run at) (x ∷ []) (merged id_of unknown None e es))
-            ∙ ap (λ (o : Option ℕ). (run_ids id_of unknown run at ++ (x ∷ [])) ++ merged id_of unknown o e es) (sym (run_none e e (omega arith)) ∙ ap (λ (t : Bool). run_of (cond t run e) e) (sym h))
+            ∙ ap (λ (o : Option ℕ). (run_ids id_of unknown run at ++ (x ∷ [])) ++ merged id_of unknown o e es)
+            (sym (run_none e e (omega arith)) ∙ ap (λ (t : Bool). run_of (cond t run e) e) (sym h))
             ∙ ap (λ (u : List ℕ). u ++ merged id_of unknown (run_of (next-run x run e) e) e es) (sym (closes run at x other))
 
     -- what is waiting and written stays at most one a piece
-    pub turn-few : (n k : ℕ) → n + length (run_ids id_of unknown run at) ≤ k → n + length (closing id_of unknown run at x) + length (run_ids id_of unknown (next-run x run e) e) ≤ k + 1
+    pub turn-few :
+        (n k : ℕ) → n + length (run_ids id_of unknown run at) ≤ k
+        → n + length (closing id_of unknown run at x) + length (run_ids id_of unknown (next-run x run e) e) ≤ k + 1
     turn-few n k l = by-test (eqb x unknown) refl
       where
-        by-test : (t : Bool) → eqb x unknown ≡ t → n + length (closing id_of unknown run at x) + length (run_ids id_of unknown (next-run x run e) e) ≤ k + 1
+        by-test :
+            (t : Bool) → eqb x unknown ≡ t
+            → n + length (closing id_of unknown run at x) + length (run_ids id_of unknown (next-run x run e) e) ≤ k + 1
         by-test true h =
-            omega (arith, ap length (closes-not run at x (eqb-true x unknown h)), ap length (ids-there run e (omega arith)), ap (λ (t : Bool). length (run_ids id_of unknown (cond t run e) e)) h)
+            omega (
+              arith,
+              ap length (closes-not run at x (eqb-true x unknown h)),
+              ap length (ids-there run e (omega arith)),
+              ap (λ (t : Bool). length (run_ids id_of unknown (cond t run e) e)) h,
+            )
         by-test false h =
-            omega (arith, ap length (closes run at x (eqb-false x unknown h)), length-append (run_ids id_of unknown run at) (x ∷ []), ap length (ids-none e e (omega arith)), ap (λ (t : Bool). length (run_ids id_of unknown (cond t run e) e)) h)
+            omega (
+              arith,
+              ap length (closes run at x (eqb-false x unknown h)),
+              length-append (run_ids id_of unknown run at) (x ∷ []),
+              ap length (ids-none e e (omega arith)),
+              ap (λ (t : Bool). length (run_ids id_of unknown (cond t run e) e)) h,
+            )
 
     -- and the next run begins at or before the piece's end
     pub next-back : next-run x run e ≤ e
@@ -173,9 +194,15 @@ module _ (id_of : ℕ → ℕ → Option ℕ) (unknown : ℕ) where
     pub closing-few : length (closing id_of unknown run at x) ≤ length (run_ids id_of unknown run at) + 1
     closing-few = by-test (eqb x unknown) refl
       where
-        by-test : (t : Bool) → eqb x unknown ≡ t → length (closing id_of unknown run at x) ≤ length (run_ids id_of unknown run at) + 1
+        by-test :
+            (t : Bool) → eqb x unknown ≡ t → length (closing id_of unknown run at x) ≤ length (run_ids id_of unknown run at) + 1
         by-test true h = omega (arith, ap length (closes-not run at x (eqb-true x unknown h)))
-        by-test false h = omega (arith, ap length (closes run at x (eqb-false x unknown h)), length-append (run_ids id_of unknown run at) (x ∷ []))
+        by-test false h =
+            omega (
+              arith,
+              ap length (closes run at x (eqb-false x unknown h)),
+              length-append (run_ids id_of unknown run at) (x ∷ []),
+            )
 
 -- ---- the loop over the path
 
@@ -183,14 +210,17 @@ pub ends-cons : {n at e : ℕ} {es : List ℕ} → Ends n at (e ∷ es) → (at 
 ends-cons (and_then a b c) = (a, b, c)
 
 -- Merging has come to piece k, which starts at `at`; n ids are written, and the run from `run` is still to come.
-pub record Going (id_of : ℕ → ℕ → Option ℕ) (unknown limit : ℕ) (slot_ids path before ids : List ℕ) (n run at k : ℕ) : Type 0 where
+pub record Going (id_of : ℕ → ℕ → Option ℕ) (unknown limit : ℕ) (slot_ids path before ids : List ℕ)
+    (n run at k : ℕ) : Type 0 where
   pub within : k ≤ length path
   pub back : run ≤ at
   pub inside : at ≤ limit
   pub ends : Ends limit at (drop k path)
   pub few : n + length (run_ids id_of unknown run at) ≤ k
   pub level : length ids ≡ length before
-  pub all : merged id_of unknown None 0 (steps_at slot_ids path) ≡ take n ids ++ merged id_of unknown (run_of run at) at (steps_at slot_ids (drop k path))
+  pub all :
+      merged id_of unknown None 0 (steps_at slot_ids path)
+      ≡ take n ids ++ merged id_of unknown (run_of run at) at (steps_at slot_ids (drop k path))
   pub rest : drop n ids ≡ drop n before
 
 module _ (id_of : ℕ → ℕ → Option ℕ) (unknown limit : ℕ) (slot_ids path before : List ℕ) where
@@ -209,13 +239,16 @@ module _ (id_of : ℕ → ℕ → Option ℕ) (unknown limit : ℕ) (slot_ids pa
 
   module _ {ids : List ℕ} {n run at k : ℕ} (g : Going id_of unknown limit slot_ids path before ids n run at k) where
     -- the piece come to
-    pub next-end : k < length path → (at < get_or path k 0) × (get_or path k 0 ≤ limit) × Ends limit (get_or path k 0) (drop (suc k) path)
+    pub next-end :
+        k < length path → (at < get_or path k 0) × (get_or path k 0 ≤ limit) × Ends limit (get_or path k 0) (drop (suc k) path)
     next-end l = ends-cons (subst (Ends limit at) (drop-cons path k 0 l) g.ends)
 
     pub going_more :
-        {after : List ℕ} {r x : ℕ} → (l : k < length path) → length path ≤ length before → x ≡ get_or slot_ids (get_or path k 0) no_id
+        {after : List ℕ} {r x : ℕ} → (l : k < length path) → length path ≤ length before
+        → x ≡ get_or slot_ids (get_or path k 0) no_id
         → Placed (closing id_of unknown run at x) ids n after r → length after ≡ length ids
-        → Going id_of unknown limit slot_ids path before after r (cond (eqb x unknown) run (get_or path k 0)) (get_or path k 0) (k + 1)
+        → Going id_of unknown limit slot_ids path before after r (cond (eqb x unknown) run (get_or path k 0)) (get_or path k 0)
+        (k + 1)
     going_more {after} {r} {x} l room named p level =
         let e = get_or path k 0 in
         let h = next-end l in
@@ -233,12 +266,18 @@ module _ (id_of : ℕ → ℕ → Option ℕ) (unknown limit : ℕ) (slot_ids pa
           level = level ∙ g.level;
           all =
               g.all
-              ∙ ap (λ (u : List ℕ). take n ids ++ merged id_of unknown (run_of run at) at (steps_at slot_ids u)) (drop-cons path k 0 l)
+              ∙ ap (λ (u : List ℕ). take n ids ++ merged id_of unknown (run_of run at) at (steps_at slot_ids u))
+              (drop-cons path k 0 l)
               ∙ ap (λ (i : ℕ). take n ids ++ merged id_of unknown (run_of run at) at (piece-to e i ∷ es)) (sym named)
               ∙ ap (λ (u : List ℕ). take n ids ++ u) (merged-turn id_of unknown run at e x es g.back h.0)
-              ∙ sym (append_assoc (take n ids) (closing id_of unknown run at x) (merged id_of unknown (run_of (cond (eqb x unknown) run e) e) e es))
-              ∙ ap (λ (u : List ℕ). u ++ merged id_of unknown (run_of (cond (eqb x unknown) run e) e) e es) (sym (placed-front p fits))
-              ∙ ap (λ (j : ℕ). take r after ++ merged id_of unknown (run_of (cond (eqb x unknown) run e) e) e (steps_at slot_ids (drop j path))) (sym up);
+              ∙ sym (append_assoc (take n ids) (closing id_of unknown run at x)
+              (merged id_of unknown (run_of (cond (eqb x unknown) run e) e) e es))
+              ∙ ap (λ (u : List ℕ). u ++ merged id_of unknown (run_of (cond (eqb x unknown) run e) e) e es)
+              (sym (placed-front p fits))
+              ∙ ap
+              (λ (j : ℕ).
+              take r after ++ merged id_of unknown (run_of (cond (eqb x unknown) run e) e) e (steps_at slot_ids (drop j path)))
+              (sym up);
           rest = placed-rest p fits ∙ rest_more ids before n r (omega (arith, p.next)) g.rest;
         }
 
@@ -248,7 +287,8 @@ module _ (id_of : ℕ → ℕ → Option ℕ) (unknown limit : ℕ) (slot_ids pa
 
     -- and is written
     pub going_end :
-        {after : List ℕ} {r : ℕ} → length path ≤ k → length path ≤ length before → Placed (run_ids id_of unknown run at) ids n after r
+        {after : List ℕ} {r : ℕ} → length path ≤ k → length path ≤ length before
+        → Placed (run_ids id_of unknown run at) ids n after r
         → let all = merged id_of unknown None 0 (steps_at slot_ids path) in (r ≡ length all) × (after ≡ overlay all before)
     going_end {after} {r} l room p =
         let fits : n + length (run_ids id_of unknown run at) ≤ length ids =
@@ -257,7 +297,8 @@ module _ (id_of : ℕ → ℕ → Option ℕ) (unknown limit : ℕ) (slot_ids pa
         let total = merged id_of unknown None 0 (steps_at slot_ids path) in
         let whole : total ≡ take n ids ++ run_ids id_of unknown run at =
         g.all
-        ∙ ap (λ (u : List ℕ). take n ids ++ merged id_of unknown (run_of run at) at (steps_at slot_ids u)) (drop_of_length-le path l)
+        ∙ ap (λ (u : List ℕ). take n ids ++ merged id_of unknown (run_of run at) at (steps_at slot_ids u))
+        (drop_of_length-le path l)
         ∙ ap (λ (u : List ℕ). take n ids ++ u) (merged-last id_of unknown run at)
         in
         let count : r ≡ length total = sym (ap length whole ∙ front-is p fits) in

@@ -7,18 +7,20 @@ use mathlib.Core.List.{List, [], ◌∷◌}
 use mathlib.Core.Logic.{⊎_elim}
 use Prim.Native.Nat.{ℕ, ◌+◌, ◌≤◌, ◌<◌}
 use native.Mathlib.Omega.{arith}
-use borrow.Author.Tests.{lt-ltb, le-ltb, eq-eqb, ltb-false}
+use borrow.Author.Tests.{lt-ltb, eq-eqb, ltb-false}
 use lib.Dec.{ltb}
 use lib.Ieee.{Float}
 use lib.ListN.{length, length-map}
 use Rattle.doubles.specs.Units.{units}
+use Rattle.std.proofs.lemmas.Bool.Decides.{nat_tests}
 use Rattle.refusal.specs.declared.Fault.{Fault}
 use Rattle.refusal.specs.declared.Fault.TheVariants as fault
 use Rattle.refusal.specs.Refusal.{refuse, first}
 use Rattle.refusal.specs.Sizes.{max_text}
-use Rattle.refusal.proofs.Tests.{found, not_found, found_first, none_first, passed, both-passed, Not, refused-so, first_so, nothing-so}
+use Rattle.refusal.proofs.Tests.{found, not_found, none_first, passed, both-passed, Not, refused-so, first_so}
+use Rattle.refusal.proofs.Tests.{nothing-so}
 use Rattle.refusal.proofs.Codings.{coded-refused, coded-ids}
-use Rattle.refusal.proofs.Lists.{zero_one, true-false, below_or}
+use Rattle.refusal.proofs.Lists.{zero_one, below_or}
 use Rattle.text.specs.Text.{text_fault, characters}
 use Rattle.text.proofs.Boundaries.{characters-le}
 use Rattle.trie.specs.Lookup.{lookup_fault}
@@ -26,7 +28,8 @@ use Rattle.trie.proofs.Lookups.{lookup-fine, sound-lookup}
 use Rattle.build.specs.Memory.{any_below}
 use Rattle.cutting.specs.Slots.{Slots, Inside}
 use Rattle.unigram.specs.Pieces.{Model, pieces_of, part_id, ids_of}
-use Rattle.unigram.specs.Segment.{Scratch, Lengths, lengths, lengths_of, short_scratch, segment_fault, sound_model, written, writes, Segmented}
+use Rattle.unigram.specs.Segment.{Scratch, Lengths, lengths, lengths_of, short_scratch, segment_fault, sound_model, written}
+use Rattle.unigram.specs.Segment.{writes, Segmented}
 use Rattle.unigram.specs.Work.{Ready, BestCutting}
 use Rattle.unigram.specs.Checked.{scratch_of}
 use Rattle.unigram.proofs.Merging.{merged-few}
@@ -59,30 +62,27 @@ module _ (parts : Bool) (s : List ℕ) (n : Lengths) where
       by_tests false true false true text = refl
       by_tests false true false false text = refl
 
-  pub fault-early : {f : Fault} → lookup_fault parts s ≡ Some f → segment_fault parts s n ≡ Some f
-  unfolding segment_fault
-  fault-early e = found_first _ e
-
   module _ (fine : lookup_fault parts s ≡ None) where
-    past-text : segment_fault parts s n ≡ refuse (short_scratch s n) fault.Scratch (refuse (ltb n.ids (characters s)) fault.Ids None)
+    past-text :
+        segment_fault parts s n
+        ≡ refuse (short_scratch s n) fault.Scratch (refuse (ltb n.ids (characters s)) fault.Ids None)
     unfolding segment_fault
     past-text = none_first _ fine
 
     pub fault-scratch : short_scratch s n ≡ true → segment_fault parts s n ≡ Some fault.Scratch
     fault-scratch e = past-text ∙ found _ fault.Scratch _ e
 
-    module _ (room : short_scratch s n ≡ false) where
-      pub fault-ids : n.ids < characters s → segment_fault parts s n ≡ Some fault.Ids
-      fault-ids l = past-text ∙ not_found _ fault.Scratch _ room ∙ found _ fault.Ids None (lt-ltb n.ids (characters s) l)
-
-      pub fault-none : characters s ≤ n.ids → segment_fault parts s n ≡ None
-      fault-none l = past-text ∙ not_found _ fault.Scratch _ room ∙ not_found _ fault.Ids None (le-ltb n.ids (characters s) l)
+    pub fault-ids : short_scratch s n ≡ false → n.ids < characters s → segment_fault parts s n ≡ Some fault.Ids
+    fault-ids room l =
+        past-text ∙ not_found _ fault.Scratch _ room ∙ found _ fault.Ids None (lt-ltb n.ids (characters s) l)
 
   -- what is known where there is none
-  module _ (None-found : segment_fault parts s n ≡ None) where
-    tests : (lookup_fault parts s ≡ None) × (refuse (short_scratch s n) fault.Scratch (refuse (ltb n.ids (characters s)) fault.Ids None) ≡ None)
+  module _ (none_found : segment_fault parts s n ≡ None) where
+    tests :
+        (lookup_fault parts s ≡ None)
+        × (refuse (short_scratch s n) fault.Scratch (refuse (ltb n.ids (characters s)) fault.Ids None) ≡ None)
     unfolding segment_fault
-    tests = both-passed _ _ None-found
+    tests = both-passed _ _ none_found
 
     pub enough-scratch : short_scratch s n ≡ false
     enough-scratch = (passed _ fault.Scratch _ tests.1).0
@@ -119,59 +119,20 @@ module _ (m : Model) (s : List ℕ) (b : Scratch) where
         law = λ h. law-held ready b.slots (λ j l inside. absurd (omega arith));
       }
 
--- ---- too little scratch
+-- ---- enough scratch
 
-abbrev any-short : Bool → Bool → Bool → Bool → Bool → Bool
-any-short t a b c p = t && ((a || (b || (c || false))) || p)
-
-with-tests : (t a b c p : Bool) {t' a' b' c' p' : Bool} → t ≡ t' → a ≡ a' → b ≡ b' → c ≡ c' → p ≡ p' → any-short t a b c p ≡ any-short t' a' b' c' p'
-with-tests t a b c p {t'} {a'} {b'} {c'} {p'} et ea eb ec ep =
-    ap (λ (x : Bool). any-short x a b c p) et
-    ∙ ap (λ (x : Bool). any-short t' x b c p) ea
-    ∙ ap (λ (x : Bool). any-short t' a' x c p) eb
-    ∙ ap (λ (x : Bool). any-short t' a' b' x p) ec
-    ∙ ap (λ (x : Bool). any-short t' a' b' c' x) ep
-
-none-short : (a b c p : Bool) → any-short true a b c p ≡ false → (a ≡ false) × (b ≡ false) × (c ≡ false) × (p ≡ false)
-none-short true b c p e = absurd (true-false refl e)
-none-short false true c p e = absurd (true-false refl e)
-none-short false false true p e = absurd (true-false refl e)
-none-short false false false true e = absurd (true-false refl e)
-none-short false false false false e = (refl, refl, refl, refl)
-
-module _ (n chars a b c p : ℕ) where
-  pub short-empty : n ≡ 0 → false ≡ (ltb 0 n && (any_below (n + 1) (a ∷ b ∷ c ∷ []) || ltb p chars))
-  unfolding any_below
-  short-empty e = sym (with-tests (ltb 0 n) (ltb a (n + 1)) (ltb b (n + 1)) (ltb c (n + 1)) (ltb p chars) (le-ltb 0 n (omega arith)) refl refl refl refl)
-
-  module _ (some_bytes : 0 < n) where
-    pub short-first : a ≤ n → true ≡ (ltb 0 n && (any_below (n + 1) (a ∷ b ∷ c ∷ []) || ltb p chars))
-    unfolding any_below
-    short-first l = sym (with-tests (ltb 0 n) (ltb a (n + 1)) (ltb b (n + 1)) (ltb c (n + 1)) (ltb p chars) (lt-ltb 0 n some_bytes) (lt-ltb a (n + 1) (omega arith)) refl refl refl)
-
-    pub short-second : n < a → b ≤ n → true ≡ (ltb 0 n && (any_below (n + 1) (a ∷ b ∷ c ∷ []) || ltb p chars))
-    unfolding any_below
-    short-second k l = sym (with-tests (ltb 0 n) (ltb a (n + 1)) (ltb b (n + 1)) (ltb c (n + 1)) (ltb p chars) (lt-ltb 0 n some_bytes) (le-ltb a (n + 1) (omega arith)) (lt-ltb b (n + 1) (omega arith)) refl refl)
-
-    pub short-third : n < a → n < b → c ≤ n → true ≡ (ltb 0 n && (any_below (n + 1) (a ∷ b ∷ c ∷ []) || ltb p chars))
-    unfolding any_below
-    short-third j k l = sym (with-tests (ltb 0 n) (ltb a (n + 1)) (ltb b (n + 1)) (ltb c (n + 1)) (ltb p chars) (lt-ltb 0 n some_bytes) (le-ltb a (n + 1) (omega arith)) (le-ltb b (n + 1) (omega arith)) (lt-ltb c (n + 1) (omega arith)) refl)
-
-    pub short-path : n < a → n < b → n < c → ltb p chars ≡ (ltb 0 n && (any_below (n + 1) (a ∷ b ∷ c ∷ []) || ltb p chars))
-    unfolding any_below
-    short-path j k l = sym (with-tests (ltb 0 n) (ltb a (n + 1)) (ltb b (n + 1)) (ltb c (n + 1)) (ltb p chars) (lt-ltb 0 n some_bytes) (le-ltb a (n + 1) (omega arith)) (le-ltb b (n + 1) (omega arith)) (le-ltb c (n + 1) (omega arith)) refl)
-
-    -- enough
-    pub enough-room : (ltb 0 n && (any_below (n + 1) (a ∷ b ∷ c ∷ []) || ltb p chars)) ≡ false → (n < a) × (n < b) × (n < c) × (chars ≤ p)
-    unfolding any_below
-    enough-room e =
-        let w = none-short (ltb a (n + 1)) (ltb b (n + 1)) (ltb c (n + 1)) (ltb p chars) (sym (with-tests (ltb 0 n) (ltb a (n + 1)) (ltb b (n + 1)) (ltb c (n + 1)) (ltb p chars) (lt-ltb 0 n some_bytes) refl refl refl refl) ∙ e) in
-        (omega (arith, ltb-false a (n + 1) w.0), omega (arith, ltb-false b (n + 1) w.1), omega (arith, ltb-false c (n + 1) w.2), ltb-false p chars w.3)
+enough-room :
+    (n chars a b c p : ℕ) → 0 < n → (ltb 0 n && (any_below (n + 1) (a ∷ b ∷ c ∷ []) || ltb p chars)) ≡ false
+    → (n < a) × (n < b) × (n < c) × (chars ≤ p)
+unfolding any_below
+enough-room n chars a b c p some_bytes e =
+    (grind (arith, nat_tests), grind (arith, nat_tests), grind (arith, nat_tests), grind (arith, nat_tests))
 
 -- the lent columns are as long as their lists
 pub lengths-are :
     (starts ids : List ℕ) (scores : List Float) (path places : List ℕ)
-    → lengths_of (scratch_of starts ids scores path places) ≡ lengths (length starts) (length ids) (length scores) (length path) (length places)
+    → lengths_of (scratch_of starts ids scores path places)
+    ≡ lengths (length starts) (length ids) (length scores) (length path) (length places)
 lengths-are starts ids scores path places =
     ap (λ (n : ℕ). lengths (length starts) (length ids) n (length path) (length places)) (length-map scores units)
 
@@ -194,14 +155,15 @@ pub record Prepared (m : Model) (s starts slot_ids : List ℕ) (scores : List Fl
 -- what the cutting rests on: an empty text asks for no slots, and has no characters
 pub prepared-for :
     (m : Model) (s starts ids : List ℕ) (scores : List Float) (path places : List ℕ)
-    → segment_fault (sound_model m) s (lengths_of (scratch_of starts ids scores path places)) ≡ None → Prepared m s starts ids scores path places
+    → segment_fault (sound_model m) s (lengths_of (scratch_of starts ids scores path places)) ≡ None
+    → Prepared m s starts ids scores path places
 unfolding short_scratch
-prepared-for m s starts ids scores path places None-found =
+prepared-for m s starts ids scores path places none_found =
     let n = length s in
     let lent = lengths (length starts) (length ids) (length scores) (length path) (length places) in
-    let free : segment_fault (sound_model m) s lent ≡ None = sym (ap (segment_fault (sound_model m) s) (lengths-are starts ids scores path places)) ∙ None-found in
+    let free : segment_fault (sound_model m) s lent ≡ None = rw (lengths-are starts ids scores path places) at none_found in
     let all : 0 < n → (n < length starts) × (n < length ids) × (n < length scores) × (characters s ≤ length path) =
-    λ h. enough-room n (characters s) (length starts) (length ids) (length scores) (length path) h (enough-scratch (sound_model m) s lent free)
+    λ h. enough-room n (characters s) _ _ _ _ h (enough-scratch (sound_model m) s lent free)
     in
     record {
       ready = ready_for m s lent free;

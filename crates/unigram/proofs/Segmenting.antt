@@ -55,7 +55,9 @@ module _ {m : Model} {s : List ℕ} (ready : Ready m s) where
       (few laws (λ j. characters (take j s)) (piece-rises m s ready.well ready.sound) n n last.0 (omega arith) last.1)
 
   -- slots that hold the records meet the law of demand 3
-  pub law-held : (after : Slots) → ((j : ℕ) → 0 < j → j ≤ length s → slot_at after j ≡ shown (best (rule m s) j j)) → law.RecordLaw (rule m s) (λ j. T (boundary s j)) s (characters s) after
+  pub law-held :
+      (after : Slots) → ((j : ℕ) → 0 < j → j ≤ length s → slot_at after j ≡ shown (best (rule m s) j j))
+      → law.RecordLaw (rule m s) (λ j. T (boundary s j)) s (characters s) after
   law-held = law-of laws (λ j l t. stands j l (is_true (boundary s j) t)) last.0 last.1 pieces-few
 
   -- ---- the slots and the path
@@ -92,7 +94,9 @@ module _ {m : Model} {s : List ℕ} (ready : Ready m s) where
     front-few = omega (arith, w.count, pieces-few)
 
     -- what merging rests on
-    pub mergeable : {places : List ℕ} → length s < length a.id → characters s ≤ length places → Mergeable m.trie s a.id (take n path') places
+    pub mergeable :
+        {places : List ℕ} → length s < length a.id → characters s ≤ length places
+        → Mergeable m.trie s a.id (take n path') places
     mergeable {places} inside room =
         record {
           sound = (scored-of _ _ _ ready.sound).parts;
@@ -114,21 +118,28 @@ scratch : Slots → List ℕ → List ℕ → Scratch
 scratch c path ids = record { slots = c; path = path; ids = ids }
 
 pub cut_of :
-    {m : Model} {s : List ℕ} (ready : Ready m s) {starts ids : List ℕ} {scores : List Float} {path places : List ℕ} (starts' ids' : List ℕ)
-    (scores' : List Float) {path' places' : List ℕ} {n count : ℕ} → segment_fault (sound_model m) s (lengths_of (scratch_of starts ids scores path places)) ≡ None → (length s ≡ 0 → ⊥) → Inside starts ids scores (length s)
+    {m : Model} {s : List ℕ} (ready : Ready m s) {starts ids : List ℕ} {scores : List Float} {path places : List ℕ}
+    (starts' ids' : List ℕ) (scores' : List Float) {path' places' : List ℕ} {n count : ℕ}
+    → segment_fault (sound_model m) s (lengths_of (scratch_of starts ids scores path places)) ≡ None → (length s ≡ 0 → ⊥)
+    → Inside starts ids scores (length s)
     → length starts' ≡ length starts → length ids' ≡ length ids → length scores' ≡ length scores
     → BestCutting m s (slots_of starts ids scores) path (slots_of starts' ids' scores') path' n
     → let all = merged (part_id m.trie s) m.unknown.id None 0 (steps_at ids' (take n path')) in
     (count ≡ length all) × (places' ≡ overlay all places)
     → Segmented m s (scratch_of starts ids scores path places) (Ok count) (scratch_of starts' ids' scores' path' places')
 unfolding written writes scratch
-cut_of {m} {s} ready {starts} {ids} {scores} {path} {places} starts' ids' scores' {path'} {places'} {n} {count} free some-text inside level-start level-id level-score w g =
+cut_of {m} {s} ready {starts} {ids} {scores} {path} {places} starts' ids' scores' {path'} {places'} {n} {count} free some-text
+    inside level-start level-id level-score w g =
     let before = scratch_of starts ids scores path places in
     let after = slots_of starts' ids' scores' in
     let P = rule m s in
     let now : after ≡ slots_left P (length s) (slots_of starts ids scores) =
     slots-are (laws ready) w.slots
-    (record { start = level-start; id = level-id; score = length-map scores' units ∙ level-score ∙ sym (length-map scores units) })
+    (record {
+      start = level-start;
+      id = level-id;
+      score = length-map scores' units ∙ level-score ∙ sym (length-map scores units);
+    })
     (record { start = inside.start; id = inside.id; score = omega (arith, inside.score, length-map scores units) })
     in
     record {
@@ -136,7 +147,8 @@ cut_of {m} {s} ready {starts} {ids} {scores} {path} {places} starts' ids' scores
           coded-ids free (g.0 ∙ ap length (ids-are ready w))
           (ap (λ (c : Slots). scratch c path' places') now
           ∙ ap (λ (u : List ℕ). scratch (slots_left P (length s) (slots_of starts ids scores)) u places') w.path
-          ∙ ap (λ (u : List ℕ). scratch (slots_left P (length s) (slots_of starts ids scores)) (path_left P (length s) path) u) (g.1 ∙ ap (λ (u : List ℕ). overlay u places) (ids-are ready w))
+          ∙ ap (λ (u : List ℕ). scratch (slots_left P (length s) (slots_of starts ids scores)) (path_left P (length s) path) u)
+          (g.1 ∙ ap (λ (u : List ℕ). overlay u places) (ids-are ready w))
           ∙ sym (ap (λ (t : Bool). cond t before (written m s before)) (ne_eqb (length s) 0 some-text)));
       law = λ h. law-held ready after (λ j p l. slot-holds (laws ready) w.slots j l);
     }

@@ -1,5 +1,6 @@
 -- What the work at one boundary does to the slots, and what it rests on. Definitions only; assumes nothing.
-use Rattle.std.specs.Prelude.{◌≡◌, ℕ, ◌≤◌, ◌<◌, Bool, true, false, ◌&&◌, ◌||◌, List, map, ltb, eqb, Float, length, Option, None, is_some}
+use Rattle.std.specs.Prelude.{◌≡◌, ℕ, ◌≤◌, ◌<◌, Bool, true, false, ◌&&◌, ◌||◌, List, map, ltb, eqb, Float, length, Option}
+use Rattle.std.specs.Prelude.{None, is_some}
 use Rattle.doubles.specs.Double.{Double}
 use Rattle.doubles.specs.Units.{units}
 use Rattle.refusal.specs.Sizes.{max_text}

@@ -29,10 +29,12 @@ returns-in_default c =
 
 pub returns-then-single : goal.returns-then-single
 returns-then-single c =
-    ended_some _ _ _ _ _ _ _ _ _ (sym c.is_boundary.ensures ∙ c.if-not-is_boundary.false) (sym c.id_at.ensures ∙ c.in-Some.is) refl
+    ended_some _ _ _ _ _ _ _ _ _ (sym c.is_boundary.ensures ∙ c.if-not-is_boundary.false)
+    (sym c.id_at.ensures ∙ c.in-Some.is) refl
     (scored _ _ _ _ c.requires.1 c.added.ensures) c.offer.ensures (seen_true _ _ c.if-single.true)
 
 pub returns-else-single : goal.returns-else-single
 returns-else-single c =
-    ended_some _ _ _ _ _ _ _ _ _ (sym c.is_boundary.ensures ∙ c.if-not-is_boundary.false) (sym c.id_at.ensures ∙ c.in-Some.is) refl
+    ended_some _ _ _ _ _ _ _ _ _ (sym c.is_boundary.ensures ∙ c.if-not-is_boundary.false)
+    (sym c.id_at.ensures ∙ c.in-Some.is) refl
     (scored _ _ _ _ c.requires.1 c.added.ensures) c.offer.ensures (seen_false _ _ c.if-single.false)

@@ -18,15 +18,16 @@ loop-at-init c = (omega arith, boundary-zero c.args.text.now c.requires.0.well, 
 
 pub loop-at-smaller : goal.loop-at-smaller
 loop-at-smaller c =
-    omega
-    (arith, c.work_at-at.ensures.0, next-above c.args.text.now c.requires.0.well c.loop-at.at c.loop-at.invariant.1 c.loop-at-test.true)
+    let above = next-above c.args.text.now c.requires.0.well c.loop-at.at c.loop-at.invariant.1 c.loop-at-test.true in
+    omega (arith, c.work_at-at.ensures.0, above)
 
 pub loop-at-preserved : goal.loop-at-preserved
 loop-at-preserved c =
     let well = c.requires.0.well in
     let on = c.loop-at.invariant.1 in (
       omega (arith, c.work_at-at.ensures.0, next-inside c.args.text.now well c.loop-at.at on c.loop-at-test.true),
-      ap (boundary c.args.text.now) c.work_at-at.ensures.0 ∙ next-boundary c.args.text.now well c.loop-at.at on c.loop-at-test.true,
+      ap (boundary c.args.text.now) c.work_at-at.ensures.0
+          ∙ next-boundary c.args.text.now well c.loop-at.at on c.loop-at-test.true,
       c.work_at-at.ensures.1.holds,
       λ i l. c.work_at-at.ensures.1.past i l ∙ c.loop-at.invariant.3 i l,
     )

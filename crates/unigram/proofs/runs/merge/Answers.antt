@@ -21,7 +21,8 @@ loop-place-preserved c =
     omega (arith, (next-end _ _ _ _ _ _ c.loop-place.invariant within).1, c.requires.slots)
     in
     rw c.run_after-run.ensures
-    (going_more _ _ _ _ _ _ c.loop-place.invariant within c.requires.room (place_inside _ end 0 no_id slot) c.stand-n.ensures c.stand-n.auto.ids)
+    (going_more _ _ _ _ _ _ c.loop-place.invariant within c.requires.room (place_inside _ end 0 no_id slot) c.stand-n.ensures
+    c.stand-n.auto.ids)
 
 pub close_run-requires : goal.close_run-requires
 close_run-requires c =
