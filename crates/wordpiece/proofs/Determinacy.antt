@@ -1,7 +1,7 @@
 -- The promises of `from_rows` and `encode` fix what they answer and what they leave: each field is an equation with a value of
 -- the inputs.
 use Rattle.std.specs.Prelude.{None, Some, Result, Ok, Err, ℕ}
-use mathlib.Core.Path.{◌≡◌, ap}
+use mathlib.Core.Path.{◌≡◌}
 use mathlib.Core.Logic.{◌↔◌}
 use Prim.Native.Nat.{ℕ}
 use mathlib.Core.List.{List}

@@ -1,21 +1,21 @@
 -- The longest piece, as the walk finds it. Each byte more of the word is a step more of the walk; a piece that ends there is
 -- longer than those before it; and where the walk stops, nothing beyond is a piece. Assumes nothing.
-use Rattle.std.specs.Prelude.{Option, None, Some, option_and_then, option_map}
+use Rattle.std.specs.Prelude.{Option, None, Some, option_map}
 use mathlib.Core.Path.{◌≡◌, refl, sym, ap, ◌∙◌}
-use mathlib.Core.Bool.{Bool, true, false, not, ◌&&◌, cond}
+use mathlib.Core.Bool.{Bool, true, false, ◌&&◌, cond}
 use mathlib.Core.List.{List, [], ◌∷◌, ◌++◌}
 use Prim.Native.Nat.{ℕ, zero, suc, ◌+◌, ◌-◌, ◌≤◌, ◌<◌}
 use native.Mathlib.Numerals.{add-one}
 use native.Mathlib.Omega.{arith}
 use native.Mathlib.Decide.{dec_lt}
-use borrow.Author.Tests.{lt-ltb, le-ltb, ltb-true, eqb-true, eqb-false, eq-eqb, ne_eqb}
-use lib.Dec.{ltb, eqb}
-use lib.ListN.{length, get_or, take, drop, length-drop}
-use lib.Seq.{take-suc, take-add, drop-drop, get_or-drop}
+use borrow.Author.Tests.{lt-ltb, le-ltb, ltb-true, eq-eqb, ne_eqb}
+use lib.Dec.{ltb}
+use lib.ListN.{length, get_or, take, drop}
+use Rattle.std.proofs.lemmas.List.Edits.{between_more}
+use lib.Seq.{take-add, drop-drop}
 use Rattle.refusal.specs.Refusal.{first}
 use Rattle.refusal.proofs.Lists.{none-some}
 use Rattle.refusal.proofs.Tests.{none_first}
-use Rattle.refusal.specs.Sizes.{no_id}
 use Rattle.text.specs.Text.{boundary, part}
 use Rattle.trie.specs.Trie.{Trie, walk, step, id_at, id_from}
 use Rattle.trie.specs.Sound.{sound}
@@ -28,17 +28,11 @@ use Rattle.wordpiece.specs.Checked.{found_since, NodeOf}
 -- ---- parts of a word
 
 -- one byte more
-pub part-more : (w : List ℕ) (i j : ℕ) → i ≤ j → j < length w → part w i (suc j) ≡ part w i j ++ (get_or w j 0 ∷ [])
-part-more w i j h b =
-    let n : suc j - i ≡ suc (j - i) = omega arith in
-    let inside : j - i < length (drop i w) = omega (arith, length-drop i w) in
-    let at : i + (j - i) ≡ j = omega arith in
-    ap (λ (m : ℕ). take m (drop i w)) n
-    ∙ take-suc (drop i w) (j - i) 0 inside
-    ∙ ap (λ (x : ℕ). part w i j ++ (x ∷ [])) (get_or-drop i w (j - i) 0 ∙ ap (λ (m : ℕ). get_or w m 0) at)
+part-more : (w : List ℕ) (i j : ℕ) → i ≤ j → j < length w → part w i (suc j) ≡ part w i j ++ (get_or w j 0 ∷ [])
+part-more w i j h b = rw (← add-one) (between_more w i j 0 h b)
 
 -- a part is a part and then the rest of it
-pub part-on : (w : List ℕ) (i j m : ℕ) → i ≤ j → j ≤ m → part w i m ≡ part w i j ++ part w j m
+part-on : (w : List ℕ) (i j m : ℕ) → i ≤ j → j ≤ m → part w i m ≡ part w i j ++ part w j m
 part-on w i j m p q =
     let n : m - i ≡ j - i + (m - j) = omega arith in
     let at : i + (j - i) ≡ j = omega arith in

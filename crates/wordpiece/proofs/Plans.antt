@@ -1,6 +1,6 @@
 -- What is to be written for a word, by what was found of it: a miss at any place makes it one unknown; else the first piece's
 -- id and then those of the rest, at most one a character. Assumes nothing.
-use Rattle.std.specs.Prelude.{Option, None, Some, option_and_then, option_map, ℕ}
+use Rattle.std.specs.Prelude.{Option, None, Some, option_map, ℕ}
 use mathlib.Core.Path.{◌≡◌, refl, sym, ap, ◌∙◌}
 use mathlib.Core.Bool.{Bool, true, false, cond}
 use mathlib.Core.List.{List, [], ◌∷◌, ◌++◌, append-nil}
@@ -117,31 +117,23 @@ pub sets-taken : (vs l : List ℕ) → length vs ≤ length l → take (length v
 sets-taken vs l h =
     ap (take (length vs)) (sets_over vs l h) ∙ take_at vs (drop (length vs) l) (length vs) refl
 
--- so after a walk over a rest of n ids these are held
-pub walk-holds : {rest : Option (List ℕ)} {before after : List ℕ} {count : Option ℕ} {n : ℕ} → Walked rest before count after → count ≡ Some n → (xs : List ℕ) → rest ≡ Some xs → (n ≡ length xs) × (n ≤ length after → take n after ≡ xs)
-walk-holds {before = before} {after = after} {n = n} walked told xs e =
-    let many : n ≡ length xs = cc (told, walked.answered, ap (option_map length) e) in
-    let stored : after ≡ sets before 0 xs = walked.held xs e in (
-      many,
-      λ h.
-          ap (λ (m : ℕ). take m after) many
-          ∙ ap (take (length xs)) stored
-          ∙ sets-taken xs before (omega (arith, ap length stored, length-sets before 0 xs)),
-    )
-
--- what is kept between the two walks
+-- so what a walk over the rest left is what is kept between the two walks
 pub kept-from :
     {find : List ℕ → Option ℕ} {w : List ℕ} {i x n : ℕ} {all before held places : List ℕ} → Follows find w i x all
     → Walked (rest_from find w i) before (Some n) held → characters w ≤ length places → Kept find w i places held n
-kept-from {n = n} f walked room =
-    let holds = walk-holds walked refl f.ids f.rest in
+kept-from {n = n} {before = before} {held = held} f walked room =
+    let many : n ≡ length f.ids = cc (walked.answered, ap (option_map length) f.rest) in
+    let stored : held ≡ sets before 0 f.ids = walked.held f.ids f.rest in
     record {
       below = f.below;
       ids = f.ids;
       rest = f.rest;
-      many = holds.0;
-      room = omega (arith, holds.0, f.few, room);
-      held = holds.1;
+      many = many;
+      room = omega (arith, many, f.few, room);
+      held =
+          λ h.
+          let fits : length f.ids ≤ length before = omega (arith, many, ap length stored, length-sets before 0 f.ids) in
+          rw (many, stored) (sets-taken f.ids before fits);
     }
 
 -- x in the first place, and behind it the ids xs for as many places
