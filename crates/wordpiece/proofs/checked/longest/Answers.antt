@@ -20,8 +20,10 @@ loop-j-preserved c =
     elim c.match-ending.branch [
       | in-Some-ending w ↦
           rw (w.end-is, w.last-is)
-          (come-piece _ _ _ _ c.loop-j.invariant (omega arith) c.loop-j-test.true (sym c.in-Some.ensures) (sym w.in-Some-ending.ensures))
+          (come-piece _ _ _ _ c.loop-j.invariant (omega arith) c.loop-j-test.true (sym c.in-Some.ensures)
+          (sym w.in-Some-ending.ensures))
       | in_default-ending w ↦
           rw (w.end-is, w.last-is)
-          (come-past _ _ _ _ c.loop-j.invariant (omega arith) c.loop-j-test.true (sym c.in-Some.ensures) (sym w.in_default-ending.ensures))
+          (come-past _ _ _ _ c.loop-j.invariant (omega arith) c.loop-j-test.true (sym c.in-Some.ensures)
+          (sym w.in_default-ending.ensures))
     ]

@@ -1,5 +1,5 @@
--- `wordpiece::checked::put_all` meets its contract: the first id, and behind it those of the rest, held or found again, lie over
--- what was there. Assumes nothing.
+-- `wordpiece::checked::put_all` meets its contract: the first id, and behind it those of the rest, held or found again, lie
+-- over what was there. Assumes nothing.
 use Rattle.std.proofs.Common.{◌≡◌, ap, ◌∙◌, ℕ, ◌+◌, ◌<◌, length, length-set, arith}
 use Rattle.wordpiece.proofs.Plans.{laid_behind, stored_behind}
 use Rattle.wordpiece.proofs.checked.put_all.Goals as goal
