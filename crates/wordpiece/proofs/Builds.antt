@@ -37,11 +37,14 @@ module _ (tab off len : List ℕ) (ids : List ℕ) (m after : Memory) {room : �
     -- the room decides
     decides : no_room (nodes_of tab rows) (with_scores m []) ≡ ltb room (nodes_of tab rows)
     decides =
-        no_room_by (with_scores m []) (nodes_of tab rows) (nodes-some tab rows) (omega (arith, nodes-small WordPiece tab c fine))
+        no_room_by (with_scores m []) (nodes_of tab rows) (nodes-some tab rows)
+        (omega (arith, nodes-small WordPiece tab c fine))
         ∙ ap (λ (k : ℕ). ltb k (nodes_of tab rows)) (sym r)
 
     pub lists-full : answer ≡ None → Built tab c (with_scores m []) (Err (reason.Call fault.Room)) (with_scores after [])
-    lists-full e = core-short WordPiece tab rows (nodes_of tab rows) m after [] [] (columns-built WordPiece tab c fine d) fine decides e refl
+    lists-full e =
+        core-short WordPiece tab rows (nodes_of tab rows) m after [] []
+        (columns-built WordPiece tab c fine d) fine decides e refl
 
     pub lists-built : {n : ℕ} → answer ≡ Some n → Built tab c (with_scores m []) (Ok n) (with_scores after [])
     unfolding scores_in

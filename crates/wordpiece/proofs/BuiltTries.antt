@@ -36,12 +36,16 @@ module _ (tab : List ℕ) (rows : List Row) (bytes : Bytes tab) (fine : first_ba
   rows-lookup = wordpiece-lookup tab rows bytes (ids-marked tab rows fine)
 
   -- the ids of a word are those that the row list itself gives
-  pub ids-of-rows : (unknown max_chars : ℕ) (prefix w : List ℕ) → ids_of (id_of (wordpiece_trie tab rows)) unknown max_chars prefix w ≡ ids_of (last_id tab rows) unknown max_chars prefix w
+  pub ids-of-rows :
+      (unknown max_chars : ℕ) (prefix w : List ℕ)
+      → ids_of (id_of (wordpiece_trie tab rows)) unknown max_chars prefix w
+      ≡ ids_of (last_id tab rows) unknown max_chars prefix w
   ids-of-rows = ids-same (id_of (wordpiece_trie tab rows)) (last_id tab rows) rows-lookup
 
 -- ---- sound parts are not refused with 8
 
-pub sound-not-refused : (t : Trie) (prefix w : List ℕ) (places : ℕ) → sound t ≡ true → encode_fault (sound t) prefix w places ≡ Some fault.Trie → ⊥
+pub sound-not-refused :
+    (t : Trie) (prefix w : List ℕ) (places : ℕ) → sound t ≡ true → encode_fault (sound t) prefix w places ≡ Some fault.Trie → ⊥
 sound-not-refused t prefix w places s e =
     let z : true ≡ false = sound-fault (sound t) prefix w places s e in
     zero_one cc
@@ -61,16 +65,22 @@ module _ (tab : List ℕ) (c : Columns) (m after : Memory) (n : ℕ) (bytes : By
   pub built-sound : sound (parts_in n after) ≡ true
   unfolding trie_in
   built-sound =
-      ap sound built-parts ∙ rows-sound tab (rows_of c) bytes WordPiece (few-rows WordPiece tab c built-fine) (rows-fine WordPiece tab c built-fine)
+      ap sound built-parts
+      ∙ rows-sound tab (rows_of c) bytes WordPiece (few-rows WordPiece tab c built-fine) (rows-fine WordPiece tab c built-fine)
 
   -- `encode` does not refuse it with 8
-  pub built-not-refused : (prefix w : List ℕ) (places : ℕ) → encode_fault (sound (parts_in n after)) prefix w places ≡ Some fault.Trie → ⊥
+  pub built-not-refused :
+      (prefix w : List ℕ) (places : ℕ) → encode_fault (sound (parts_in n after)) prefix w places ≡ Some fault.Trie → ⊥
   built-not-refused prefix w places = sound-not-refused (parts_in n after) prefix w places built-sound
 
   -- a string has in it the id that the row list gives it
   pub built-lookup : (s : List ℕ) → id_of (parts_in n after) s ≡ last_id tab (rows_of c) s
-  built-lookup s = ap (λ (t : Trie). id_of t s) built-parts ∙ rows-lookup tab (rows_of c) bytes (rows-fine WordPiece tab c built-fine) s
+  built-lookup s =
+      ap (λ (t : Trie). id_of t s) built-parts ∙ rows-lookup tab (rows_of c) bytes (rows-fine WordPiece tab c built-fine) s
 
   -- and so a word has in it the ids that the row list gives it
-  pub built-ids : (unknown max_chars : ℕ) (prefix w : List ℕ) → ids_of (id_of (parts_in n after)) unknown max_chars prefix w ≡ ids_of (last_id tab (rows_of c)) unknown max_chars prefix w
+  pub built-ids :
+      (unknown max_chars : ℕ) (prefix w : List ℕ)
+      → ids_of (id_of (parts_in n after)) unknown max_chars prefix w
+      ≡ ids_of (last_id tab (rows_of c)) unknown max_chars prefix w
   built-ids = ids-same (id_of (parts_in n after)) (last_id tab (rows_of c)) built-lookup

@@ -1,5 +1,5 @@
 -- The first fault of a call of `encode`, by its tests in their order; and a call without a fault is ready. Assumes nothing.
-use Rattle.std.specs.Prelude.{Option, None, Some}
+use Rattle.std.specs.Prelude.{None, Some}
 use mathlib.Core.Path.{◌≡◌, refl, sym, ap, ◌∙◌}
 use mathlib.Core.Bool.{Bool, true, false, not}
 use mathlib.Core.Logic.{◌⊎◌, inl, inr}
@@ -12,7 +12,8 @@ use Rattle.refusal.specs.declared.Fault.{Fault}
 use Rattle.refusal.specs.declared.Fault.TheVariants as fault
 use Rattle.refusal.specs.Sizes.{max_text, max_prefix, above}
 use Rattle.refusal.specs.Refusal.{refuse, first}
-use Rattle.refusal.proofs.Tests.{or_left, or_right, neither, found, not_found, found_first, none_first, passed, both-passed, Not, refused-so, first_so, nothing-so}
+use Rattle.refusal.proofs.Tests.{or_left, or_right, neither, found, not_found, found_first, none_first, passed, both-passed}
+use Rattle.refusal.proofs.Tests.{Not, refused-so, first_so, nothing-so}
 use Rattle.text.specs.Text.{well_formed, text_fault, characters}
 use Rattle.text.proofs.Spans.{fine-text, text-not}
 use Rattle.trie.specs.Trie.{Trie}
@@ -21,7 +22,9 @@ use Rattle.wordpiece.specs.Encode.{encode_fault}
 use Rattle.wordpiece.specs.Checked.{Encodable}
 
 module _ (parts : Bool) (prefix w : List ℕ) (places : ℕ) where
-  pub fault-size : (max_text < length w) ⊎ (length w ≤ max_text × max_prefix < length prefix) → encode_fault parts prefix w places ≡ Some fault.Size
+  pub fault-size :
+      (max_text < length w) ⊎ (length w ≤ max_text × max_prefix < length prefix)
+      → encode_fault parts prefix w places ≡ Some fault.Size
   unfolding encode_fault
   fault-size (inl h) = found _ fault.Size _ (or_left _ (above max_prefix (length prefix)) (lt-ltb max_text (length w) h))
   fault-size (inr h) = found _ fault.Size _ (or_right (above max_text (length w)) _ (lt-ltb max_prefix (length prefix) h.1))
@@ -56,7 +59,8 @@ module _ (prefix w : List ℕ) (places : ℕ) (word_fits : length w ≤ max_text
       (first (text_fault w) (first (text_fault prefix) (refuse (ltb places (characters w)) fault.Ids None)))
   unfolding encode_fault
   past-sizes parts =
-      not_found _ fault.Size _ (neither _ _ (le-ltb max_text (length w) word_fits) (le-ltb max_prefix (length prefix) prefix-fits))
+      not_found _ fault.Size _
+      (neither _ _ (le-ltb max_text (length w) word_fits) (le-ltb max_prefix (length prefix) prefix-fits))
 
   pub fault-trie : encode_fault false prefix w places ≡ Some fault.Trie
   fault-trie = past-sizes false ∙ found _ fault.Trie _ refl

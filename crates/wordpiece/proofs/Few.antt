@@ -17,7 +17,9 @@ use Rattle.wordpiece.proofs.Rest.{pieces-few, some-character}
 use Rattle.wordpiece.proofs.Plans.{ids-long, ids_short, ids-empty}
 
 module _ (find : List ℕ → Option ℕ) (w : List ℕ) (well : well_formed w ≡ true) where
-  or-unknown-few : (unknown : ℕ) (o : Option (List ℕ)) → ((ids : List ℕ) → o ≡ Some ids → length ids ≤ characters w) → 1 ≤ characters w → length (or_unknown unknown o) ≤ characters w
+  or-unknown-few :
+      (unknown : ℕ) (o : Option (List ℕ)) → ((ids : List ℕ) → o ≡ Some ids → length ids ≤ characters w) → 1 ≤ characters w
+      → length (or_unknown unknown o) ≤ characters w
   or-unknown-few unknown None h one = omega arith
   or-unknown-few unknown (Some ids) h one = h ids refl
 
@@ -28,7 +30,9 @@ module _ (find : List ℕ → Option ℕ) (w : List ℕ) (well : well_formed w �
   pub ids-few : (unknown max_chars : ℕ) (prefix : List ℕ) → length (ids_of find unknown max_chars prefix w) ≤ characters w
   ids-few unknown max_chars prefix = go (dec_lt 0 (length w)) (ltb max_chars (characters w)) refl
     where
-      go : Dec (0 < length w) → (b : Bool) → ltb max_chars (characters w) ≡ b → length (ids_of find unknown max_chars prefix w) ≤ characters w
+      go :
+          Dec (0 < length w) → (b : Bool) → ltb max_chars (characters w) ≡ b
+          → length (ids_of find unknown max_chars prefix w) ≤ characters w
       go (no h) b e = omega (arith, ap length (ids-empty find unknown max_chars prefix w (omega (arith, h))))
       go (yes h) true e = omega (arith, ap length (ids-long find unknown max_chars prefix w e), some-character w well h)
       go (yes h) false e =

@@ -1,21 +1,21 @@
 -- The longest piece, as the walk finds it. Each byte more of the word is a step more of the walk; a piece that ends there is
 -- longer than those before it; and where the walk stops, nothing beyond is a piece. Assumes nothing.
-use Rattle.std.specs.Prelude.{Option, None, Some, option_and_then, option_map}
+use Rattle.std.specs.Prelude.{Option, None, Some, option_map}
 use mathlib.Core.Path.{◌≡◌, refl, sym, ap, ◌∙◌}
-use mathlib.Core.Bool.{Bool, true, false, not, ◌&&◌, cond}
+use mathlib.Core.Bool.{Bool, true, false, ◌&&◌, cond}
 use mathlib.Core.List.{List, [], ◌∷◌, ◌++◌}
 use Prim.Native.Nat.{ℕ, zero, suc, ◌+◌, ◌-◌, ◌≤◌, ◌<◌}
 use native.Mathlib.Numerals.{add-one}
 use native.Mathlib.Omega.{arith}
 use native.Mathlib.Decide.{dec_lt}
-use borrow.Author.Tests.{lt-ltb, le-ltb, ltb-true, eqb-true, eqb-false, eq-eqb, ne_eqb}
-use lib.Dec.{ltb, eqb}
-use lib.ListN.{length, get_or, take, drop, length-drop}
-use lib.Seq.{take-suc, take-add, drop-drop, get_or-drop}
+use borrow.Author.Tests.{lt-ltb, le-ltb, ltb-true, eq-eqb, ne_eqb}
+use lib.Dec.{ltb}
+use lib.ListN.{length, get_or, take, drop}
+use Rattle.std.proofs.lemmas.List.Edits.{between_more}
+use lib.Seq.{take-add, drop-drop}
 use Rattle.refusal.specs.Refusal.{first}
 use Rattle.refusal.proofs.Lists.{none-some}
 use Rattle.refusal.proofs.Tests.{none_first}
-use Rattle.refusal.specs.Sizes.{no_id}
 use Rattle.text.specs.Text.{boundary, part}
 use Rattle.trie.specs.Trie.{Trie, walk, step, id_at, id_from}
 use Rattle.trie.specs.Sound.{sound}
@@ -28,17 +28,11 @@ use Rattle.wordpiece.specs.Checked.{found_since, NodeOf}
 -- ---- parts of a word
 
 -- one byte more
-pub part-more : (w : List ℕ) (i j : ℕ) → i ≤ j → j < length w → part w i (suc j) ≡ part w i j ++ (get_or w j 0 ∷ [])
-part-more w i j h b =
-    let n : suc j - i ≡ suc (j - i) = omega arith in
-    let inside : j - i < length (drop i w) = omega (arith, length-drop i w) in
-    let at : i + (j - i) ≡ j = omega arith in
-    ap (λ (m : ℕ). take m (drop i w)) n
-    ∙ take-suc (drop i w) (j - i) 0 inside
-    ∙ ap (λ (x : ℕ). part w i j ++ (x ∷ [])) (get_or-drop i w (j - i) 0 ∙ ap (λ (m : ℕ). get_or w m 0) at)
+part-more : (w : List ℕ) (i j : ℕ) → i ≤ j → j < length w → part w i (suc j) ≡ part w i j ++ (get_or w j 0 ∷ [])
+part-more w i j h b = rw (← add-one) (between_more w i j 0 h b)
 
 -- a part is a part and then the rest of it
-pub part-on : (w : List ℕ) (i j m : ℕ) → i ≤ j → j ≤ m → part w i m ≡ part w i j ++ part w j m
+part-on : (w : List ℕ) (i j m : ℕ) → i ≤ j → j ≤ m → part w i m ≡ part w i j ++ part w j m
 part-on w i j m p q =
     let n : m - i ≡ j - i + (m - j) = omega arith in
     let at : i + (j - i) ≡ j = omega arith in
@@ -80,12 +74,17 @@ module _ (find : List ℕ → Option ℕ) (p w : List ℕ) (i : ℕ) where
   piece_is j = refl
 
   -- what a piece says
-  pub piece-says : (j : ℕ) {f : Found} → piece_to find p w i j ≡ Some f → (i < j) × (boundary w j ≡ true) × (j ≡ f.end) × (find (p ++ part w i j) ≡ Some f.id)
+  pub piece-says :
+      (j : ℕ) {f : Found} → piece_to find p w i j ≡ Some f
+      → (i < j) × (boundary w j ≡ true) × (j ≡ f.end) × (find (p ++ part w i j) ≡ Some f.id)
   piece-says j {f} e = go (ltb i j && boundary w j) (find (p ++ part w i j)) refl (sym (piece_is j) ∙ e)
     where
-      go : (b : Bool) (o : Option ℕ) → ltb i j && boundary w j ≡ b → end_at b j o ≡ Some f → (i < j) × (boundary w j ≡ true) × (j ≡ f.end) × (o ≡ Some f.id)
+      go :
+          (b : Bool) (o : Option ℕ) → ltb i j && boundary w j ≡ b → end_at b j o ≡ Some f
+          → (i < j) × (boundary w j ≡ true) × (j ≡ f.end) × (o ≡ Some f.id)
       go true None q r = absurd (none-some r)
-      go true (Some x) q r = (ltb-true i j (every.first (ltb i j) (boundary w j) q), every.second (ltb i j) (boundary w j) q, cc, cc)
+      go true (Some x) q r =
+          (ltb-true i j (every.first (ltb i j) (boundary w j) q), every.second (ltb i j) (boundary w j) q, cc, cc)
       go false o q r = absurd (none-some r)
 
   -- what is not spelled is no piece
@@ -101,16 +100,21 @@ module _ (find : List ℕ → Option ℕ) (p w : List ℕ) (i : ℕ) where
   longest-more j = refl
 
   -- where no piece ends after m, the longest is the one that ends at m or before
-  pub longest-until : (m n : ℕ) → m ≤ n → ((j : ℕ) → m < j → j ≤ n → piece_to find p w i j ≡ None) → longest_to find p w i n ≡ longest_to find p w i m
+  pub longest-until :
+      (m n : ℕ) → m ≤ n → ((j : ℕ) → m < j → j ≤ n → piece_to find p w i j ≡ None)
+      → longest_to find p w i n ≡ longest_to find p w i m
   longest-until m zero h none-at = let same : 0 ≡ m = omega arith in ap (longest_to find p w i) same
   longest-until m (suc n) h none-at = go (dec_lt m (suc n)) (longest-until m n)
     where
       go :
-          Dec (m < suc n) → (m ≤ n → ((j : ℕ) → m < j → j ≤ n → piece_to find p w i j ≡ None) → longest_to find p w i n ≡ longest_to find p w i m)
+          Dec (m < suc n)
+          → (m ≤ n → ((j : ℕ) → m < j → j ≤ n → piece_to find p w i j ≡ None)
+          → longest_to find p w i n ≡ longest_to find p w i m)
           → longest_to find p w i (suc n) ≡ longest_to find p w i m
       go (no l) on = let same : suc n ≡ m = omega (arith, l) in ap (longest_to find p w i) same
       go (yes l) on =
-          longest-more n ∙ none_first _ (none-at (suc n) l (omega arith)) ∙ on (omega arith) (λ j a b. none-at j a (omega arith))
+          longest-more n ∙ none_first _ (none-at (suc n) l (omega arith))
+          ∙ on (omega arith) (λ j a b. none-at j a (omega arith))
 
   pub longest-start : (j : ℕ) → j ≤ i → longest_to find p w i j ≡ None
   unfolding longest_to
@@ -124,15 +128,21 @@ module _ (t : Trie) (k : ℕ) (w : List ℕ) (i : ℕ) where
 
   -- one step more
   pub longest-step :
-      (j : ℕ) {n m : ℕ} → i ≤ j → j < length w → walk t k (part w i j) ≡ Some n → step t n (get_or w j 0) ≡ Some m → (walk t k (part w i (suc j)) ≡ Some m) × (best (suc j) ≡ first (end_at (boundary w (suc j)) (suc j) (id_at t m)) (best j))
+      (j : ℕ) {n m : ℕ} → i ≤ j → j < length w → walk t k (part w i j) ≡ Some n → step t n (get_or w j 0) ≡ Some m
+      → (walk t k (part w i (suc j)) ≡ Some m)
+      × (best (suc j) ≡ first (end_at (boundary w (suc j)) (suc j) (id_at t m)) (best j))
   longest-step j {n} {m} h b e s =
       let on : walk t k (part w i (suc j)) ≡ Some m =
-      ap (walk t k) (part-more w i j h b) ∙ walk-snoc t k (part w i j) (get_or w j 0) ∙ rw e s in
-      (on, longest-more (id_from t k) [] w i j ∙ rw (piece_is (id_from t k) [] w i (suc j), lt-ltb i (suc j) (omega arith), from_some t k (part w i (suc j)) on))
+      ap (walk t k) (part-more w i j h b) ∙ walk-snoc t k (part w i j) (get_or w j 0) ∙ rw e s in (
+        on,
+        longest-more (id_from t k) [] w i j
+            ∙ rw (piece_is (id_from t k) [] w i (suc j), lt-ltb i (suc j) (omega arith), from_some t k (part w i (suc j)) on),
+      )
 
   -- no step: nothing beyond is a piece
   pub longest-stops :
-      (j : ℕ) {n : ℕ} → i ≤ j → j < length w → walk t k (part w i j) ≡ Some n → step t n (get_or w j 0) ≡ None → best (length w) ≡ best j
+      (j : ℕ) {n : ℕ} → i ≤ j → j < length w → walk t k (part w i j) ≡ Some n → step t n (get_or w j 0) ≡ None
+      → best (length w) ≡ best j
   longest-stops j {n} h b e s =
       longest-until (id_from t k) [] w i j (length w) (omega arith)
       (λ m q l. piece-absent (id_from t k) [] w i m (from-none t k (part w i m) (none-at m q)))
@@ -142,7 +152,8 @@ module _ (t : Trie) (k : ℕ) (w : List ℕ) (i : ℕ) where
 
       none-at : (m : ℕ) → j < m → walk t k (part w i m) ≡ None
       none-at m q =
-          ap (walk t k) (part-on w i (suc j) m (omega arith) q) ∙ walk-append-none t k (part w i (suc j)) (part w (suc j) m) stopped
+          ap (walk t k) (part-on w i (suc j) m (omega arith) q)
+          ∙ walk-append-none t k (part w i (suc j)) (part w (suc j) m) stopped
 
 -- ---- nodes of sound parts
 

@@ -1,6 +1,6 @@
 -- What is to be written for a word, by what was found of it: a miss at any place makes it one unknown; else the first piece's
 -- id and then those of the rest, at most one a character. Assumes nothing.
-use Rattle.std.specs.Prelude.{Option, None, Some, option_and_then, option_map, ℕ}
+use Rattle.std.specs.Prelude.{Option, None, Some, option_map, ℕ}
 use mathlib.Core.Path.{◌≡◌, refl, sym, ap, ◌∙◌}
 use mathlib.Core.Bool.{Bool, true, false, cond}
 use mathlib.Core.List.{List, [], ◌∷◌, ◌++◌, append-nil}
@@ -20,7 +20,8 @@ use Rattle.wordpiece.specs.Pieces.{Found, longest_to, pieces_of, ids_of}
 use Rattle.wordpiece.specs.Checked.{rest_from, Walked, Kept}
 use Rattle.wordpiece.proofs.Longest.{piece-to}
 use Rattle.wordpiece.proofs.Turns.{before, or_unknown}
-use Rattle.wordpiece.proofs.Rest.{Ends, longest-ends, pieces-empty, pieces-alone, pieces-absent, after-prefix, pieces-with, pieces-few, one_more, some-character}
+use Rattle.wordpiece.proofs.Rest.{pieces-empty, pieces-alone, pieces-absent, after-prefix, pieces-with}
+use Rattle.wordpiece.proofs.Rest.{Ends, longest-ends, pieces-few, one_more, some-character}
 
 -- the ids `all` are x and then those of the pieces of w from i on; these are no more than the characters from i on
 pub record Follows (find : List ℕ → Option ℕ) (w : List ℕ) (i x : ℕ) (all : List ℕ) : Type 0 where
@@ -37,13 +38,16 @@ module _ (find : List ℕ → Option ℕ) (unknown max_chars : ℕ) (prefix w : 
   unfolding ids_of
   ids-long e = ap (λ (b : Bool). cond b (unknown ∷ []) (or_unknown unknown (pieces_of find prefix w))) e
 
-  pub ids_short : ltb max_chars (characters w) ≡ false → ids_of find unknown max_chars prefix w ≡ or_unknown unknown (pieces_of find prefix w)
+  pub ids_short :
+      ltb max_chars (characters w) ≡ false
+      → ids_of find unknown max_chars prefix w ≡ or_unknown unknown (pieces_of find prefix w)
   unfolding ids_of
   ids_short e = ap (λ (b : Bool). cond b (unknown ∷ []) (or_unknown unknown (pieces_of find prefix w))) e
 
   pub ids-empty : length w ≡ 0 → ids_of find unknown max_chars prefix w ≡ []
   ids-empty e =
-      ids_short (le-ltb max_chars (characters w) (omega (arith, characters-le w))) ∙ ap (or_unknown unknown) (pieces-empty find prefix w e)
+      ids_short (le-ltb max_chars (characters w) (omega (arith, characters-le w)))
+      ∙ ap (or_unknown unknown) (pieces-empty find prefix w e)
 
 -- ---- misses
 
@@ -51,7 +55,8 @@ module _ (find : List ℕ → Option ℕ) (unknown max_chars : ℕ) (prefix w : 
 abbrev pub One : (List ℕ → Option ℕ) → ℕ → List ℕ → List ℕ → ℕ → Type 0
 One find unknown prefix w x = (or_unknown unknown (pieces_of find prefix w) ≡ x ∷ []) × (1 ≤ characters w)
 
-module _ (find : List ℕ → Option ℕ) (unknown : ℕ) (prefix w : List ℕ) (well : well_formed w ≡ true) (some_byte : 0 < length w) where
+module _ (find : List ℕ → Option ℕ) (unknown : ℕ) (prefix w : List ℕ) (well : well_formed w ≡ true)
+    (some_byte : 0 < length w) where
   -- one unknown
   pub missed : pieces_of find prefix w ≡ None → One find unknown prefix w unknown
   missed e = (ap (or_unknown unknown) e, some-character w well some_byte)
@@ -60,7 +65,8 @@ module _ (find : List ℕ → Option ℕ) (unknown : ℕ) (prefix w : List ℕ) 
   pub alone : {f : Found} → longest_to find [] w 0 (length w) ≡ Some f → f.end ≡ length w → One find unknown prefix w f.id
   alone e last = (ap (or_unknown unknown) (pieces-alone find prefix w some_byte e last), some-character w well some_byte)
 
-module _ (t : Trie) (unknown : ℕ) (prefix w : List ℕ) (well : well_formed w ≡ true) {end id : ℕ} (longest : longest_to (id_of t) [] w 0 (length w) ≡ Some (piece-to end id)) (below : end < length w) where
+module _ (t : Trie) (unknown : ℕ) (prefix w : List ℕ) (well : well_formed w ≡ true) {end id : ℕ}
+    (longest : longest_to (id_of t) [] w 0 (length w) ≡ Some (piece-to end id)) (below : end < length w) where
   some_byte : 0 < length w
   some_byte = omega (arith, below)
 
@@ -82,13 +88,17 @@ module _ (t : Trie) (unknown : ℕ) (prefix w : List ℕ) (well : well_formed w 
         go (Some ids) g = absurd (none-some (e ∙ ap (option_map length) g))
 
     -- all pieces are there
-    pub follows : {n : ℕ} → Some n ≡ option_map length (rest_from (id_from t k) w end) → Follows (id_from t k) w end id (or_unknown unknown (pieces_of (id_of t) prefix w))
+    pub follows :
+        {n : ℕ} → Some n ≡ option_map length (rest_from (id_from t k) w end)
+        → Follows (id_from t k) w end id (or_unknown unknown (pieces_of (id_of t) prefix w))
     follows {n} e = go (rest_from (id_from t k) w end) refl
       where
         ends : Ends w 0 (length w) (piece-to end id)
         ends = longest-ends (id_of t) [] w 0 (length w) longest
 
-        go : (o : Option (List ℕ)) → rest_from (id_from t k) w end ≡ o → Follows (id_from t k) w end id (or_unknown unknown (pieces_of (id_of t) prefix w))
+        go :
+            (o : Option (List ℕ)) → rest_from (id_from t k) w end ≡ o
+            → Follows (id_from t k) w end id (or_unknown unknown (pieces_of (id_of t) prefix w))
         go None g = absurd (none-some (sym (e ∙ ap (option_map length) g)))
         go (Some ids) g =
             record {
@@ -117,31 +127,23 @@ pub sets-taken : (vs l : List ℕ) → length vs ≤ length l → take (length v
 sets-taken vs l h =
     ap (take (length vs)) (sets_over vs l h) ∙ take_at vs (drop (length vs) l) (length vs) refl
 
--- so after a walk over a rest of n ids these are held
-pub walk-holds : {rest : Option (List ℕ)} {before after : List ℕ} {count : Option ℕ} {n : ℕ} → Walked rest before count after → count ≡ Some n → (xs : List ℕ) → rest ≡ Some xs → (n ≡ length xs) × (n ≤ length after → take n after ≡ xs)
-walk-holds {before = before} {after = after} {n = n} walked told xs e =
-    let many : n ≡ length xs = cc (told, walked.answered, ap (option_map length) e) in
-    let stored : after ≡ sets before 0 xs = walked.held xs e in (
-      many,
-      λ h.
-          ap (λ (m : ℕ). take m after) many
-          ∙ ap (take (length xs)) stored
-          ∙ sets-taken xs before (omega (arith, ap length stored, length-sets before 0 xs)),
-    )
-
--- what is kept between the two walks
+-- so what a walk over the rest left is what is kept between the two walks
 pub kept-from :
     {find : List ℕ → Option ℕ} {w : List ℕ} {i x n : ℕ} {all before held places : List ℕ} → Follows find w i x all
     → Walked (rest_from find w i) before (Some n) held → characters w ≤ length places → Kept find w i places held n
-kept-from {n = n} f walked room =
-    let holds = walk-holds walked refl f.ids f.rest in
+kept-from {n = n} {before = before} {held = held} f walked room =
+    let many : n ≡ length f.ids = cc (walked.answered, ap (option_map length) f.rest) in
+    let stored : held ≡ sets before 0 f.ids = walked.held f.ids f.rest in
     record {
       below = f.below;
       ids = f.ids;
       rest = f.rest;
-      many = holds.0;
-      room = omega (arith, holds.0, f.few, room);
-      held = holds.1;
+      many = many;
+      room = omega (arith, many, f.few, room);
+      held =
+          λ h.
+          let fits : length f.ids ≤ length before = omega (arith, many, ap length stored, length-sets before 0 f.ids) in
+          rw (many, stored) (sets-taken f.ids before fits);
     }
 
 -- x in the first place, and behind it the ids xs for as many places
@@ -160,8 +162,11 @@ stored_behind x xs ys (b ∷ before) k h e y =
     let none_left : drop k before ≡ [] = drop_of_length-le before (omega arith) in
     let all_there : take k before ≡ before = take_all k before (omega arith) in
     ap (λ (l : List ℕ). x ∷ ys ++ l) none_left
-    ∙ ap (λ (l : List ℕ). x ∷ l) (append-nil ys ∙ y ∙ ap (λ (l : List ℕ). sets l 0 xs) all_there ∙ sets_over xs before (omega arith))
+    ∙ ap (λ (l : List ℕ). x ∷ l)
+    (append-nil ys ∙ y ∙ ap (λ (l : List ℕ). sets l 0 xs) all_there ∙ sets_over xs before (omega arith))
 
 -- what was written for the ids xs, where these are all
-pub written : (before : List ℕ) {all xs after : List ℕ} {n : ℕ} → all ≡ xs → (n ≡ length xs) × (after ≡ overlay xs before) → (n ≡ length all) × (after ≡ overlay all before)
+pub written :
+    (before : List ℕ) {all xs after : List ℕ} {n : ℕ} → all ≡ xs → (n ≡ length xs) × (after ≡ overlay xs before)
+    → (n ≡ length all) × (after ≡ overlay all before)
 written before e w = (w.0 ∙ sym (ap length e), w.1 ∙ sym (ap (λ (ids : List ℕ). overlay ids before) e))

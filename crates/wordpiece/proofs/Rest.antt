@@ -23,7 +23,8 @@ use Rattle.wordpiece.specs.Checked.{rest_from, Walked}
 use Rattle.wordpiece.proofs.Longest.{piece-says, piece-absent, longest-more, longest-until}
 use Rattle.wordpiece.proofs.Turns.{before, turn, turn-same, pieces-turn, pieces_end, pieces-next, pieces-same}
 
-pub before-some : (x : ℕ) (o : Option (List ℕ)) {ys : List ℕ} → before x o ≡ Some ys → (zs : List ℕ) × (o ≡ Some zs) × (ys ≡ x ∷ zs)
+pub before-some :
+    (x : ℕ) (o : Option (List ℕ)) {ys : List ℕ} → before x o ≡ Some ys → (zs : List ℕ) × (o ≡ Some zs) × (ys ≡ x ∷ zs)
 before-some x None e = absurd (none-some e)
 before-some x (Some zs) {ys} e = (zs, refl, cc)
 
@@ -46,12 +47,16 @@ module _ (find : List ℕ → Option ℕ) (p w : List ℕ) (i : ℕ) where
   longest-ends zero {f} e = absurd (none-some e)
   longest-ends (suc j) {f} e = go (piece_to find p w i (suc j)) refl (longest-ends j) (sym (longest-more find p w i j) ∙ e)
     where
-      go : (o : Option Found) → piece_to find p w i (suc j) ≡ o → (longest_to find p w i j ≡ Some f → Ends w i j f) → first o (longest_to find p w i j) ≡ Some f → Ends w i (suc j) f
+      go :
+          (o : Option Found) → piece_to find p w i (suc j) ≡ o → (longest_to find p w i j ≡ Some f → Ends w i j f)
+          → first o (longest_to find p w i j) ≡ Some f → Ends w i (suc j) f
       go None q on r = let s = on r in record { above = s.above; below = omega (arith, s.below); at = s.at }
       go (Some g) q on r = piece-ends (suc j) (q ∙ r)
 
 -- a larger bound changes nothing, where it is more than what is left of the word
-enough : (find : List ℕ → Option ℕ) (p w : List ℕ) (m n i : ℕ) → length w - i < m → length w - i < n → i ≤ length w → pieces_from find p w m p i ≡ pieces_from find p w n p i
+enough :
+    (find : List ℕ → Option ℕ) (p w : List ℕ) (m n i : ℕ) → length w - i < m → length w - i < n → i ≤ length w
+    → pieces_from find p w m p i ≡ pieces_from find p w n p i
 enough find p w zero n i a b h = absurd (omega arith)
 enough find p w (suc m) zero i a b h = absurd (omega arith)
 enough find p w (suc m) (suc n) i a b h =
@@ -71,11 +76,14 @@ module _ (find : List ℕ → Option ℕ) (w : List ℕ) (i : ℕ) where
   pub rest-miss : i < length w → longest_to find [] w i (length w) ≡ None → rest_from find w i ≡ None
   rest-miss h e = pieces-next find [] w (length w - i) [] i h e
 
-  pub rest-piece : {f : Found} → i < length w → longest_to find [] w i (length w) ≡ Some f → rest_from find w i ≡ before f.id (rest_from find w f.end)
+  pub rest-piece :
+      {f : Found} → i < length w → longest_to find [] w i (length w) ≡ Some f
+      → rest_from find w i ≡ before f.id (rest_from find w f.end)
   rest-piece {f} h e =
       let s = longest-ends find [] w i (length w) e in
       pieces-next find [] w (length w - i) [] i h e
-      ∙ ap (before f.id) (enough find [] w (length w - i) (suc (length w - f.end)) f.end (omega (arith, s.above, s.below)) (omega arith) s.below)
+      ∙ ap (before f.id)
+      (enough find [] w (length w - i) (suc (length w - f.end)) f.end (omega (arith, s.above, s.below)) (omega arith) s.below)
 
 -- ---- the whole word
 
@@ -86,12 +94,15 @@ module _ (find : List ℕ → Option ℕ) (prefix w : List ℕ) where
 
   module _ (some_byte : 0 < length w) where
     -- by what the first piece is
-    pub pieces-first : {o : Option Found} → longest_to find [] w 0 (length w) ≡ o → pieces_of find prefix w ≡ turn false o (pieces_from find prefix w (length w) prefix)
+    pub pieces-first :
+        {o : Option Found} → longest_to find [] w 0 (length w) ≡ o
+        → pieces_of find prefix w ≡ turn false o (pieces_from find prefix w (length w) prefix)
     unfolding pieces_of
     pieces-first e = pieces-next find prefix w (length w) [] 0 some_byte e
 
     -- a piece that is the whole word
-    pub pieces-alone : {f : Found} → longest_to find [] w 0 (length w) ≡ Some f → f.end ≡ length w → pieces_of find prefix w ≡ Some (f.id ∷ [])
+    pub pieces-alone :
+        {f : Found} → longest_to find [] w 0 (length w) ≡ Some f → f.end ≡ length w → pieces_of find prefix w ≡ Some (f.id ∷ [])
     pieces-alone {f} e last = pieces-first e ∙ ap (before f.id) (ended (length w) some_byte)
       where
         ended : (n : ℕ) → 0 < n → pieces_from find prefix w n prefix f.end ≡ Some []
@@ -100,7 +111,9 @@ module _ (find : List ℕ → Option ℕ) (prefix w : List ℕ) where
 
     -- "If no token begins with a non-empty prefix, only a whole-word token escapes unknown": where the first piece is not the
     -- whole word, the second is a miss
-    pub pieces-absent : ((s : List ℕ) → find (prefix ++ s) ≡ None) → {f : Found} → longest_to find [] w 0 (length w) ≡ Some f → f.end < length w → pieces_of find prefix w ≡ None
+    pub pieces-absent :
+        ((s : List ℕ) → find (prefix ++ s) ≡ None) → {f : Found} → longest_to find [] w 0 (length w) ≡ Some f → f.end < length w
+        → pieces_of find prefix w ≡ None
     unfolding pieces_from longest_to
     pieces-absent absent {f} e h = pieces-first e ∙ ap (before f.id) (stuck (length w))
       where
@@ -115,17 +128,22 @@ module _ (find : List ℕ → Option ℕ) (prefix w : List ℕ) where
 
 module _ (t : Trie) (prefix w : List ℕ) where
   -- what stands after the prefix has the id of the walk on from the prefix's node; none, where there is no such node
-  pub after-prefix : {o : Option ℕ} → walk t 0 prefix ≡ o → (s : List ℕ) → id_of t (prefix ++ s) ≡ option_and_then (λ k. id_from t k s) o
-  after-prefix e s = id-of t (prefix ++ s) ∙ from-append t 0 prefix s ∙ ap (λ (o : Option ℕ). option_and_then (λ k. id_from t k s) o) e
+  pub after-prefix :
+      {o : Option ℕ} → walk t 0 prefix ≡ o → (s : List ℕ) → id_of t (prefix ++ s) ≡ option_and_then (λ k. id_from t k s) o
+  after-prefix e s =
+      id-of t (prefix ++ s) ∙ from-append t 0 prefix s ∙ ap (λ (o : Option ℕ). option_and_then (λ k. id_from t k s) o) e
 
   -- so the rest goes on from there
-  pub pieces-with : {f : Found} {k : ℕ} → 0 < length w → longest_to (id_of t) [] w 0 (length w) ≡ Some f → walk t 0 prefix ≡ Some k → pieces_of (id_of t) prefix w ≡ before f.id (rest_from (id_from t k) w f.end)
+  pub pieces-with :
+      {f : Found} {k : ℕ} → 0 < length w → longest_to (id_of t) [] w 0 (length w) ≡ Some f → walk t 0 prefix ≡ Some k
+      → pieces_of (id_of t) prefix w ≡ before f.id (rest_from (id_from t k) w f.end)
   pieces-with {f} {k} h e g =
       let s = longest-ends (id_of t) [] w 0 (length w) e in
       pieces-first (id_of t) prefix w h e
       ∙ ap (before f.id)
       (pieces-same (id_of t) (id_from t k) w prefix [] prefix [] (after-prefix g) (after-prefix g) (length w) f.end
-      ∙ enough (id_from t k) [] w (length w) (suc (length w - f.end)) f.end (omega (arith, s.above, s.below)) (omega arith) s.below)
+      ∙ enough (id_from t k) [] w (length w) (suc (length w - f.end)) f.end
+      (omega (arith, s.above, s.below)) (omega arith) s.below)
 
 -- ---- no more pieces than characters
 
@@ -135,15 +153,18 @@ module _ (w : List ℕ) (well : well_formed w ≡ true) where
       let n : i + (j - i) ≡ j = omega arith in
       omega (
         arith,
-        ap characters (ap (λ (m : ℕ). take m w) (sym n) ∙ take-add i (j - i) w) ∙ characters-append (take i w) (take (j - i) (drop i w)),
+        ap characters (ap (λ (m : ℕ). take m w) (sym n) ∙ take-add i (j - i) w)
+            ∙ characters-append (take i w) (take (j - i) (drop i w)),
       )
 
   -- what stands before a position has no more characters than the word
   pub taken-few : (j : ℕ) → characters (take j w) ≤ characters w
-  taken-few j = omega (arith, fewer-before j (j + length w) (omega arith), ap characters (take_all (j + length w) w (omega arith)))
+  taken-few j =
+      omega (arith, fewer-before j (j + length w) (omega arith), ap characters (take_all (j + length w) w (omega arith)))
 
   -- from a boundary to a later one there is at least one character
-  pub one_more : (i j : ℕ) → boundary w i ≡ true → boundary w j ≡ true → i < j → suc (characters (take i w)) ≤ characters (take j w)
+  pub one_more :
+      (i j : ℕ) → boundary w i ≡ true → boundary w j ≡ true → i < j → suc (characters (take i w)) ≤ characters (take j w)
   one_more i j a b h =
       let below : i < length w = omega (arith, boundary-le w j b) in
       let step : characters (take (next w i) w) ≡ suc (characters (take i w)) = characters-next w well i a below in
@@ -162,15 +183,20 @@ module _ (w : List ℕ) (well : well_formed w ≡ true) where
 
   module _ (find : List ℕ → Option ℕ) (prefix : List ℕ) where
     abbrev Few : ℕ → Type 0
-    Few n = (at : List ℕ) (i : ℕ) (ids : List ℕ) → boundary w i ≡ true → pieces_from find prefix w n at i ≡ Some ids → characters (take i w) + length ids ≤ characters w
+    Few n =
+        (at : List ℕ) (i : ℕ) (ids : List ℕ) → boundary w i ≡ true → pieces_from find prefix w n at i ≡ Some ids
+        → characters (take i w) + length ids ≤ characters w
 
     pub pieces-few : (n : ℕ) → Few n
     unfolding pieces_from
     pieces-few zero at i ids a e = absurd (none-some e)
     pieces-few (suc n) at i ids a e =
-        go (pieces-few n) (eqb i (length w)) (longest_to find at w i (length w)) refl (sym (pieces-turn find prefix w n at i) ∙ e)
+        go (pieces-few n) (eqb i (length w)) (longest_to find at w i (length w)) refl
+        (sym (pieces-turn find prefix w n at i) ∙ e)
       where
-        go : Few n → (b : Bool) (o : Option Found) → longest_to find at w i (length w) ≡ o → turn b o (pieces_from find prefix w n prefix) ≡ Some ids → characters (take i w) + length ids ≤ characters w
+        go :
+            Few n → (b : Bool) (o : Option Found) → longest_to find at w i (length w) ≡ o
+            → turn b o (pieces_from find prefix w n prefix) ≡ Some ids → characters (take i w) + length ids ≤ characters w
         go on true o g q =
             let none_left : ◌≡◌ {A = List ℕ} [] ids = cc in
             omega (arith, ap length none_left, taken-few i)

@@ -28,19 +28,24 @@ turn true o on = Some []
 turn false None on = None
 turn false (Some f) on = before f.id (on f.end)
 
-pub turn-same : (b : Bool) (o : Option Found) (on other : ℕ → Option (List ℕ)) → ((f : Found) → o ≡ Some f → on f.end ≡ other f.end) → turn b o on ≡ turn b o other
+pub turn-same :
+    (b : Bool) (o : Option Found) (on other : ℕ → Option (List ℕ)) → ((f : Found) → o ≡ Some f → on f.end ≡ other f.end)
+    → turn b o on ≡ turn b o other
 turn-same true o on other h = refl
 turn-same false None on other h = refl
 turn-same false (Some f) on other h = ap (before f.id) (h f refl)
 
 module _ (find : List ℕ → Option ℕ) (prefix w : List ℕ) (n : ℕ) (at : List ℕ) (i : ℕ) where
-  pub pieces-turn : pieces_from find prefix w (suc n) at i ≡ turn (eqb i (length w)) (longest_to find at w i (length w)) (pieces_from find prefix w n prefix)
+  pub pieces-turn :
+      pieces_from find prefix w (suc n) at i
+      ≡ turn (eqb i (length w)) (longest_to find at w i (length w)) (pieces_from find prefix w n prefix)
   unfolding pieces_from
   pieces-turn = go (eqb i (length w)) (longest_to find at w i (length w))
     where
       go :
           (b : Bool) (o : Option Found)
-          → ◌≡◌ {A = Option (List ℕ)} (cond b (Some []) (option_and_then (λ f. before f.id (pieces_from find prefix w n prefix f.end)) o))
+          → ◌≡◌ {A = Option (List ℕ)}
+          (cond b (Some []) (option_and_then (λ f. before f.id (pieces_from find prefix w n prefix f.end)) o))
           (turn b o (pieces_from find prefix w n prefix))
       go true o = refl
       go false None = refl
@@ -50,7 +55,9 @@ module _ (find : List ℕ → Option ℕ) (prefix w : List ℕ) (n : ℕ) (at : 
   pieces_end e = pieces-turn ∙ rw (eq-eqb i (length w) e)
 
   -- before the end, by what the longest piece is
-  pub pieces-next : {o : Option Found} → i < length w → longest_to find at w i (length w) ≡ o → pieces_from find prefix w (suc n) at i ≡ turn false o (pieces_from find prefix w n prefix)
+  pub pieces-next :
+      {o : Option Found} → i < length w → longest_to find at w i (length w) ≡ o
+      → pieces_from find prefix w (suc n) at i ≡ turn false o (pieces_from find prefix w n prefix)
   pieces-next h e = pieces-turn ∙ rw (ne_eqb i (length w) (λ z. omega arith), e)
 
 -- ---- two look-ups
@@ -65,10 +72,12 @@ module _ (f g : List ℕ → Option ℕ) (w : List ℕ) where
   longest-same p q h i zero = refl
   longest-same p q h i (suc j) =
       longest-more f p w i j
-      ∙ rw (piece_is f p w i (suc j), h (part w i (suc j)), ← piece_is g q w i (suc j), longest-same p q h i j) (sym (longest-more g q w i j))
+      ∙ rw (piece_is f p w i (suc j), h (part w i (suc j)), ← piece_is g q w i (suc j), longest-same p q h i j)
+      (sym (longest-more g q w i j))
 
   -- look-ups that agree after their prefixes give the same pieces
-  pub pieces-same : (p q at to : List ℕ) → Agree f p g q → Agree f at g to → (n i : ℕ) → pieces_from f p w n at i ≡ pieces_from g q w n to i
+  pub pieces-same :
+      (p q at to : List ℕ) → Agree f p g q → Agree f at g to → (n i : ℕ) → pieces_from f p w n at i ≡ pieces_from g q w n to i
   unfolding pieces_from
   pieces-same p q at to rest first zero i = refl
   pieces-same p q at to rest first (suc n) i =
@@ -79,5 +88,8 @@ module _ (f g : List ℕ → Option ℕ) (w : List ℕ) where
       ∙ sym (pieces-turn g q w n to i)
 
 -- look-ups that agree on every string give a word the same ids
-pub ids-same : (f g : List ℕ → Option ℕ) → ((s : List ℕ) → f s ≡ g s) → (unknown max_chars : ℕ) (prefix w : List ℕ) → ids_of f unknown max_chars prefix w ≡ ids_of g unknown max_chars prefix w
-ids-same f g h unknown max_chars prefix w = ap (λ (find : List ℕ → Option ℕ). ids_of find unknown max_chars prefix w) (fun_ext h)
+pub ids-same :
+    (f g : List ℕ → Option ℕ) → ((s : List ℕ) → f s ≡ g s) → (unknown max_chars : ℕ) (prefix w : List ℕ)
+    → ids_of f unknown max_chars prefix w ≡ ids_of g unknown max_chars prefix w
+ids-same f g h unknown max_chars prefix w =
+    ap (λ (find : List ℕ → Option ℕ). ids_of find unknown max_chars prefix w) (fun_ext h)

@@ -1,6 +1,7 @@
 -- What the functions behind `encode` promise one another; no public call speaks of it. Definitions only; assumes nothing.
 use Rattle.wordpiece.specs.declared.checked.Piece.{Piece}
-use Rattle.std.specs.Prelude.{◌≡◌, ℕ, suc, ◌-◌, ◌≤◌, ◌<◌, true, cond, List, [], eqb, length, take, Option, None, Some, option_map}
+use Rattle.std.specs.Prelude.{◌≡◌, ℕ, suc, ◌-◌, ◌≤◌, ◌<◌, true, cond, List, [], eqb, length, take}
+use Rattle.std.specs.Prelude.{Option, None, Some, option_map}
 use Rattle.std.proofs.lemmas.List.Edits.{sets}
 use Rattle.text.specs.Text.{well_formed, characters}
 use Rattle.trie.specs.Trie.{Trie}

@@ -1,5 +1,6 @@
 -- "WordPiece (001)": the ids of a word, over a look-up that gives the id of a string. Definitions only; assumes nothing.
-use Rattle.std.specs.Prelude.{ℕ, zero, suc, ◌&&◌, cond, List, [], ◌∷◌, ◌++◌, ltb, eqb, length, Option, None, Some, option_map, option_and_then, unwrap_or}
+use Rattle.std.specs.Prelude.{ℕ, zero, suc, ◌&&◌, cond, List, [], ◌∷◌, ◌++◌, ltb, eqb, length}
+use Rattle.std.specs.Prelude.{Option, None, Some, option_map, option_and_then, unwrap_or}
 use Rattle.refusal.specs.Refusal.{first}
 use Rattle.text.specs.Text.{boundary, characters, part}
 

@@ -119,7 +119,15 @@ fn put(ids: &mut [u32], x: u32) -> usize
 
 // The first piece's id, and then those of the n pieces after it: as they are held, or found again where they are too many to be
 // held.
-fn put_all(t: &Parts, rest: Walk, w: &[u8], first: Piece, held: &[u32], n: usize, ids: &mut [u32]) -> usize
+fn put_all(
+    t: &Parts,
+    rest: Walk,
+    w: &[u8],
+    first: Piece,
+    held: &[u32],
+    n: usize,
+    ids: &mut [u32],
+) -> usize
     requires node { NodeOf (parts t.now) rest.node }
     requires kept { Kept (id_from (parts t.now) rest.node) w.now first.end ids.old held.now n }
     ensures { (xs : List ℕ) → rest_from (id_from (parts t.now) rest.node) (was w) first.end ≡ Some xs →
@@ -195,7 +203,12 @@ fn judge(sound: bool, prefix: &[u8], word: &[u8], places: usize) -> Result<(), F
 
 // As `wordpiece::encode`, where the parts have been tested: `sound` is what was found. So that one test serves many words.
 // A flag beside the parts, since what is promised also of parts that are not sound keeps the number's place in the order.
-pub fn encode_tested(v: &VocabTrie, sound: bool, word: &[u8], ids: &mut [u32]) -> Result<usize, Fault>
+pub fn encode_tested(
+    v: &VocabTrie,
+    sound: bool,
+    word: &[u8],
+    ids: &mut [u32],
+) -> Result<usize, Fault>
     requires { sound ≡ soundness.sound (parts v.now.trie) }
     ensures { Encoded (parts v.now.trie) v.now.unknown v.now.max_chars v.now.prefix.now (was word) ids.old result ids.new }
 {

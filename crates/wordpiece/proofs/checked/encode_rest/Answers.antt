@@ -12,7 +12,8 @@ over-requires c = rw c.root.ensures (root_stands _ c.requires.encodable.parts)
 pub put-requires : goal.put-requires
 put-requires c =
     let r = c.requires in
-    let m = absent _ c.args.v.now.unknown _ _ r.encodable.well r.longest r.below (sym (rw c.root.ensures at c.in_default.ensures)) in
+    let m = absent _ c.args.v.now.unknown _ _ r.encodable.well r.longest r.below
+    (sym (rw c.root.ensures at c.in_default.ensures)) in
     omega (arith, m.1, r.encodable.room)
 
 pub returns-in_default : goal.returns-in_default

@@ -1,7 +1,6 @@
 -- `wordpiece::checked::longest` meets its contract. The loop's invariant: the walk over the bytes from i to j ends in the node,
 -- and the best piece, which the end and the id say, is the longest that ends at j or before. Assumes nothing.
 use Rattle.std.proofs.Common.{sym, ◌∙◌, arith}
-use Rattle.trie.specs.Trie.{parts}
 use Rattle.wordpiece.proofs.Longest.{come-start, come-stop, come-id, come-past, come-piece}
 use Rattle.wordpiece.proofs.checked.longest.Goals as goal
 use Rattle.wordpiece.proofs.checked.longest.Goals.{in-Some-ending, in_default-ending}
@@ -19,10 +18,12 @@ ending-requires c = come-id _ _ _ _ c.loop-j.invariant (omega arith) c.loop-j-te
 pub loop-j-preserved : goal.loop-j-preserved
 loop-j-preserved c =
     elim c.match-ending.branch [
-      in-Some-ending w ↦
-        rw (w.end-is, w.last-is)
-        (come-piece _ _ _ _ c.loop-j.invariant (omega arith) c.loop-j-test.true (sym c.in-Some.ensures) (sym w.in-Some-ending.ensures))
-    | in_default-ending w ↦
-        rw (w.end-is, w.last-is)
-        (come-past _ _ _ _ c.loop-j.invariant (omega arith) c.loop-j-test.true (sym c.in-Some.ensures) (sym w.in_default-ending.ensures))
+      | in-Some-ending w ↦
+          rw (w.end-is, w.last-is)
+          (come-piece _ _ _ _ c.loop-j.invariant (omega arith) c.loop-j-test.true (sym c.in-Some.ensures)
+          (sym w.in-Some-ending.ensures))
+      | in_default-ending w ↦
+          rw (w.end-is, w.last-is)
+          (come-past _ _ _ _ c.loop-j.invariant (omega arith) c.loop-j-test.true (sym c.in-Some.ensures)
+          (sym w.in_default-ending.ensures))
     ]

@@ -1,9 +1,6 @@
 -- `wordpiece::checked::write_rest` meets its contract. The loop's invariant: what is left of the rest says what it all is. The
 -- measure is what is left of the word, since a piece is not empty. Assumes nothing.
-use Rattle.std.specs.Prelude.{Option, None}
-use Rattle.std.proofs.Common.{◌≡◌, ℕ, List, sym, ◌∙◌, arith}
-use Rattle.trie.specs.Trie.{parts, id_from}
-use Rattle.wordpiece.specs.Checked.{rest_from}
+use Rattle.std.proofs.Common.{◌≡◌, sym, arith}
 use Rattle.wordpiece.proofs.Rest.{longest-ends, rest_end, rest-miss, rest-piece, left-on, left_miss, left_none}
 use Rattle.wordpiece.proofs.checked.write_rest.Goals as goal
 
