@@ -65,9 +65,9 @@ pub(crate) fn put(rows: &[Row], off: &mut [u32], len: &mut [u32], score: &mut [f
 pub(crate) fn clear_rows(off: &mut [u32], len: &mut [u32], score: &mut [f64])
     ensures { places_is off len score ≡ zero_rows (places_was off len score) }
 {
-    build::zero::zero32(off);
-    build::zero::zero32(len);
-    scored::scores::zero(score);
+    off.fill(0);
+    len.fill(0);
+    score.fill(0.0);
 }
 
 // The build of the rows in the first n places.
@@ -128,6 +128,6 @@ pub(crate) fn refuse_short(
 {
     clear_rows(off, len, score);
     build::zero::clear(edge_at, edge_n, node_id, byte, to, work);
-    scored::scores::zero(node_score);
+    node_score.fill(0.0);
     Err(Reason::Call(Fault::Room))
 }
