@@ -27,10 +27,8 @@ fn lowest(bytes: &[u8], rows: usize) -> f64
     ensures { units result ≡ lowest (double_at (was bytes) 44) (scores_of (rows_from Unigram (was bytes) 52 (rows - 1))) }
 {
     let mut low = score_at(bytes, HEADER + 8);
-    let mut i: usize = 1;
-    while i < rows {
+    for i in 1..rows {
         low = doubles::lower(low, score_at(bytes, HEADER + ROW * i + 8));
-        i += 1;
     }
     low
 }
