@@ -5,7 +5,7 @@ use Rattle.std.specs.Prelude.{Option, None, Some, Result, Err, ℕ, Ok}
 use mathlib.Core.Path.{◌≡◌, refl, sym, ap, ap₂, ◌∙◌, subst}
 use mathlib.Core.Bool.{Bool, true, false, ◌&&◌}
 use mathlib.Core.List.{List, [], ◌∷◌, map}
-use Prim.Native.Nat.{ℕ, zero, suc, ◌+◌, ◌-◌, ◌*◌, ◌≤◌, ◌<◌}
+use Prim.Native.Nat.{ℕ, zero, suc, ◌+◌, ◌*◌, ◌≤◌, ◌<◌}
 use native.Mathlib.Omega.{arith}
 use borrow.Author.Tests.{ltb-false, le-ltb, lt-ltb, eqb-true, leb-true}
 use lib.Dec.{ltb, leb, eqb}
@@ -22,7 +22,7 @@ use Rattle.text.specs.Ascii.{ascii}
 use Rattle.text.specs.Text.{well_formed}
 use Rattle.text.proofs.Spans.{fault-part, part-inside, text-fine}
 use Rattle.text.specs.Span.{span_of, span_fault}
-use Rattle.trie.specs.Trie.{parts_of, Trie}
+use Rattle.trie.specs.Trie.{Trie}
 use Rattle.trie.proofs.Every.{first, second}
 use Rattle.rows.specs.declared.Kind.{Kind}
 use Rattle.rows.specs.declared.Kind.TheVariants.{Unigram, WordPiece}

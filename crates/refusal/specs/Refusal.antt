@@ -1,6 +1,6 @@
 -- The paper's number of each fault, which row a reason names, and what an answer says was found. Definitions only; assumes
 -- nothing.
-use Rattle.std.specs.Prelude.{ℕ, Bool, true, false, Option, None, Some, Result, ⊤, Ok, Err}
+use Rattle.std.specs.Prelude.{ℕ, Bool, true, false, Option, None, Some}
 use Rattle.refusal.specs.declared.Fault.{Fault}
 use Rattle.refusal.specs.declared.Fault.TheVariants.{Size, Span, Token, Text, Score, Id, Room, Trie, Scratch, Ids, Pack}
 use Rattle.refusal.specs.declared.Reason.{Reason}

@@ -4,14 +4,14 @@ use mathlib.Core.Bool.{Bool, true, false, ◌&&◌}
 use mathlib.Core.List.{List, [], ◌∷◌, map}
 use Prim.Native.Nat.{ℕ, zero, suc, ◌+◌, ◌<◌}
 use native.Mathlib.Omega.{arith}
-use borrow.Author.Tests.{eqb-true, eq-eqb, ne_eqb}
+use borrow.Author.Tests.{eqb-true}
 use lib.Dec.{eqb}
 use lib.Ieee.{Float, nan}
 use lib.ListN.{length, get_or, length-map, get_or-map}
 use Rattle.doubles.specs.Double.{plus_zero}
 use Rattle.doubles.specs.Units.{units}
 use Rattle.rows.specs.declared.Worth.TheVariants as code-worth-is
-use Rattle.rows.specs.Rows.{Row, worth_is, row_is}
+use Rattle.rows.specs.Rows.{Row, worth_is}
 use Rattle.rows.specs.Columns.{Columns, row_at, rows_from, rows_of, level}
 use Rattle.rows.specs.Answers.{columns, Level}
 

@@ -1,10 +1,8 @@
 -- What the answers about rows say, and the columns of a row list as one value. Definitions only; assumes nothing.
 use Rattle.rows.specs.declared.columns.Lists.{Lists}
-use Rattle.std.specs.Result.{result_err}
-use Rattle.std.specs.Prelude.{◌≡◌, ℕ, Bool, true, List, map, Float, length, replicate, Option, None, Some, Result, ⊤, Ok, Err}
+use Rattle.std.specs.Prelude.{◌≡◌, ℕ, Bool, true, List, map, Float, length, replicate}
 use Rattle.doubles.specs.Units.{units}
 use Rattle.refusal.specs.Lent.{Lent, was}
-use Rattle.refusal.specs.declared.Reason.{Reason}
 use Rattle.rows.specs.Columns.{Columns}
 
 -- the lent lists as columns

@@ -6,7 +6,7 @@ use native.Mathlib.Omega.{arith}
 use lib.Ieee.{Float}
 use Rattle.std.proofs.lemmas.List.{length-take-le}
 use Rattle.std.specs.Prelude.{Ok}
-use Rattle.trie.specs.Trie.{Trie, parts}
+use Rattle.trie.specs.Trie.{Trie}
 use Rattle.pack.specs.declared.Summary.{Summary}
 use Rattle.coder.specs.Columns.{vocabulary}
 use Rattle.output.specs.Cut.{LentBuilt}

@@ -12,7 +12,7 @@ use lib.ListN.{length}
 use Rattle.text.specs.Text.{text_fault}
 use Rattle.text.proofs.Spans.{bytes-given}
 use Rattle.rows.specs.declared.Kind.{Kind}
-use Rattle.rows.specs.Rows.{row_is, worth_is, token_of, worth_fault, row_fault}
+use Rattle.rows.specs.Rows.{row_is, worth_is, worth_fault}
 use Rattle.rows.proofs.RowFaults.{fault-span, fault-token, fault-text, fault-worth}
 use Rattle.rows.proofs.row_fault.Goals as goal
 

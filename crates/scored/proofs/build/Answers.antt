@@ -8,11 +8,9 @@ use mathlib.Core.Bool.{Bool, true}
 use mathlib.Core.List.{List}
 use Prim.Native.Nat.{ℕ}
 use lib.ListN.{length, replicate}
-use Rattle.doubles.specs.Units.{units}
 use Rattle.rows.specs.declared.Kind.TheVariants.{Unigram}
 use Rattle.rows.specs.Columns.{Columns, rows_of, columns_fault}
 use Rattle.rows.specs.Answers.{columns_in}
-use Rattle.build.specs.Memory.{memory, with_scores}
 use Rattle.rows.proofs.ListFaults.{all-scored}
 use Rattle.rows.proofs.NeverRoom.{columns-not-room}
 use Rattle.build.proofs.Promises.{built-bad}

@@ -1,7 +1,6 @@
 -- `cutting::slots::clear` meets its contract. The loop's invariant: the slots below j are empty, the others as they were. What
 -- is left up to n falls. Assumes nothing.
 use mathlib.Core.Path.{refl, ◌∙◌}
-use native.Mathlib.Omega.{arith}
 use Rattle.doubles.proofs.Patterns.{zero-units}
 use Rattle.cutting.proofs.Columns.{filled_more, put_as, empty-slot}
 use Rattle.cutting.proofs.slots.clear.Goals as goal

@@ -1,6 +1,5 @@
 use Rattle.std.specs.Prelude.{None}
 use mathlib.Core.Path.{◌≡◌}
-use Prim.Native.Nat.{◌+◌, ◌-◌, ◌≤◌}
 use lib.ListN.{length}
 use Rattle.cutting.specs.Records.{shown}
 use Rattle.cutting.specs.Slots.{slots_of}

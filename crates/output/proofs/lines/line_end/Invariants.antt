@@ -1,6 +1,6 @@
 use mathlib.Core.Path.{◌≡◌}
-use Prim.Native.Nat.{◌+◌, ◌-◌, ◌≤◌}
-use lib.ListN.{length, drop}
+use Prim.Native.Nat.{◌+◌}
+use lib.ListN.{drop}
 use Rattle.output.specs.Lines.{until_lf}
 use Rattle.output.proofs.lines.line_end.Given as goal
 

@@ -1,5 +1,4 @@
-use Prim.Native.Nat.{◌+◌, ◌-◌, ◌*◌, ◌≤◌}
-use lib.ListN.{length}
+use Prim.Native.Nat.{◌+◌, ◌*◌, ◌≤◌}
 use Rattle.output.specs.Lines.{spaced}
 use Rattle.output.proofs.Putting.{Along}
 use Rattle.output.proofs.put.put_numbers.Given as goal

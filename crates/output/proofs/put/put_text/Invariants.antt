@@ -1,6 +1,5 @@
 use mathlib.Core.List.{List}
-use Prim.Native.Nat.{ℕ, ◌-◌}
-use lib.ListN.{length}
+use Prim.Native.Nat.{ℕ}
 use Rattle.output.proofs.Putting.{Along}
 use Rattle.output.proofs.put.put_text.Given as goal
 

@@ -1,11 +1,8 @@
 -- `pack::row::first_bad` meets its contract. The loop's invariant: what is first bad of all rows is what is first bad from row
 -- i on. The measure is what is left of the rows. Assumes nothing.
 use Rattle.std.specs.Result.{result_err}
-use mathlib.Core.Path.{◌≡◌, sym, ap, ◌∙◌}
+use mathlib.Core.Path.{sym, ap, ◌∙◌}
 use native.Mathlib.Omega.{arith}
-use Rattle.rows.specs.Rows.{row_fault}
-use Rattle.pack.specs.Pack.{row_at}
-use Rattle.pack.specs.Reading.{row_start}
 use Rattle.pack.proofs.Resting.{bad-turn, bad-found, bad-stop}
 use Rattle.pack.proofs.row.first_bad.Goals as goal
 

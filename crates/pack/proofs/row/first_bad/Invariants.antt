@@ -1,5 +1,4 @@
 use mathlib.Core.Path.{◌≡◌}
-use Prim.Native.Nat.{◌-◌, ◌≤◌}
 use Rattle.rows.specs.Rows.{first_bad}
 use Rattle.pack.proofs.Resting.{all, bad_from}
 use Rattle.pack.proofs.row.first_bad.Given as goal

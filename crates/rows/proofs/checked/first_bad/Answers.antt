@@ -1,11 +1,9 @@
 -- `rows::checked::first_bad` meets its contract. The loop's invariant: what is first bad of all rows is what is first bad from
 -- row i on. Assumes nothing.
-use mathlib.Core.Path.{◌≡◌, sym, ap, ◌∙◌}
+use mathlib.Core.Path.{sym, ap, ◌∙◌}
 use native.Mathlib.Omega.{arith}
 use native.Mathlib.Numerals.{add-one}
-use Rattle.std.specs.Prelude.{Option}
 use Rattle.std.specs.Result.{result_err}
-use Rattle.refusal.specs.declared.Fault.{Fault}
 use Rattle.rows.specs.Rows.{row_fault}
 use Rattle.rows.specs.Answers.{columns_in}
 use Rattle.rows.proofs.FirstBad.{bad_from, bad-start, bad-turn, bad-found, bad-stop}

@@ -1,7 +1,6 @@
 use mathlib.Core.Path.{◌≡◌}
 use mathlib.Core.List.{map}
-use Prim.Native.Nat.{◌-◌, ◌≤◌}
-use lib.ListN.{length, drop}
+use lib.ListN.{drop}
 use Rattle.doubles.specs.Units.{units}
 use Rattle.rows.specs.Scores.{lowest}
 use Rattle.rows.proofs.scores.lowest.Given as goal
