@@ -61,7 +61,7 @@ or-that true b = refl
 or-that false true = refl
 or-that false false = refl
 
-module _ (m : Model) (s : List ℕ) (node i one : ℕ) (single : Bool) (at : ℕ) (x : Double) (b : Slots) where
+module _ {m : Model} {s : List ℕ} {node i one : ℕ} {single : Bool} {at : ℕ} {x : Double} {b : Slots} where
   -- no piece ends here
   ended-none : ends_here m s node i ≡ None → Ended m s node i one single at x b b single
   unfolding after_offer

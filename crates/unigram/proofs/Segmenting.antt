@@ -120,7 +120,7 @@ scratch c path ids = record { slots = c; path = path; ids = ids }
 pub cut_of :
     {m : Model} {s : List ℕ} (ready : Ready m s) {starts ids : List ℕ} {scores : List Float} {path places : List ℕ}
     (starts' ids' : List ℕ) (scores' : List Float) {path' places' : List ℕ} {n count : ℕ}
-    → segment_fault (sound_model m) s (lengths_of (scratch_of starts ids scores path places)) ≡ None → (length s ≡ 0 → ⊥)
+    → segment_fault (sound_model m) s (lengths_of (scratch_of starts ids scores path places)) ≡ None → 0 < length s
     → Inside starts ids scores (length s)
     → length starts' ≡ length starts → length ids' ≡ length ids → length scores' ≡ length scores
     → BestCutting m s (slots_of starts ids scores) path (slots_of starts' ids' scores') path' n
@@ -149,6 +149,6 @@ cut_of {m} {s} ready {starts} {ids} {scores} {path} {places} starts' ids' scores
           ∙ ap (λ (u : List ℕ). scratch (slots_left P (length s) (slots_of starts ids scores)) u places') w.path
           ∙ ap (λ (u : List ℕ). scratch (slots_left P (length s) (slots_of starts ids scores)) (path_left P (length s) path) u)
           (g.1 ∙ ap (λ (u : List ℕ). overlay u places) (ids-are ready w))
-          ∙ sym (ap (λ (t : Bool). cond t before (written m s before)) (ne_eqb (length s) 0 some-text)));
+          ∙ sym (ap (λ (t : Bool). cond t before (written m s before)) (ne_eqb (length s) 0 (λ e. omega arith))));
       law = λ h. law-held ready after (λ j p l. slot-holds (laws ready) w.slots j l);
     }

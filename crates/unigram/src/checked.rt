@@ -27,7 +27,7 @@ pub fn segment(
     ensures { Segmented (model m.now) (was text) (scratch_was start slot_id slot_score path ids) (Ok result)
         (scratch_is start slot_id slot_score path ids) }
 {
-    if text.len() == 0 {
+    if text.is_empty() {
         return 0;
     }
     let pieces = crate::lattice::best_cutting(m, text, start, slot_id, slot_score, path);
