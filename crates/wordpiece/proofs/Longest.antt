@@ -8,7 +8,7 @@ use Prim.Native.Nat.{ℕ, zero, suc, ◌+◌, ◌-◌, ◌≤◌, ◌<◌}
 use native.Mathlib.Numerals.{add-one}
 use native.Mathlib.Omega.{arith}
 use native.Mathlib.Decide.{dec_lt}
-use borrow.Author.Tests.{lt-ltb, le-ltb, ltb-true, eq-eqb, ne_eqb}
+use borrow.Author.Tests.{lt-ltb, le-ltb, ltb-true}
 use lib.Dec.{ltb}
 use lib.ListN.{length, get_or, take, drop}
 use Rattle.std.proofs.lemmas.List.Edits.{between_more}
@@ -23,7 +23,8 @@ use Rattle.trie.proofs.Every as every
 use Rattle.trie.proofs.SoundParts.{sound-of}
 use Rattle.trie.proofs.Walking.{walk-nil, walk-snoc, walk-append-none, from-none, from_some, step-inside, walk_inside}
 use Rattle.wordpiece.specs.Pieces.{Found, piece_to, longest_to}
-use Rattle.wordpiece.specs.Checked.{found_since, NodeOf}
+use Rattle.wordpiece.specs.Checked.{found_in, NodeOf}
+use Rattle.wordpiece.specs.declared.checked.Piece.{Piece}
 
 -- ---- parts of a word
 
@@ -40,17 +41,10 @@ part-on w i j m p q =
     ∙ take-add (j - i) (m - j) (drop i w)
     ∙ ap (λ (l : List ℕ). part w i j ++ take (m - j) l) (drop-drop (j - i) i w ∙ ap (λ (k : ℕ). drop k w) at)
 
--- ---- the best piece as two numbers
+-- ---- a piece that was found
 
 abbrev pub piece-to : ℕ → ℕ → Found
 piece-to end x = record { end = end; id = x }
-
--- a piece that is not empty
-pub since-found : (i end x : ℕ) → (end ≡ i → ⊥) → found_since i end x ≡ Some (piece-to end x)
-since-found i end x h = ap (λ (b : Bool). cond b None (Some (piece-to end x))) (ne_eqb end i h)
-
-pub since_none : (i end x : ℕ) → end ≡ i → found_since i end x ≡ None
-since_none i end x e = ap (λ (b : Bool). cond b None (Some (piece-to end x))) (eq-eqb end i e)
 
 -- the piece that ends at j with this id, where j may be an end
 abbrev pub end_at : Bool → ℕ → Option ℕ → Option Found
@@ -167,26 +161,26 @@ module _ (t : Trie) (tested : sound t ≡ true) where
 
 -- ---- the loop that looks for it
 
--- the walk over the bytes of w from i on, begun at node k, has come to j and to the node; the longest piece that ends at j or
--- before is told by where it ends and its id
-pub record Come (t : Trie) (k : ℕ) (w : List ℕ) (i node j end id : ℕ) : Type 0 where
+-- the walk over the bytes of w from i on, begun at node k, has come to j and to the node; the best piece is the longest that
+-- ends at j or before
+pub record Come (t : Trie) (k : ℕ) (w : List ℕ) (i node j : ℕ) (best : Option Piece) : Type 0 where
   pub at : NodeOf t node
   pub walked : walk t k (part w i j) ≡ Some node
-  pub longest : found_since i end id ≡ longest_to (id_from t k) [] w i j
+  pub longest : found_in best ≡ longest_to (id_from t k) [] w i j
 
 module _ (t : Trie) (k : ℕ) (w : List ℕ) (i : ℕ) where
-  pub come-start : (id : ℕ) → NodeOf t k → Come t k w i k i i id
-  come-start id at =
+  pub come-start : NodeOf t k → Come t k w i k i None
+  come-start at =
       let none_yet : i - i ≡ 0 = omega arith in
       record {
         at = at;
         walked = ap (λ (n : ℕ). walk t k (take n (drop i w))) none_yet ∙ walk-nil t k;
-        longest = since_none i i id refl ∙ sym (longest-start (id_from t k) [] w i i (omega arith));
+        longest = sym (longest-start (id_from t k) [] w i i (omega arith));
       }
 
-  module _ {node j end id : ℕ} (come : Come t k w i node j end id) (above : i ≤ j) (below : j < length w) where
+  module _ {node j : ℕ} {best : Option Piece} (come : Come t k w i node j best) (above : i ≤ j) (below : j < length w) where
     -- no step
-    pub come-stop : step t node (get_or w j 0) ≡ None → found_since i end id ≡ longest_to (id_from t k) [] w i (length w)
+    pub come-stop : step t node (get_or w j 0) ≡ None → found_in best ≡ longest_to (id_from t k) [] w i (length w)
     come-stop stop = come.longest ∙ sym (longest-stops t k w i j above below come.walked stop)
 
     module _ {m : ℕ} (led : step t node (get_or w j 0) ≡ Some m) where
@@ -199,10 +193,10 @@ module _ (t : Trie) (k : ℕ) (w : List ℕ) (i : ℕ) where
 
       -- a step to m, by the piece that ends there
       come-on :
-          (o : Option ℕ) → cond (boundary w (j + 1)) (id_at t m) None ≡ o → (end' id' : ℕ)
-          → found_since i end' id' ≡ first (option_map (piece-to (j + 1)) o) (found_since i end id)
-          → Come t k w i m (j + 1) end' id'
-      come-on o told end' id' best =
+          (o : Option ℕ) → cond (boundary w (j + 1)) (id_at t m) None ≡ o → (next : Option Piece)
+          → found_in next ≡ first (option_map (piece-to (j + 1)) o) (found_in best)
+          → Come t k w i m (j + 1) next
+      come-on o told next same =
           let one : j + 1 ≡ suc j = add-one j in
           let on = rw (← one) at (longest-step t k w i j above below come.walked led) in
           let piece : option_map (piece-to (j + 1)) o ≡ end_at (boundary w (j + 1)) (j + 1) (id_at t m) =
@@ -211,15 +205,17 @@ module _ (t : Trie) (k : ℕ) (w : List ℕ) (i : ℕ) where
             at = come-at;
             walked = on.0;
             longest =
-                best ∙ ap (λ (p : Option Found). first p (found_since i end id)) piece
+                same ∙ ap (λ (p : Option Found). first p (found_in best)) piece
                 ∙ ap (first (end_at (boundary w (j + 1)) (j + 1) (id_at t m))) come.longest
                 ∙ sym on.1;
           }
 
-      pub come-past : cond (boundary w (j + 1)) (id_at t m) None ≡ None → Come t k w i m (j + 1) end id
+      pub come-past : cond (boundary w (j + 1)) (id_at t m) None ≡ None → Come t k w i m (j + 1) best
       unfolding first
-      come-past told = come-on None told end id refl
+      come-past told = come-on None told best refl
 
-      pub come-piece : {x : ℕ} → cond (boundary w (j + 1)) (id_at t m) None ≡ Some x → Come t k w i m (j + 1) (j + 1) x
+      pub come-piece :
+          {x : ℕ} → cond (boundary w (j + 1)) (id_at t m) None ≡ Some x
+          → Come t k w i m (j + 1) (Some (record { end = j + 1; id = x }))
       unfolding first
-      come-piece {x} told = come-on (Some x) told (j + 1) x (since-found i (j + 1) x (λ e. omega arith))
+      come-piece {x} told = come-on (Some x) told (Some (record { end = j + 1; id = x })) refl

@@ -1,7 +1,6 @@
 -- What the functions behind `encode` promise one another; no public call speaks of it. Definitions only; assumes nothing.
 use Rattle.wordpiece.specs.declared.checked.Piece.{Piece}
-use Rattle.std.specs.Prelude.{◌≡◌, ℕ, suc, ◌-◌, ◌≤◌, ◌<◌, true, cond, List, [], eqb, length, take}
-use Rattle.std.specs.Prelude.{Option, None, Some, option_map}
+use Rattle.std.specs.Prelude.{◌≡◌, ℕ, suc, ◌-◌, ◌≤◌, ◌<◌, true, List, [], length, take, Option, None, Some, option_map}
 use Rattle.std.proofs.lemmas.List.Edits.{sets}
 use Rattle.text.specs.Text.{well_formed, characters}
 use Rattle.trie.specs.Trie.{Trie}
@@ -12,10 +11,6 @@ use Rattle.wordpiece.specs.Pieces.{Found, pieces_from}
 abbrev pub found_in : Option Piece → Option Found
 found_in (Some p) = Some (record { end = p.end; id = p.id })
 found_in None = None
-
--- the piece from i that ends at `end`: none where that is i, since no piece is empty
-abbrev pub found_since : ℕ → ℕ → ℕ → Option Found
-found_since i end x = cond (eqb end i) None (Some (record { end = end; id = x }))
 
 -- the ids of the pieces of w from i on, with nothing before any of them; none at a miss. From node k on, the look-up is
 -- `id_from t k`.

@@ -7,7 +7,7 @@ ghost use Rattle.trie.specs.Trie.{parts, id_at, id_from, id_of};
 ghost use Rattle.trie.specs.Sound as soundness;
 ghost use Rattle.wordpiece.specs.Pieces.{longest_to, pieces_of, ids_of};
 ghost use Rattle.wordpiece.specs.Encode.{encode_fault, Encoded};
-ghost use Rattle.wordpiece.specs.Checked.{found_in, found_since, rest_from, NodeOf, Walked, Kept, Encodable};
+ghost use Rattle.wordpiece.specs.Checked.{found_in, rest_from, NodeOf, Walked, Kept, Encodable};
 ghost use Rattle.refusal.specs.Lent.{was};
 
 use crate::VocabTrie;
@@ -37,51 +37,38 @@ fn ending(t: &Parts, w: &[u8], at: Walk, j: usize) -> Option<u32>
     }
 }
 
-// The piece from i to `end`, as an answer: there is none that is empty.
-fn piece_to(i: usize, end: usize, id: u32) -> Option<Piece>
-    ensures { found_in result ≡ found_since i end id }
-{
-    if end == i {
-        return None;
-    }
-    Some(Piece { end, id })
-}
-
-// The longest piece of w from i, after what the node of the walk spells. The loop keeps the best piece as two numbers, its end
-// (i while there is none) and its id: an `Option` would go through memory in each turn.
+// The longest piece of w from i, after what the node of the walk spells.
 pub(crate) fn longest(t: &Parts, from: Walk, w: &[u8], i: usize) -> Option<Piece>
     requires node { NodeOf (parts t.now) from.node }
     requires below { i ≤ length w.now }
     ensures { found_in result ≡ longest_to (id_from (parts t.now) from.node) [] (was w) i (length (was w)) }
 {
     let mut here = from;
-    let mut end = i;
-    let mut last: u32 = 0;
+    let mut best = None;
     for j in i..w.len() {
         let Some(next) = here.step(t, w[j]) else {
-            return piece_to(i, end, last);
+            return best;
         };
         here = next;
         if let Some(id) = ending(t, w, here, j + 1) {
-            end = j + 1;
-            last = id;
+            best = Some(Piece { end: j + 1, id });
         }
     }
-    piece_to(i, end, last)
+    best
 }
 
 // x in place n, where there is such a place.
 fn hold(ids: &mut [u32], n: usize, x: u32)
     ensures { ids.new ≡ set ids.old n x }
 {
-    // Of `get_mut` it is not known that where it finds no place the slice is as it was.
+    // Not by `get_mut`: where that finds no place, it doesn't say that the slice is as it was.
     if n < ids.len() {
         ids[n] = x;
     }
 }
 
-// How many pieces w has from i on, each going on from the walk's node; none at a miss. Their ids are written, as many as there
-// are places for.
+// How many pieces w has from i on, each going on from the walk's node; none at a miss. Without one, their ids are then in the
+// places, as many as there are places for.
 fn write_rest(t: &Parts, rest: Walk, w: &[u8], i: usize, ids: &mut [u32]) -> Option<usize>
     requires node { NodeOf (parts t.now) rest.node }
     requires below { i ≤ length w.now }
@@ -89,7 +76,7 @@ fn write_rest(t: &Parts, rest: Walk, w: &[u8], i: usize, ids: &mut [u32]) -> Opt
 {
     let mut at = i;
     let mut n: usize = 0;
-    // From piece to piece: what counts is n, and the loop ends by `at`.
+    // A `while`, since it goes from piece to piece and counts no index.
     while at < w.len() {
         let piece = longest(t, rest, w, at)?;
         at = piece.end;
@@ -201,8 +188,8 @@ fn judge(sound: bool, prefix: &[u8], word: &[u8], places: usize) -> Result<(), F
     Ok(())
 }
 
-// As `wordpiece::encode`, where the parts have been tested: `sound` is what was found. So that one test serves many words.
-// A flag beside the parts, since what is promised also of parts that are not sound keeps the number's place in the order.
+// As `wordpiece::encode`, where the parts have been tested: `sound` is what was found. So that one test serves many words. It
+// is a flag beside the parts, since the promise speaks of them also where they are not sound: 8 keeps its place in the order.
 pub fn encode_tested(
     v: &VocabTrie,
     sound: bool,

@@ -15,8 +15,8 @@ ghost use Rattle.wordpiece.specs.Build as promise;
 ghost use Rattle.wordpiece.specs.Encode.{Encoded};
 ghost use Rattle.refusal.specs.Lent.{was};
 
-// A WordPiece trie's parts, with what its words are coded with: the unknown id, the most characters of a word that is not one
-// unknown, and the prefix of a piece that is not the first.
+// A WordPiece trie's parts, with what its words are coded with: the unknown id, the most characters of a word, and the prefix
+// of a piece that is not the first.
 #[derive(Clone, Copy)]
 pub struct VocabTrie<'a> {
     pub trie: Parts<'a>,
