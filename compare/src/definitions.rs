@@ -15,7 +15,7 @@ const HEADER: &str = "-- Cases with the Rust's answers; each theorem is proved b
 use mathlib.Core.Path.{◌≡◌, refl}
 use mathlib.Core.Bool.{true}
 use mathlib.Core.List.{List, [], ◌∷◌}
-use mathlib.Core.Option.{none}
+use Rattle.std.specs.Prelude.{None}
 use Rattle.doubles.specs.Double.{of_pattern}
 use Rattle.rows.specs.Rows.{score, id}
 use Rattle.worked.specs.Example.{all_of}
@@ -72,7 +72,7 @@ fn write_unigram(w: &mut Written, r: &mut Random, k: usize) {
     let said = list(&texts, |s| {
         let a = lattice.segment(s);
         let slots = list(&a.slots, |slot| match slot {
-            None => "none".to_string(),
+            None => "None".to_string(),
             Some((start, id, score)) => format!("slot {start} {id} {}", score.to_bits()),
         });
         let (text, path, ids) = (numbers(s.as_bytes()), numbers(&a.path), numbers(&a.ids));
