@@ -22,12 +22,20 @@ use Rattle.wordpiece.specs.Encode.{encode_fault}
 use Rattle.wordpiece.specs.Checked.{Encodable}
 
 module _ (parts : Bool) (prefix w : List ℕ) (places : ℕ) where
+  pub fault-word : max_text < length w → encode_fault parts prefix w places ≡ Some fault.Size
+  unfolding encode_fault
+  fault-word h = found _ fault.Size _ (or_left _ (above max_prefix (length prefix)) (lt-ltb max_text (length w) h))
+
+  pub fault-prefix : max_prefix < length prefix → encode_fault parts prefix w places ≡ Some fault.Size
+  unfolding encode_fault
+  fault-prefix h = found _ fault.Size _ (or_right (above max_text (length w)) _ (lt-ltb max_prefix (length prefix) h))
+
+  -- the first of the two that is found
   pub fault-size :
       (max_text < length w) ⊎ (length w ≤ max_text × max_prefix < length prefix)
       → encode_fault parts prefix w places ≡ Some fault.Size
-  unfolding encode_fault
-  fault-size (inl h) = found _ fault.Size _ (or_left _ (above max_prefix (length prefix)) (lt-ltb max_text (length w) h))
-  fault-size (inr h) = found _ fault.Size _ (or_right (above max_text (length w)) _ (lt-ltb max_prefix (length prefix) h.1))
+  fault-size (inl h) = fault-word h
+  fault-size (inr h) = fault-prefix h.1
 
   -- no fault of a call with sound parts is 8
   pub sound-fault : parts ≡ true → {f : Fault} → encode_fault parts prefix w places ≡ Some f → Not 8 f
@@ -71,12 +79,12 @@ module _ (prefix w : List ℕ) (places : ℕ) (word_fits : length w ≤ max_text
       ≡ first (text_fault w) (first (text_fault prefix) (refuse (ltb places (characters w)) fault.Ids None))
   past-trie = past-sizes true ∙ not_found _ fault.Trie _ refl
 
-  pub fault-word : {f : Fault} → text_fault w ≡ Some f → encode_fault true prefix w places ≡ Some f
-  fault-word e = past-trie ∙ found_first _ e
+  pub ill-word : {f : Fault} → text_fault w ≡ Some f → encode_fault true prefix w places ≡ Some f
+  ill-word e = past-trie ∙ found_first _ e
 
   module _ (word_fine : text_fault w ≡ None) where
-    pub fault-prefix : {f : Fault} → text_fault prefix ≡ Some f → encode_fault true prefix w places ≡ Some f
-    fault-prefix e = past-trie ∙ none_first _ word_fine ∙ found_first _ e
+    pub ill-prefix : {f : Fault} → text_fault prefix ≡ Some f → encode_fault true prefix w places ≡ Some f
+    ill-prefix e = past-trie ∙ none_first _ word_fine ∙ found_first _ e
 
     module _ (prefix-fine : text_fault prefix ≡ None) where
       past-texts : encode_fault true prefix w places ≡ refuse (ltb places (characters w)) fault.Ids None

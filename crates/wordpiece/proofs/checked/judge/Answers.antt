@@ -2,7 +2,7 @@
 use Rattle.std.proofs.lemmas.Result.{err_from_is_err_and}
 use Rattle.std.proofs.Common.{sym, arith}
 use Rattle.text.proofs.Spans.{fine-text}
-use Rattle.wordpiece.proofs.Faults.{fault-size, fault-trie, fault-word, fault-prefix, fault-places, no-fault}
+use Rattle.wordpiece.proofs.Faults.{fault-size, fault-trie, ill-word, ill-prefix, fault-places, no-fault}
 use Rattle.wordpiece.proofs.checked.judge.Goals as goal
 
 pub returns-then-word-gt-MAX_TEXT : goal.returns-then-word-gt-MAX_TEXT
@@ -16,14 +16,14 @@ pub returns-in_err-judge : goal.returns-in_err-judge
 returns-in_err-judge c =
     let p = err_from_is_err_and c.from_residual.result c.from_residual.ensures.1 in
     rw (p.1, p.2, c.if-not-sound.false)
-    (sym (fault-word _ _ _ c.if-word-gt-MAX_TEXT.false c.if-prefix-gt-MAX_PREFIX.false (sym c.in_err-judge.ensures)))
+    (sym (ill-word _ _ _ c.if-word-gt-MAX_TEXT.false c.if-prefix-gt-MAX_PREFIX.false (sym c.in_err-judge.ensures)))
 
 pub returns-in_err-judge-2 : goal.returns-in_err-judge-2
 returns-in_err-judge-2 c =
     let p = err_from_is_err_and c.from_residual-in_err-judge-2.result c.from_residual-in_err-judge-2.ensures.1 in
     rw (p.1, p.2, c.if-not-sound.false)
     (sym
-    (fault-prefix _ _ _ c.if-word-gt-MAX_TEXT.false c.if-prefix-gt-MAX_PREFIX.false (sym c.in_ok-judge.ensures)
+    (ill-prefix _ _ _ c.if-word-gt-MAX_TEXT.false c.if-prefix-gt-MAX_PREFIX.false (sym c.in_ok-judge.ensures)
     (sym c.in_err-judge-2.ensures)))
 
 pub characters-requires : goal.characters-requires
