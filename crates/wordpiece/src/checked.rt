@@ -78,7 +78,9 @@ fn write_rest(t: &Parts, rest: Walk, w: &[u8], i: usize, ids: &mut [u32]) -> Opt
     let mut n: usize = 0;
     // A `while`, since it goes from piece to piece and counts no index.
     while at < w.len() {
-        let piece = longest(t, rest, w, at)?;
+        let Some(piece) = longest(t, rest, w, at) else {
+            return None;
+        };
         at = piece.end;
         hold(ids, n, piece.id);
         n += 1;

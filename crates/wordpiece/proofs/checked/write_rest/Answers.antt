@@ -4,19 +4,19 @@ use Rattle.std.proofs.Common.{◌≡◌, sym, arith}
 use Rattle.wordpiece.proofs.Rest.{longest-ends, rest_end, rest-miss, rest-piece, left-on, left_miss, left_none}
 use Rattle.wordpiece.proofs.checked.write_rest.Goals as goal
 
-pub returns-in_err-piece : goal.returns-in_err-piece
-returns-in_err-piece c =
-    let miss = rest-miss _ _ _ c.loop-at-test.true (sym c.in_err-piece.ensures) in
-    rw c.from_residual.ensures (left_miss _ _ _ c.loop-at.n (rw miss at c.loop-at.invariant.2))
+pub returns-in_default : goal.returns-in_default
+returns-in_default c =
+    let miss = rest-miss _ _ _ c.loop-at-test.true (sym c.in_default.ensures) in
+    left_miss _ _ _ c.loop-at.n (rw miss at c.loop-at.invariant.2)
 
 pub loop-at-smaller : goal.loop-at-smaller
 loop-at-smaller c =
-    let ends = longest-ends _ _ _ _ _ (sym c.in_ok-piece.ensures) in
+    let ends = longest-ends _ _ _ _ _ (sym c.in-Some.ensures) in
     omega (arith, ends.above, ends.below)
 
 pub loop-at-preserved : goal.loop-at-preserved
 loop-at-preserved c =
-    let piece = sym c.in_ok-piece.ensures in
+    let piece = sym c.in-Some.ensures in
     let ends = longest-ends _ _ _ _ _ piece in
     let on = rw (rest-piece _ _ _ c.loop-at-test.true piece) at c.loop-at.invariant.2 in (
       ends.below,
