@@ -1,5 +1,6 @@
 -- The promise of `build_rows`, from what its steps promise. Rows without a fault that stand in the first places of the columns
--- are the rows of these, so that what is built from them is what the rows ask for. Assumes nothing.
+-- are the rows of these, so that what is built from them is what the rows ask for; where there is a fault or too little room,
+-- nothing is built. `rows-built` has all three. Assumes nothing.
 use Rattle.scored.specs.declared.Summary.{Summary}
 use Rattle.std.specs.Prelude.{Option, None, Some, Result, Err, ℕ}
 use Rattle.std.proofs.lemmas.Bool.Decides.{nat_tests}
@@ -171,6 +172,20 @@ zeros none_left before false = refl
 
 -- ---- the promise, in each case
 
+-- What the steps come to: a fault of the rows; too few places for them; or a build of columns that hold them. The answer, the
+-- places lent for the rows and the memory are then as said.
+pub data Stepped (tab : List ℕ) (rows : List code_row.Row) (lent : RowPlaces) (m : Memory) :
+    Result Summary Reason → RowPlaces → Memory → Type 0 where
+  bad_row : {r : Reason} → Some r ≡ rows_judged tab (map row_is rows) → Stepped tab rows lent m (Err r) lent m
+  few_places :
+      {answer : Result Summary Reason} {lent_after : RowPlaces} {after : Memory} → None ≡ rows_judged tab (map row_is rows)
+      → true ≡ short_of (length rows) lent → answer ≡ Err (reason.Call fault.Room) → lent_after ≡ zero_rows lent → after ≡ cleared m
+      → Stepped tab rows lent m answer lent_after after
+  put_rows :
+      (c : Columns) {answer : Result Summary Reason} {lent_after : RowPlaces} {after : Memory} → None ≡ rows_judged tab (map row_is rows)
+      → false ≡ short_of (length rows) lent → c ≡ columns_for (map row_is rows) → Built tab c m answer after → lent_after ≡ zero_rows lent
+      → Stepped tab rows lent m answer lent_after after
+
 module _ (tab : List ℕ) (rows : List code_row.Row) (lent : RowPlaces) (m : Memory) where
   abbrev rs : List Row
   rs = map row_is rows
@@ -216,10 +231,10 @@ module _ (tab : List ℕ) (rows : List code_row.Row) (lent : RowPlaces) (m : Mem
       }
 
   -- no fault, and places that the rows were put in
-  pub rows-built :
+  pub rows-put :
       (c : Columns) {answer : Result Summary Reason} {lent_after : RowPlaces} {after : Memory} → None ≡ rows_judged tab rs → false ≡ short_of (length rows) lent
       → c ≡ columns_for rs → Built tab c m answer after → lent_after ≡ zero_rows lent → RowsBuilt tab rs lent m answer lent_after after
-  rows-built c {answer = answer} {after = after} fine p put b l =
+  rows-put c {answer = answer} {after = after} fine p put b l =
       let e = sym fine in
       record {
         built =
@@ -229,3 +244,11 @@ module _ (tab : List ℕ) (rows : List code_row.Row) (lent : RowPlaces) (m : Mem
             (ap rows_of put ∙ rows_are tab rs e) b));
         places = l ∙ zeros-left e;
       }
+
+  -- and in all cases
+  pub rows-built :
+      {answer : Result Summary Reason} {lent_after : RowPlaces} {after : Memory} → Stepped tab rows lent m answer lent_after after
+      → RowsBuilt tab rs lent m answer lent_after after
+  rows-built (bad_row found) = rows-bad found
+  rows-built (few_places fine p a l k) = rows-short fine p a l k
+  rows-built (put_rows c fine p put b l) = rows-put c fine p put b l
