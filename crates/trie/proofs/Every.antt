@@ -1,7 +1,6 @@
 -- A test of every number below a count. A loop that has passed i of them knows `every i test`; one number that fails decides
 -- all. Assumes nothing.
-use Rattle.std.specs.Bool.{MatchBool}
-use mathlib.Core.Path.{◌≡◌, refl, sym}
+use mathlib.Core.Path.{◌≡◌, refl}
 use mathlib.Core.Bool.{Bool, true, false, ◌&&◌}
 use mathlib.Core.Logic.{⊎_elim}
 use Prim.Native.Nat.{ℕ, zero, suc, ◌+◌, ◌<◌}
@@ -52,13 +51,6 @@ module _ (test : ℕ → Bool) where
       (λ e. fails (every n test) (test n) (rw e at h))
       (λ m. rw (every-fails n k m h))
       (eq-or-lt_of_le (le_of_suc-le-suc l))
-
-  -- what a search for the first number that fails tells
-  pub searched :
-      (n : ℕ) (r : Bool) → MatchBool r ((k : ℕ) → k < n → test k ≡ true) ((k : ℕ) × (k < n) × (test k ≡ false))
-      → r ≡ every n test
-  searched n true all = sym (all-every n all)
-  searched n false (k, l, h) = sym (every-fails n k l h)
 
   -- the turn of a loop
   pub every-none : every 0 test ≡ true

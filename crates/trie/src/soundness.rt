@@ -31,22 +31,30 @@ fn edges_sound(byte: &[u8], at: u32, n: u16) -> bool
     from + count <= byte.len() && count <= MAX_EDGES && rising(byte, from, count)
 }
 
-// Every node's edges are sound.
+// Every node's edges are sound. A `for` over the nodes, since a `zip` walks two columns and counts beside them.
 fn nodes_sound(t: &Parts) -> bool
     requires { length t.now.edge_n.now ≡ length t.now.edge_at.now }
     ensures { result ≡ every (length t.now.edge_at.now) (sound_node (parts t.now)) }
 {
-    t.edge_at
-        .iter()
-        .zip(t.edge_n)
-        .all(|(&at, &n)| edges_sound(t.byte, at, n))
+    for k in 0..t.edge_at.len() {
+        if !edges_sound(t.byte, t.edge_at[k], t.edge_n[k]) {
+            return false;
+        }
+    }
+    true
 }
 
-// Every target is below the number of nodes.
+// Every target is below the number of nodes. A `for`, which is compiled to a test of the target and one of the end; as `all` a
+// look-up in a small trie took a third longer.
 fn targets_inside(to: &[u32], nodes: usize) -> bool
     ensures { result ≡ every (length (was to)) (λ e. ltb (get_or (was to) e 0) nodes) }
 {
-    to.iter().all(|&e| (e as usize) < nodes)
+    for e in to {
+        if nodes <= *e as usize {
+            return false;
+        }
+    }
+    true
 }
 
 // Every score is finite.
