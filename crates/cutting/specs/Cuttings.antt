@@ -1,6 +1,7 @@
 -- Cuttings of a text into pieces, their scores, and which is best at a position. What a piece is, is a parameter, the rule.
 -- Definitions only; assumes nothing.
-use Rattle.std.specs.Prelude.{◌≡◌, ℕ, zero, suc, ◌-◌, ◌≤◌, ◌<◌, Bool, List, [], ◌∷◌, ◌++◌, ◌⊎◌, T, take, drop, Option, None, Some}
+use Rattle.std.specs.Prelude.{◌≡◌, ℕ, zero, suc, ◌-◌, ◌≤◌, ◌<◌, Bool, List, [], ◌∷◌, ◌++◌, ◌⊎◌, T, take, drop}
+use Rattle.std.specs.Prelude.{Option, None, Some}
 use Rattle.doubles.specs.Double.{Double, plus_zero, sum, same, at_most}
 
 -- a piece: its id and its score

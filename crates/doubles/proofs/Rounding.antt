@@ -124,10 +124,10 @@ Chosen K Q r u = ((K ≡ Q) × (r * 2 ≤ u)) ⊎ ((K ≡ Q + u) × (u ≤ r * 2
 parity : (q p : ℕ) → q % 2 ≡ p → (p ≡ 0) ⊎ (p ≡ 1)
 parity q zero e = inl refl
 parity q (suc zero) e = inr refl
-parity q (suc (suc p)) e = absurd (None q p e)
+parity q (suc (suc p)) e = absurd (none q p e)
   where
-    None : (q p : ℕ) → q % 2 ≡ suc (suc p) → ⊥
-    None q p e = omega arith
+    none : (q p : ℕ) → q % 2 ≡ suc (suc p) → ⊥
+    none q p e = omega arith
 
 at-tie : (q r u : ℕ) → r * 2 ≡ u → Chosen ((q + q % 2) * u) (q * u) r u
 at-tie q r u t =

@@ -157,10 +157,10 @@ one_kept = short-kept 1 0 (lit< tt)
 -- what rounds to 0 is 0
 rounded-zero : (n : ℕ) → rounded n ≡ 0 → n ≡ 0
 rounded-zero zero e = refl
-rounded-zero (suc n) e = absurd (None (rounded 1) (rounded (suc n)) one_kept (rounded-mono (suc-le-suc zero-le)) e)
+rounded-zero (suc n) e = absurd (none (rounded 1) (rounded (suc n)) one_kept (rounded-mono (suc-le-suc zero-le)) e)
   where
-    None : (x y : ℕ) → x ≡ 1 → x ≤ y → y ≡ 0 → ⊥
-    None x y a b c = omega arith
+    none : (x y : ℕ) → x ≡ 1 → x ≤ y → y ≡ 0 → ⊥
+    none x y a b c = omega arith
 
 zero-is-finite : {d : Double} → d ≡ finite true 0 → T (is_finite d)
 unfolding is_finite

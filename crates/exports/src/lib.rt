@@ -24,7 +24,8 @@ ghost use Rattle.wordpiece.specs.Pieces.{ids_of};
 ghost use Rattle.wordpiece.specs.Checked.{Encodable};
 ghost use Rattle.refusal.specs.Places.{overlay};
 ghost use Rattle.wordpiece.specs.Encode.{Encoded};
-ghost use Rattle.exports.specs.Flat.{parts_was, parts_now, model_was, model_now, status, count_fault, count_number, lookup_number, code_number, As};
+ghost use Rattle.exports.specs.Flat.{parts_was, parts_now, model_was, model_now};
+ghost use Rattle.exports.specs.Flat.{status, count_fault, count_number, lookup_number, code_number, As};
 ghost use Rattle.refusal.specs.Lent.{was};
 
 // The length of the longest prefix made of whole well-formed characters.

@@ -18,7 +18,7 @@ pub record Printed (f : List ℕ → List ℕ) (input before : List ℕ) (at fro
   pub put : Put before 0 done at after
   pub rest : flat_map f (lines input) ≡ done ++ flat_map f (lines (drop from input))
   pub few : at ≤ 11 * from
-  pub Some : from ≤ length input + 1
+  pub some : from ≤ length input + 1
   pub kept : length after ≡ length before
 
 flat-more : (f : List ℕ → List ℕ) (x : List ℕ) (xs : List (List ℕ)) → flat_map f (x ∷ xs) ≡ f x ++ flat_map f xs
@@ -31,7 +31,7 @@ line_at input from end = take (end - from) (drop from input)
 
 module _ (f : List ℕ → List ℕ) (input before : List ℕ) where
   pub printed-start : Printed f input before 0 0 before
-  printed-start = record { done = []; put = put-none before 0; rest = refl; few = omega arith; Some = omega arith; kept = refl }
+  printed-start = record { done = []; put = put-none before 0; rest = refl; few = omega arith; some = omega arith; kept = refl }
 
   module _ (at from end : ℕ) (after : List ℕ) (p : Printed f input before at from after) (inside : from < length input) (e : end ≡ from + until_lf (drop from input)) where
     abbrev rest_of : List ℕ
@@ -70,7 +70,7 @@ module _ (f : List ℕ → List ℕ) (input before : List ℕ) where
               ∙ ap (λ (l : List ℕ). p.done ++ l) (flat-more f (line_at input from end) (lines (drop (end + 1) input)))
               ∙ sym (append_assoc p.done (f (line_at input from end)) (flat_map f (lines (drop (end + 1) input))));
           few = omega (arith, p.few, short, line-length, e);
-          Some = omega (arith, end-inside);
+          some = omega (arith, end-inside);
           kept = k ∙ p.kept;
         }
 

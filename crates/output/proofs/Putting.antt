@@ -81,12 +81,12 @@ put_as {a = a} {b = b} {i = i} {j = j} e p = subst (λ (x : List ℕ). Put a i x
 -- The first i of xs are put: `text` gives the text of a list, `one` that of an element.
 pub record Along (text : List ℕ → List ℕ) (xs before : List ℕ) (at i end : ℕ) (after : List ℕ) : Type 0 where
   pub put : Put before at (text (take i xs)) end after
-  pub Some : i ≤ length xs
+  pub some : i ≤ length xs
   pub kept : length after ≡ length before
 
-module _ (text : List ℕ → List ℕ) (one : ℕ → List ℕ) (None : text [] ≡ []) (snoc : (ys : List ℕ) (y : ℕ) → text (ys ++ (y ∷ [])) ≡ text ys ++ one y) where
+module _ (text : List ℕ → List ℕ) (one : ℕ → List ℕ) (none : text [] ≡ []) (snoc : (ys : List ℕ) (y : ℕ) → text (ys ++ (y ∷ [])) ≡ text ys ++ one y) where
   pub along-start : (xs out : List ℕ) (at : ℕ) → Along text xs out at 0 at out
-  along-start xs out at = record { put = put_as (sym None) (put-none out at); Some = omega arith; kept = refl }
+  along-start xs out at = record { put = put_as (sym none) (put-none out at); some = omega arith; kept = refl }
 
   pub along-turn :
       {xs out₀ out out' : List ℕ} {at i end end' : ℕ} → Along text xs out₀ at i end out → i < length xs → Put out end (one (get_or xs i 0)) end' out'
@@ -95,7 +95,7 @@ module _ (text : List ℕ → List ℕ) (one : ℕ → List ℕ) (None : text []
       let more : take (i + 1) xs ≡ take i xs ++ (get_or xs i 0 ∷ []) = ap (λ (n : ℕ). take n xs) (add-one i) ∙ take-suc xs i 0 h in
       record {
         put = put_as (sym (ap text more ∙ snoc (take i xs) (get_or xs i 0))) (put_on a.put p);
-        Some = omega arith;
+        some = omega arith;
         kept = k ∙ a.kept;
       }
 

@@ -101,14 +101,14 @@ character-front (b ∷ s) k e = go (rest b (length_of b) s) refl e
 
 -- either there is none at the front, or one
 pub data Found (s : List ℕ) : Type 0 where
-  None : character s ≡ 0 → Found s
+  none : character s ≡ 0 → Found s
   here : (k : ℕ) → Front s (suc k) → Found s
 
 pub found : (s : List ℕ) → Found s
 found s = go (character s) refl
   where
     go : (n : ℕ) → character s ≡ n → Found s
-    go zero e = None e
+    go zero e = none e
     go (suc k) e = here k (character-front s k e)
 
 pub front-positive : {s : List ℕ} {k : ℕ} → Front s k → 0 < k

@@ -20,19 +20,19 @@ Tail s k = get_or s k 0 / 64 ≡ 2
 
 -- what is passed of a block up to j, by how many tails stand there
 record Ended (s : List ℕ) (i j : ℕ) : Type 0 where
-  pub None : (Tail s j → ⊥) → Passed s i j
+  pub none : (Tail s j → ⊥) → Passed s i j
   pub one : Tail s j → (Tail s (j + 1) → ⊥) → Passed s i (j + 1)
   pub two : Tail s j → Tail s (j + 1) → Passed s i (j + 2)
 
 -- behind a byte below E0, a byte that is no tail begins a character
 begins-behind : (x a b : ℕ) → x < 0xE0 → (a / 64 ≡ 2 → ⊥) → Fits x a b → Begins a b
-begins-behind x a b h n f = record { first = n; more = f.second; alone = f.None h }
+begins-behind x a b h n f = record { first = n; more = f.second; alone = f.none h }
 
 module _ (s : List ℕ) where
   ended-on : (i k j : ℕ) → Passed s i k → Ended s k j → Ended s i j
   ended-on i k j p e =
       record {
-        None = λ t. passed_on s i k j p (e.None t);
+        none = λ t. passed_on s i k j p (e.none t);
         one = λ t u. passed_on s i k (j + 1) p (e.one t u);
         two = λ t u. passed_on s i k (j + 2) p (e.two t u);
       }
@@ -78,7 +78,7 @@ module _ (s : List ℕ) where
       let still : i + 0 ≡ i = omega arith in
       rw still (
       record {
-        None = λ q. passed_none s i (omega arith);
+        none = λ q. passed_none s i (omega arith);
         one = λ q r. absurd (b.first q);
         two = λ q r. absurd (b.first q);
       }
@@ -101,9 +101,9 @@ module _ (s : List ℕ) where
       let f : Window i = run i (omega arith) (omega arith) in
       rw here (
       record {
-        None = λ q. absurd (q (b.more low));
+        none = λ q. absurd (q (b.more low));
         one = λ q r. rw step (passed-two i (omega arith) low high b f);
-        two = λ q r. absurd (f.None high (omega (arith, q)) (rw step at r));
+        two = λ q r. absurd (f.none high (omega (arith, q)) (rw step at r));
       }
       )
   walk (suc (suc n)) i false true e d h run b =
@@ -116,7 +116,7 @@ module _ (s : List ℕ) where
       let step : i + 2 + 1 ≡ i + 3 = omega arith in
       let later : Ended s (i + 2) (i + 2 + n) =
       walk n (i + 2) (ltb (get_or s (i + 2) 0) 0x80) (ltb (get_or s (i + 2) 0) 0xE0) refl refl (omega arith) (λ k p q. run k (omega arith) (omega arith))
-      (rw step (begins-behind (get_or s (i + 1) 0) (get_or s (i + 2) 0) (get_or s (i + 3) 0) (omega arith) (f.None high (omega arith)) g))
+      (rw step (begins-behind (get_or s (i + 1) 0) (get_or s (i + 2) 0) (get_or s (i + 3) 0) (omega arith) (f.none high (omega arith)) g))
       in
       rw next at (ended-on i (i + 2) (i + 2 + n) (passed-two i (omega arith) low high b f) later)
   walk (suc zero) i false false e d h run b =
@@ -127,7 +127,7 @@ module _ (s : List ℕ) where
       let f : Window i = run i (omega arith) (omega arith) in
       rw here (
       record {
-        None = λ q. absurd (q (b.more (omega arith)));
+        none = λ q. absurd (q (b.more (omega arith)));
         one = λ q r. absurd ((rw step at r) (f.third low));
         two = λ q r. rw three (passed-three i (omega arith) low b f);
       }
@@ -141,9 +141,9 @@ module _ (s : List ℕ) where
       let x : Tail s (i + 1) = b.more (omega arith) in
       rw here (
       record {
-        None = λ q. absurd (q (f.third low));
+        none = λ q. absurd (q (f.third low));
         one = λ q r. rw step (passed-three i (omega arith) low b f);
-        two = λ q r. absurd (g.None (omega arith) (omega (arith, q)) (rw step at r));
+        two = λ q r. absurd (g.none (omega arith) (omega (arith, q)) (rw step at r));
       }
       )
   walk (suc (suc (suc n))) i false false e d h run b =
@@ -157,7 +157,7 @@ module _ (s : List ℕ) where
       let step : i + 3 + 1 ≡ i + 4 = omega arith in
       let later : Ended s (i + 3) (i + 3 + n) =
       walk n (i + 3) (ltb (get_or s (i + 3) 0) 0x80) (ltb (get_or s (i + 3) 0) 0xE0) refl refl (omega arith) (λ k p q. run k (omega arith) (omega arith))
-      (rw step (begins-behind (get_or s (i + 2) 0) (get_or s (i + 3) 0) (get_or s (i + 4) 0) (omega arith) (g.None (omega arith) (omega arith)) last))
+      (rw step (begins-behind (get_or s (i + 2) 0) (get_or s (i + 3) 0) (get_or s (i + 4) 0) (omega arith) (g.none (omega arith) (omega arith)) last))
       in
       rw next at (ended-on i (i + 3) (i + 3 + n) (passed-three i (omega arith) low b f) later)
 
@@ -167,7 +167,7 @@ module _ (s : List ℕ) where
     ended = walk n i (ltb (get_or s i 0) 0x80) (ltb (get_or s i 0) 0xE0) refl refl h run b
 
     pub fit-none : tail (get_or s (i + n) 0) ≡ false → Passed s i (i + n)
-    fit-none e = ended.None (no-tail-quarter _ e)
+    fit-none e = ended.none (no-tail-quarter _ e)
 
     pub fit-one : tail (get_or s (i + n) 0) ≡ true → tail (get_or s (i + n + 1) 0) ≡ false → Passed s i (i + n + 1)
     fit-one e f = ended.one (tail-quarter _ e) (no-tail-quarter _ f)

@@ -11,7 +11,7 @@ use lib.ListN.{length, get_or, drop, length-drop, drop_of_length-le}
 use lib.Seq.{drop-cons}
 use Rattle.refusal.proofs.Lists.{zero_one}
 use Rattle.text.specs.Text.{tail, tails, length_of, rest, character, boundary}
-use Rattle.text.proofs.Characters.{second, within_low, within-high, within_of, Found, None, here, found, front_lead, front-inside}
+use Rattle.text.proofs.Characters.{second, within_low, within-high, within_of, Found, none, here, found, front_lead, front-inside}
 
 -- the byte is a tail exactly where its upper two bits are 10
 pub quarter-tail : (b : ℕ) → b / 64 ≡ 2 → tail b ≡ true
@@ -86,7 +86,7 @@ module _ (s : List ℕ) (i : ℕ) where
   character-none h short = go (found (drop i s))
     where
       go : Found (drop i s) → character (drop i s) ≡ 0
-      go (None e) = e
+      go (none e) = e
       go (here k f) =
           absurd
           (omega (

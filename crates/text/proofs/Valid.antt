@@ -11,7 +11,7 @@ use lib.Dec.{eqb-suc-zero}
 use lib.ListN.{length, take, drop, length-drop, take-append-drop, drop_of_length-le}
 use lib.Seq.{take-add, take-length, drop_at, drop-append-le, drop-drop, length-take-le}
 use Rattle.text.specs.Text.{character, valid_in, valid_up_to, well_formed}
-use Rattle.text.proofs.Characters.{Front, Found, None, here, found, character-front, front-character, front-positive, front-inside, front-append, front-take}
+use Rattle.text.proofs.Characters.{Front, Found, none, here, found, character-front, front-character, front-positive, front-inside, front-append, front-take}
 
 -- ---- the recursion with a bound
 
@@ -31,11 +31,11 @@ unfolding valid_in
 enough n m s p q = go n m s (found s) p q
   where
     go : (n m : ℕ) (s : List ℕ) → Found s → length s ≤ n → length s ≤ m → valid_in n s ≡ valid_in m s
-    go zero m s (None e) p q = sym (valid-in-stop m s e)
+    go zero m s (none e) p q = sym (valid-in-stop m s e)
     go zero m s (here k f) p q = absurd (omega (arith, front-inside f))
-    go (suc n) zero s (None e) p q = valid-in-stop (suc n) s e
+    go (suc n) zero s (none e) p q = valid-in-stop (suc n) s e
     go (suc n) zero s (here k f) p q = absurd (omega (arith, front-inside f))
-    go (suc n) (suc m) s (None e) p q = valid-in-stop (suc n) s e ∙ sym (valid-in-stop (suc m) s e)
+    go (suc n) (suc m) s (none e) p q = valid-in-stop (suc n) s e ∙ sym (valid-in-stop (suc m) s e)
     go (suc n) (suc m) s (here k f) p q =
         valid-in-step n k s f
         ∙ ap (λ (v : ℕ). suc k + v)
@@ -92,9 +92,9 @@ pub chars-by-length : (P : List ℕ → Type 0) → ((s : List ℕ) → characte
 chars-by-length P stop step s = go (length s) s (found s) (omega arith)
   where
     go : (n : ℕ) (s : List ℕ) → Found s → length s ≤ n → P s
-    go zero s (None e) h = stop s e
+    go zero s (none e) h = stop s e
     go zero s (here k f) h = absurd (omega (arith, front-inside f))
-    go (suc n) s (None e) h = stop s e
+    go (suc n) s (none e) h = stop s e
     go (suc n) s (here k f) h =
         step s (suc k) f (go n (drop (suc k) s) (found (drop (suc k) s)) (simp length-drop (omega (arith, front-inside f))))
 

@@ -25,7 +25,7 @@ pub record Fits (a b c : ℕ) : Type 0 where
   pub after-ed : a ≡ 0xED → b ≤ 0x9F
   pub third : 0xE0 ≤ a → c / 64 ≡ 2
   pub second : 0xC0 ≤ b → c / 64 ≡ 2
-  pub None : a < 0xE0 → b < 0xC0 → c / 64 ≡ 2 → ⊥
+  pub none : a < 0xE0 → b < 0xC0 → c / 64 ≡ 2 → ⊥
 
 -- each byte from i up to j may stand before the next two
 abbrev pub Fit : List ℕ → ℕ → ℕ → Type 0

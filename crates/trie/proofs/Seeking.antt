@@ -160,7 +160,7 @@ module _ (bytes tos : List ℕ) (b : ℕ) where
     -- The turn of a search that has the `left` edges from `low` on before it, and looks at three of them, `part` apart: it goes
     -- on by `part` for each whose byte is at most b, and leaves out three parts in all.
     module _
-        (low part left : ℕ) (from : at ≤ low) (Some : 3 * part < left) (parted : 4 * part ≤ left)
+        (low part left : ℕ) (from : at ≤ low) (some : 3 * part < left) (parted : 4 * part ≤ left)
         (to : low + left ≤ at + n)
       where
         abbrev one : ℕ
@@ -232,5 +232,5 @@ passed_is part x b p q = go (leb x b) refl
         rw one (omega arith)
     go false e =
         let l : b < x = leb-false x b e in
-        let None : (256 + b - x) / 256 ≡ 0 = omega arith in
-        rw None (omega arith)
+        let none : (256 + b - x) / 256 ≡ 0 = omega arith in
+        rw none (omega arith)
