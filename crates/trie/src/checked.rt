@@ -25,7 +25,7 @@ fn passed(part: usize, x: u8, b: u8) -> usize
 }
 
 // The target of the byte b among the n edges from `at` on, which are three at most. A loop over three places is compiled to
-// three tests; over n places it stays a loop, and a step took a tenth more instructions.
+// three tests; over n places it stays a loop, and a walk over single edges took a twentieth more instructions.
 #[tactic(auto, using(crate::proofs::Seeking::one_by_one))]
 fn seek_few(byte: &[u8], to: &[u32], at: usize, n: usize, b: u8) -> Option<Walk>
     requires { (n ≤ 3) × (at + n ≤ length byte.now) × (at + n ≤ length to.now) }
